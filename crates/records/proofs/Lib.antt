@@ -1,0 +1,3 @@
+pub mod ResultLaws
+pub mod TableLaws
+pub mod RecordLaws

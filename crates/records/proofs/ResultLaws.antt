@@ -1,0 +1,55 @@
+-- Laws of `Result`: what a value says of the tests and parts on the way to it. Laws of tests.
+-- Assumes nothing.
+use mathlib.Core.Path.{_≡_, refl}
+use mathlib.Core.Bool.{Bool, true, false, _&&_, _||_}
+use mathlib.Core.Logic.{_⊎_, inl, inr}
+use Prim.Native.Nat.{ℕ, _≤_}
+use native.Mathlib.Omega.{arith}
+use native.Mathlib.Decide.{decLe}
+use borrow.Author.Tests.{le-leb, lt-leb}
+use lib.Dec.{T, leb}
+use Rattle.records.specs.Result.{Result, err, ok, pick, require, andThen}
+
+pub required {ℓ} : {A : Type ℓ} (b : Bool) (n m d : ℕ) (o : Result A) (a : A) → require b n m d o ≡ ok a → T b × (o ≡ ok a)
+required true n m d o a e = (tt, e)
+required false n m d o a e = let z : _≡_ {A = ℕ} 0 1 = cc in absurd (omega arith)
+
+pub require-pass {ℓ} : {A : Type ℓ} (b : Bool) (n m d : ℕ) (o : Result A) → T b → require b n m d o ≡ o
+require-pass true n m d o t = refl
+require-pass false n m d o t = absurd t
+
+pub and-then-ok {ℓ κ} : {A : Type ℓ} {B : Type κ} (o : Result A) (f : A → Result B) (b : B)
+    → andThen o f ≡ ok b → (a : A) × (o ≡ ok a) × (f a ≡ ok b)
+and-then-ok (err n m d) f b e = let z : _≡_ {A = ℕ} 0 1 = cc in absurd (omega arith)
+and-then-ok (ok a) f b e = (a, refl, e)
+
+pub ok-inj {ℓ} : {A : Type ℓ} {a b : A} → ok a ≡ ok b → a ≡ b
+ok-inj {a} {b} e = cc
+
+-- ---- tests
+pub true-T : {b : Bool} → b ≡ true → T b
+true-T e = rw e tt
+
+pub T-true : (b : Bool) → T b → b ≡ true
+T-true true t = refl
+T-true false t = absurd t
+
+pub and-left : (a b : Bool) → T (a && b) → T a
+and-left true b t = tt
+and-left false b t = t
+
+pub and-right : (a b : Bool) → T (a && b) → T b
+and-right true b t = t
+and-right false b t = absurd t
+
+pub or-cases : (a b : Bool) → T (a || b) → T a ⊎ T b
+or-cases true b t = inl tt
+or-cases false b t = inr t
+
+-- two orders that say the same are the same test
+pub same-test : (a b m n : ℕ) → (a ≤ b → m ≤ n) → (m ≤ n → a ≤ b) → leb a b ≡ leb m n
+same-test a b m n f g = go (decLe a b)
+  where
+    go : Dec (a ≤ b) → leb a b ≡ leb m n
+    go (yes h) = let l = f h in rw (le-leb a b h, le-leb m n l)
+    go (no h) = let l : m ≤ n → ⊥ = λ k. h (g k) in rw (lt-leb a b (omega arith), lt-leb m n (omega arith))

@@ -1,0 +1,21 @@
+use borrow.Author.Needs.{needs}
+use mathlib.Core.Path.{sym}
+use native.Mathlib.Omega.{arith}
+use denote.Ref.{now}
+use lib.ListN.{List·getD-eq-default}
+use Rattle.records.proofs.member_offset.Statement.{statement}
+use Rattle.records.proofs.member_offset.Tie as tie
+
+returns-2 : tie.Need-returns-2
+returns-2 c = sym (List·getD-eq-default (now (c .before .args .part)) 0 (omega arith))
+
+pub member-offset-spec : {M : Type 1} → statement M
+member-offset-spec =
+    tie.close
+    (tie.spec
+    (λ c. search needs)
+    (λ c. search needs)
+    (λ c. search needs)
+    (λ c. search needs)
+    (λ c. search needs)
+    returns-2)

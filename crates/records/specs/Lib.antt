@@ -1,0 +1,4 @@
+pub mod Result
+pub mod Record
+pub mod Fields
+pub mod Table

@@ -1,0 +1,242 @@
+// The type and member records of naga's ir/mod.rs, as words in the caller's tables, and refusals 1 to 3.
+ghost use mathlib.Core.Path.{_≡_};
+ghost use mathlib.Core.Bool.{_&&_};
+ghost use Prim.Native.Nat.{_+_, _*_, _/_, _≤_, _<_};
+ghost use lib.ListN.{length};
+ghost use Rattle.records.specs.Record.{typeWord, typeCount, memberCount, memberType, memberOffset, innerOf, typeInner, structMembers};
+ghost use Rattle.records.specs.Fields.{tablesFit, capabilitiesKnown, fieldsOk, baseWithin, recordAt};
+ghost use Rattle.records.specs.Table.{firstRefusal, outcomeAt};
+
+// Data that is neither array nor struct: 01's leaves.
+pub enum Leaf {
+    Scalar(u32, u32),
+    Vector(u32, u32, u32),
+    Matrix(u32, u32, u32, u32),
+    CooperativeMatrix(u32, u32, u32, u32, u32),
+    Atomic(u32, u32),
+    RayQuery(u32),
+}
+
+// What is no data.
+pub enum NonData {
+    Pointer(u32, u32),
+    ValuePointer(u32, u32, u32),
+    Image(u32, u32, u32),
+    Sampler,
+    AccelerationStructure(u32),
+    BindingArray(u32, u32, u32),
+}
+
+// What a type record says. The member rows of a struct are asked for by struct_members.
+pub enum TypeInner {
+    Plain(Leaf),
+    Array { base: u32, count: u32, stride: u32 },
+    RuntimeArray { base: u32, stride: u32 },
+    Struct { count: u32, span: u32 },
+    Other(NonData),
+}
+
+// The answer of an arena call: number, type, member and detail of the first refusal.
+pub enum Outcome {
+    Accepted,
+    Refused {
+        number: u32,
+        ty: u32,
+        member: u32,
+        detail: u32,
+    },
+}
+
+const TYPE_WORDS: usize = 6;
+const MEMBER_WORDS: usize = 2;
+const ROW_WORDS: usize = 14;
+const MOST_TYPES: usize = 1024;
+const MOST_MEMBERS: usize = 4096;
+// Bits 0 to 12.
+const ALL_CAPABILITIES: u32 = 8191;
+const STRUCT_KIND: u32 = 8;
+const POINTER_KIND: u32 = 5;
+const BINDING_ARRAY_KIND: u32 = 13;
+
+// Word k of record i; 0 past the table.
+pub fn type_word(types: &[u32], i: u32, k: u32) -> u32
+    ensures { λ r. ⌜ r ≡ typeWord (now (types .entry)) i k ⌝ }
+{
+    let at = (i as usize) * TYPE_WORDS + (k as usize);
+    if at < types.len() { types[at] } else { 0 }
+}
+
+pub fn type_count(types: &[u32]) -> usize
+    ensures { λ r. ⌜ r ≡ typeCount (now (types .entry)) ⌝ }
+{
+    types.len() / TYPE_WORDS
+}
+
+// Of member j in a part of the member table; 0 past the part.
+pub fn member_type(part: &[u32], j: u32) -> u32
+    ensures { λ r. ⌜ r ≡ memberType (now (part .entry)) j ⌝ }
+{
+    let at = (j as usize) * MEMBER_WORDS;
+    if at < part.len() { part[at] } else { 0 }
+}
+
+pub fn member_offset(part: &[u32], j: u32) -> u32
+    ensures { λ r. ⌜ r ≡ memberOffset (now (part .entry)) j ⌝ }
+{
+    let at = (j as usize) * MEMBER_WORDS + 1;
+    if at < part.len() { part[at] } else { 0 }
+}
+
+// What a record says, by its kind and the five words after it.
+fn inner_of(kind: u32, a: u32, b: u32, c: u32, d: u32, e: u32) -> TypeInner
+    ensures { λ r. ⌜ r ≡ innerOf kind a b c d e ⌝ }
+{
+    match kind {
+        0 => TypeInner::Plain(Leaf::Scalar(a, b)),
+        1 => TypeInner::Plain(Leaf::Vector(a, b, c)),
+        2 => TypeInner::Plain(Leaf::Matrix(a, b, c, d)),
+        3 => TypeInner::Plain(Leaf::CooperativeMatrix(a, b, c, d, e)),
+        4 => TypeInner::Plain(Leaf::Atomic(a, b)),
+        5 => TypeInner::Other(NonData::Pointer(a, b)),
+        6 => TypeInner::Other(NonData::ValuePointer(a, b, c)),
+        7 => {
+            if b == 0 {
+                TypeInner::Array { base: a, count: c, stride: d }
+            } else {
+                TypeInner::RuntimeArray { base: a, stride: d }
+            }
+        }
+        8 => TypeInner::Struct { count: b, span: c },
+        9 => TypeInner::Other(NonData::Image(a, b, c)),
+        10 => TypeInner::Other(NonData::Sampler),
+        11 => TypeInner::Other(NonData::AccelerationStructure(a)),
+        12 => TypeInner::Plain(Leaf::RayQuery(a)),
+        _ => TypeInner::Other(NonData::BindingArray(a, b, c)),
+    }
+}
+
+// Record i of a table.
+pub fn type_inner(types: &[u32], i: u32) -> TypeInner
+    ensures { λ r. ⌜ r ≡ typeInner (now (types .entry)) i ⌝ }
+{
+    let kind = type_word(types, i, 0);
+    let a = type_word(types, i, 1);
+    let b = type_word(types, i, 2);
+    let c = type_word(types, i, 3);
+    let d = type_word(types, i, 4);
+    let e = type_word(types, i, 5);
+    inner_of(kind, a, b, c, d, e)
+}
+
+// The member rows of struct i, handed back as that part of the caller's table.
+pub fn struct_members<'a>(types: &[u32], members: &'a [u32], i: u32) -> &'a [u32]
+    ensures { λ r. ⌜ now r ≡ structMembers (now (types .entry)) (now (members .entry)) i ⌝ }
+{
+    let kind = type_word(types, i, 0);
+    let first = type_word(types, i, 1) as usize;
+    let count = type_word(types, i, 2) as usize;
+    let last = first + count;
+    if types.len() / TYPE_WORDS <= i as usize {
+        return &members[..0];
+    }
+    if kind != STRUCT_KIND {
+        return &members[..0];
+    }
+    if members.len() / MEMBER_WORDS < last {
+        return &members[..0];
+    }
+    let start = first * MEMBER_WORDS;
+    let end = last * MEMBER_WORDS;
+    &members[start..end]
+}
+
+// Number 1: whole records, not too many, and a row for each type.
+pub fn tables_fit(types: usize, members: usize, rows: usize) -> bool
+    ensures { λ r. ⌜ r ≡ tablesFit types members rows ⌝ }
+{
+    let enough = types / TYPE_WORDS <= rows / ROW_WORDS;
+    (types % TYPE_WORDS == 0)
+        & (types <= MOST_TYPES * TYPE_WORDS)
+        & (members % MEMBER_WORDS == 0)
+        & (members <= MOST_MEMBERS * MEMBER_WORDS)
+        & enough
+}
+
+// Number 1: no capability bit above 12.
+pub fn capabilities_known(capabilities: u32) -> bool
+    ensures { λ r. ⌜ r ≡ capabilitiesKnown capabilities ⌝ }
+{
+    capabilities <= ALL_CAPABILITIES
+}
+
+// Number 2: the words after the kind lie in their sets. rows: how many rows the member table has.
+fn fields_ok(rows: usize, kind: u32, a: u32, b: u32, c: u32, d: u32, e: u32) -> bool
+    ensures { λ r. ⌜ r ≡ fieldsOk rows kind a b c d e ⌝ }
+{
+    match kind {
+        0 => ((a <= 5) & (b <= 255)) & (c == 0) & (d == 0) & (e == 0),
+        1 => ((2 <= a) & (a <= 4)) & ((b <= 5) & (c <= 255)) & (d == 0) & (e == 0),
+        2 => ((2 <= a) & (a <= 4)) & ((2 <= b) & (b <= 4)) & ((c <= 5) & (d <= 255)) & (e == 0),
+        3 => ((a == 8) | (a == 16)) & ((b == 8) | (b == 16)) & ((c <= 5) & (d <= 255)) & (e <= 2),
+        4 => ((a <= 5) & (b <= 255)) & (c == 0) & (d == 0) & (e == 0),
+        5 => (b <= 9) & (c == 0) & (d == 0) & (e == 0),
+        6 => ((a <= 5) & (b <= 255)) & (c <= 9) & (d == 0) & (e == 0),
+        7 => ((b == 0) & (1 <= c) | (b == 1) & (c == 0)) & (e == 0),
+        8 => {
+            let last = a as usize + b as usize;
+            (last <= rows) & (d == 0) & (e == 0)
+        }
+        9 => (a <= 3) & (b <= 1) & (c <= 3) & (d == 0) & (e == 0),
+        10 => (a == 0) & (b == 0) & (c == 0) & (d == 0) & (e == 0),
+        11 => (a <= 1) & (b == 0) & (c == 0) & (d == 0) & (e == 0),
+        12 => (a <= 1) & (b == 0) & (c == 0) & (d == 0) & (e == 0),
+        13 => ((b == 0) & (1 <= c) | (b == 1) & (c == 0)) & (d == 0) & (e == 0),
+        _ => false,
+    }
+}
+
+// Number 3: the base of a pointer or a binding array is a type of the arena.
+fn base_within(types: usize, kind: u32, base: u32) -> bool
+    ensures { λ r. ⌜ r ≡ baseWithin types kind base ⌝ }
+{
+    !((kind == POINTER_KIND) | (kind == BINDING_ARRAY_KIND)) | ((base as usize) < types)
+}
+
+// Numbers 2 and 3 of record i, 2 first.
+fn record_at(types: &[u32], members: &[u32], i: u32) -> Outcome
+    ensures { λ r. ⌜ r ≡ outcomeAt i (recordAt (now (types .entry)) (now (members .entry)) i) ⌝ }
+{
+    let kind = type_word(types, i, 0);
+    let a = type_word(types, i, 1);
+    let b = type_word(types, i, 2);
+    let c = type_word(types, i, 3);
+    let d = type_word(types, i, 4);
+    let e = type_word(types, i, 5);
+    if fields_ok(members.len() / MEMBER_WORDS, kind, a, b, c, d, e) {
+        if base_within(types.len() / TYPE_WORDS, kind, a) {
+            Outcome::Accepted
+        } else {
+            Outcome::Refused { number: 3, ty: i, member: 0, detail: 0 }
+        }
+    } else {
+        Outcome::Refused { number: 2, ty: i, member: 0, detail: 0 }
+    }
+}
+
+// Numbers 2 and 3 over the first n records.
+pub fn records_ok(types: &[u32], members: &[u32], n: u32) -> Outcome
+    ensures { λ r. ⌜ r ≡ firstRefusal (recordAt (now (types .entry)) (now (members .entry))) n ⌝ }
+{
+    let mut i: u32 = 0;
+    while i < n {
+        let found = record_at(types, members, i);
+        match found {
+            Outcome::Accepted => {}
+            Outcome::Refused { number: _, ty: _, member: _, detail: _ } => {
+                return found;
+            }
+        }
+        i += 1;
+    }
+    Outcome::Accepted
+}

@@ -1,0 +1,4 @@
+//! A series of statements: none are ever held.
+
+#[derive(Clone, Debug, Default)]
+pub struct Block;
