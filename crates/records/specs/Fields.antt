@@ -2,10 +2,14 @@
 -- Assumes nothing.
 use mathlib.Core.Bool.{Bool, not, false, _&&_, _||_}
 use mathlib.Core.List.{List}
-use Prim.Native.Nat.{ℕ, _+_, _*_, _/_, _%_}
-use lib.Dec.{eqb, leb, ltb}
+use Prim.Native.Nat.{ℕ, _+_, _*_, _/_, _%_, _≤_}
+use lib.Dec.{T, eqb, leb, ltb}
 use lib.ListN.{length}
 use Rattle.records.specs.Result.{Result, ok, pick, require}
+use Rattle.records.specs.declared.Leaf.{Leaf}
+use Rattle.records.specs.declared.Leaf.the-variants.{Scalar, Vector, Matrix, CooperativeMatrix, Atomic, RayQuery}
+use Rattle.records.specs.declared.TypeInner.{TypeInner}
+use Rattle.records.specs.declared.TypeInner.the-variants.{Plain, Array, RuntimeArray, Struct, Other}
 use Rattle.records.specs.Record.{typeWords, typeCount, typeWord, memberWords, memberCount, scalarKind, vectorKind, matrixKind, cooperativeMatrixKind, atomicKind, pointerKind, valuePointerKind, arrayKind, structKind, imageKind, samplerKind, accelerationStructureKind, rayQueryKind, bindingArrayKind}
 
 -- ---- number 1
@@ -82,3 +86,19 @@ recordAt ts ms i =
     (fieldsOk (memberCount ms) (typeWord ts i 0) (typeWord ts i 1) (typeWord ts i 2) (typeWord ts i 3) (typeWord ts i 4) (typeWord ts i 5))
     2 0 0
     (require (baseWithin (typeCount ts) (typeWord ts i 0) (typeWord ts i 1)) 3 0 0 (ok tt))
+
+-- ---- what number 2 leaves: the bounds by which sizes fit 32 bits
+abbrev pub LeafBounds : Leaf → Type 0
+LeafBounds (Scalar kind width) = width ≤ 255
+LeafBounds (Vector size kind width) = (size ≤ 4) × (width ≤ 255)
+LeafBounds (Matrix columns rows kind width) = (columns ≤ 4) × (rows ≤ 4) × (width ≤ 255)
+LeafBounds (CooperativeMatrix columns rows kind width role) = T (cooperativeSizeOk columns) × T (cooperativeSizeOk rows) × (width ≤ 255)
+LeafBounds (Atomic kind width) = width ≤ 255
+LeafBounds (RayQuery v) = Unit {0}
+
+abbrev pub InnerBounds : TypeInner → Type 0
+InnerBounds (Plain leaf) = LeafBounds leaf
+InnerBounds (Array base count stride) = Unit {0}
+InnerBounds (RuntimeArray base stride) = Unit {0}
+InnerBounds (Struct count span) = Unit {0}
+InnerBounds (Other o) = Unit {0}

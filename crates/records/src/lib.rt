@@ -2,7 +2,7 @@
 ghost use mathlib.Core.Path.{_≡_};
 ghost use mathlib.Core.Bool.{_&&_};
 ghost use Prim.Native.Nat.{_+_, _*_, _/_, _≤_, _<_};
-ghost use lib.ListN.{length};
+ghost use lib.ListN.{length, getD};
 ghost use Rattle.records.specs.Record.{typeWord, typeCount, memberCount, memberType, memberOffset, innerOf, typeInner, structMembers};
 ghost use Rattle.records.specs.Fields.{tablesFit, capabilitiesKnown, fieldsOk, baseWithin, recordAt};
 ghost use Rattle.records.specs.Table.{firstRefusal, outcomeAt};
@@ -58,12 +58,18 @@ const STRUCT_KIND: u32 = 8;
 const POINTER_KIND: u32 = 5;
 const BINDING_ARRAY_KIND: u32 = 13;
 
+// A word of a table; 0 past it.
+pub fn word_at(words: &[u32], at: usize) -> u32
+    ensures { λ r. ⌜ r ≡ getD (now (words .entry)) at 0 ⌝ }
+{
+    if at < words.len() { words[at] } else { 0 }
+}
+
 // Word k of record i; 0 past the table.
 pub fn type_word(types: &[u32], i: u32, k: u32) -> u32
     ensures { λ r. ⌜ r ≡ typeWord (now (types .entry)) i k ⌝ }
 {
-    let at = (i as usize) * TYPE_WORDS + (k as usize);
-    if at < types.len() { types[at] } else { 0 }
+    word_at(types, (i as usize) * TYPE_WORDS + (k as usize))
 }
 
 pub fn type_count(types: &[u32]) -> usize
@@ -76,15 +82,13 @@ pub fn type_count(types: &[u32]) -> usize
 pub fn member_type(part: &[u32], j: u32) -> u32
     ensures { λ r. ⌜ r ≡ memberType (now (part .entry)) j ⌝ }
 {
-    let at = (j as usize) * MEMBER_WORDS;
-    if at < part.len() { part[at] } else { 0 }
+    word_at(part, (j as usize) * MEMBER_WORDS)
 }
 
 pub fn member_offset(part: &[u32], j: u32) -> u32
     ensures { λ r. ⌜ r ≡ memberOffset (now (part .entry)) j ⌝ }
 {
-    let at = (j as usize) * MEMBER_WORDS + 1;
-    if at < part.len() { part[at] } else { 0 }
+    word_at(part, (j as usize) * MEMBER_WORDS + 1)
 }
 
 // What a record says, by its kind and the five words after it.

@@ -1,0 +1,48 @@
+// Alignment of naga's proc/layouter.rs, carried as its number.
+ghost use mathlib.Core.Path.{_≡_};
+ghost use Prim.Native.Nat.{_*_, max};
+ghost use Rattle.alignment.specs.Alignment.{powerOfTwo, vectorAlignment, isAligned, roundUp};
+
+// Alignment::new on a width: whether it is one.
+pub fn power_of_two(w: u32) -> bool
+    ensures { λ r. ⌜ r ≡ powerOfTwo w ⌝ }
+{
+    (w == 1) | (w == 2) | (w == 4) | (w == 8) | (w == 16) | (w == 32) | (w == 64) | (w == 128)
+}
+
+// Alignment::from of a vector's size.
+pub fn vector_alignment(n: u32) -> u32
+    ensures { λ r. ⌜ r ≡ vectorAlignment n ⌝ }
+{
+    if n == 2 { 2 } else { 4 }
+}
+
+// The larger of two alignments.
+pub fn larger(a: u32, b: u32) -> u32
+    ensures { λ r. ⌜ r ≡ max a b ⌝ }
+{
+    if a < b { b } else { a }
+}
+
+// Whether n is a multiple of the alignment; of 0 only 0 is.
+pub fn is_aligned(alignment: u32, n: u32) -> bool
+    ensures { λ r. ⌜ r ≡ isAligned alignment n ⌝ }
+{
+    if alignment == 0 {
+        return n == 0;
+    }
+    n % alignment == 0
+}
+
+// The next multiple of the alignment; wider than n, so that no sum wraps.
+pub fn round_up(alignment: u32, n: u32) -> u64
+    ensures { λ r. ⌜ r ≡ roundUp alignment n ⌝ }
+{
+    if alignment == 0 {
+        return 0;
+    }
+    let wide = alignment as u64;
+    let sum = (n as u64) + (wide - 1);
+    let steps = sum / wide;
+    steps * wide
+}

@@ -1,0 +1,48 @@
+// The lent result rows: fourteen words a type.
+ghost use mathlib.Core.Path.{_≡_};
+ghost use Prim.Native.Nat.{_+_, _*_, _≤_, _<_};
+ghost use lib.ListN.{length};
+ghost use Rattle.rows.specs.Rows.{rowWord, layoutRow, withRow, cleared};
+
+const ROW_WORDS: usize = 14;
+
+// Word j of row k; 0 past the rows.
+pub fn row_word(rows: &[u32], k: u32, j: u32) -> u32
+    ensures { λ r. ⌜ r ≡ rowWord (now (rows .entry)) k j ⌝ }
+{
+    records::word_at(rows, (k as usize) * ROW_WORDS + (j as usize))
+}
+
+// Zeroes the first n words.
+pub fn clear(rows: &mut [u32], n: usize)
+    requires { ⌜ n ≤ length (now rows) ⌝ }
+    ensures { λ _. ⌜ now (rows .exit) ≡ cleared (now (rows .entry)) n ⌝ }
+{
+    let mut i = 0;
+    while i < n {
+        rows[i] = 0;
+        i += 1;
+    }
+}
+
+// Writes the words of one row from `at` on.
+pub fn put_row(rows: &mut [u32], at: usize, row: &[u32])
+    requires { ⌜ length (now row) ≡ 14 ⌝ }
+    requires { ⌜ at + 14 ≤ length (now rows) ⌝ }
+    ensures { λ _. ⌜ now (rows .exit) ≡ withRow (now (rows .entry)) at (now (row .entry)) ⌝ }
+{
+    let mut j = 0;
+    while j < ROW_WORDS {
+        rows[at + j] = row[j];
+        j += 1;
+    }
+}
+
+// Writes the row of a type that has a layout and no judgement yet.
+pub fn put_layout(rows: &mut [u32], at: usize, size: u32, alignment: u32)
+    requires { ⌜ at + 14 ≤ length (now rows) ⌝ }
+    ensures { λ _. ⌜ now (rows .exit) ≡ withRow (now (rows .entry)) at (layoutRow size alignment) ⌝ }
+{
+    let row = [size, alignment, 0, 0, 0, 0, 0, 0, 0, 0, 0, 0, 0, 0];
+    put_row(rows, at, &row);
+}

@@ -1,0 +1,61 @@
+-- 01, 'The layout': what each type measures (`try_size` of naga's proc/type_methods.rs), and number 4.
+-- Assumes nothing.
+use mathlib.Core.Bool.{_&&_}
+use Prim.Native.Nat.{ℕ, _*_}
+use lib.Dec.{leb}
+use Rattle.records.specs.Result.{Result, err, ok, require}
+use Rattle.records.specs.declared.Leaf.{Leaf}
+use Rattle.records.specs.declared.Leaf.the-variants.{Scalar, Vector, Matrix, CooperativeMatrix, Atomic, RayQuery}
+use Rattle.records.specs.declared.NonData.{NonData}
+use Rattle.records.specs.declared.NonData.the-variants.{Pointer, ValuePointer, Image, Sampler, AccelerationStructure, BindingArray}
+use Rattle.records.specs.declared.TypeInner.{TypeInner}
+use Rattle.records.specs.declared.TypeInner.the-variants.{Plain, Array, RuntimeArray, Struct, Other}
+use Rattle.alignment.specs.Alignment.{vectorAlignment}
+use Rattle.type_methods.specs.declared.Size.{Size}
+use Rattle.type_methods.specs.declared.Size.the-variants.{Bytes, TooLarge}
+
+-- naga's MAX_TYPE_SIZE
+abbrev pub mostSize : ℕ
+mostSize = 2147483647
+
+-- a matrix has a column of vectorAlignment rows for each of its columns
+abbrev pub leafSize : Leaf → ℕ
+leafSize (Scalar kind width) = width
+leafSize (Vector size kind width) = size * width
+leafSize (Matrix columns rows kind width) = vectorAlignment rows * width * columns
+leafSize (CooperativeMatrix columns rows kind width role) = columns * rows * width
+leafSize (Atomic kind width) = width
+leafSize (RayQuery vertexReturn) = 0
+
+-- pointers measure 4, handles 0
+abbrev pub nonDataSize : NonData → ℕ
+nonDataSize (Pointer base space) = 4
+nonDataSize (ValuePointer kind width space) = 4
+nonDataSize (Image dim arrayed class) = 0
+nonDataSize Sampler = 0
+nonDataSize (AccelerationStructure vertexReturn) = 0
+nonDataSize (BindingArray base form count) = 0
+
+-- arrays measure count times stride, dynamic ones a single stride; structs measure their span
+abbrev pub sizeOf : TypeInner → ℕ
+sizeOf (Plain leaf) = leafSize leaf
+sizeOf (Array base count stride) = count * stride
+sizeOf (RuntimeArray base stride) = stride
+sizeOf (Struct count span) = span
+sizeOf (Other o) = nonDataSize o
+
+-- number 4: an array's count, or its measure, above the limit, at stride 0 too; a struct's span has no such limit
+abbrev pub arraySize : (count stride : ℕ) → Result ℕ
+arraySize count stride = require (leb count mostSize && leb (count * stride) mostSize) 4 0 0 (ok (count * stride))
+
+unfoldable pub trySize : TypeInner → Result ℕ
+trySize (Plain leaf) = ok (leafSize leaf)
+trySize (Array base count stride) = arraySize count stride
+trySize (RuntimeArray base stride) = require (leb stride mostSize) 4 0 0 (ok stride)
+trySize (Struct count span) = ok span
+trySize (Other o) = ok (nonDataSize o)
+
+-- what the code answers
+abbrev pub sizeResult : Size → Result ℕ
+sizeResult (Bytes size) = ok size
+sizeResult TooLarge = err 4 0 0
