@@ -19,7 +19,10 @@ fn main() {
     let library = folder.join("libdoors.a");
     println!("cargo::rerun-if-changed={}", library.display());
     if !library.exists() {
-        panic!("no {}: build it, or use the feature mock", library.display());
+        panic!(
+            "no {}: build it, or use the feature mock",
+            library.display()
+        );
     }
     println!("cargo::rustc-link-search=native={}", folder.display());
     println!("cargo::rustc-link-lib=static=doors");

@@ -36,10 +36,6 @@ impl Random {
         self.below(n) == 0
     }
 
-    pub fn percent(&mut self, chance: u32) -> bool {
-        self.below(100) < chance
-    }
-
     pub fn pick<T: Copy>(&mut self, items: &[T]) -> T {
         items[self.below(items.len() as u32) as usize]
     }

@@ -49,7 +49,4 @@ impl Arena {
     pub fn member_count(&self) -> usize {
         self.members.len() / MEMBER_WORDS
     }
-    pub fn record(&self, number: usize) -> &[u32] {
-        &self.types[TYPE_WORDS * number..TYPE_WORDS * (number + 1)]
-    }
 }

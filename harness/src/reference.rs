@@ -5,8 +5,8 @@ use crate::panics::caught;
 use crate::records::*;
 use crate::{tables, translate};
 use naga::proc::{LayoutError, LayoutErrorInner};
-use naga::valid::{Capabilities, Disalignment, TypeError, TypeFlags, ValidationFlags, Validator};
 use naga::valid::WidthError;
+use naga::valid::{Capabilities, Disalignment, TypeError, TypeFlags, ValidationFlags, Validator};
 use naga::{Handle, Type, TypeInner, UniqueArena};
 
 pub struct LayoutOutcome {
@@ -154,7 +154,12 @@ impl Judge {
             Member::Unknown => self.failing_member(handle, failure.number),
         };
         Refusal {
-            answer: [failure.number, handle.index() as u32, member, failure.detail],
+            answer: [
+                failure.number,
+                handle.index() as u32,
+                member,
+                failure.detail,
+            ],
             panic_site: failure.panic_site,
         }
     }

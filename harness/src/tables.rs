@@ -4,9 +4,9 @@ use crate::records::*;
 
 pub fn lengths_are_wrong(types: &[u32], members: &[u32], rows_len: usize) -> bool {
     let count = types.len() / TYPE_WORDS;
-    types.len() % TYPE_WORDS != 0
+    !types.len().is_multiple_of(TYPE_WORDS)
         || count > MAX_TYPES
-        || members.len() % MEMBER_WORDS != 0
+        || !members.len().is_multiple_of(MEMBER_WORDS)
         || members.len() / MEMBER_WORDS > MAX_MEMBERS
         || rows_len < ROW_WORDS * count
 }
@@ -36,7 +36,10 @@ fn fields_are_in_their_sets(record: &[u32], member_count: u64) -> bool {
     let (named, good) = match w[0] {
         kind::SCALAR | kind::ATOMIC => (2, scalar(w[1], w[2])),
         kind::VECTOR => (3, vector_size(w[1]) && scalar(w[2], w[3])),
-        kind::MATRIX => (4, vector_size(w[1]) && vector_size(w[2]) && scalar(w[3], w[4])),
+        kind::MATRIX => (
+            4,
+            vector_size(w[1]) && vector_size(w[2]) && scalar(w[3], w[4]),
+        ),
         kind::COOPERATIVE_MATRIX => {
             let sizes = cooperative_size(w[1]) && cooperative_size(w[2]);
             (5, sizes && scalar(w[3], w[4]) && w[5] <= 2)

@@ -15,7 +15,7 @@ pub fn arena(types: &[u32], members: &[u32]) -> UniqueArena<Type> {
     for (number, record) in types.chunks_exact(TYPE_WORDS).enumerate() {
         let name = Some(number.to_string());
         let inner = type_inner(record, members);
-        let handle = arena.insert(Type { name, inner }, Span::default());
+        let handle = arena.insert(Type { name, inner }, Span);
         assert_eq!(handle.index(), number);
     }
     arena

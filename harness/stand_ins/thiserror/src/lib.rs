@@ -27,7 +27,7 @@ pub fn derive_error(input: TokenStream) -> TokenStream {
 /// The type's name, and the braces after it.
 fn name_and_body(input: TokenStream) -> (String, TokenStream) {
     let mut tokens = input.into_iter();
-    while let Some(token) = tokens.next() {
+    for token in tokens.by_ref() {
         if matches!(token.to_string().as_str(), "struct" | "enum") {
             break;
         }

@@ -1,0 +1,13 @@
+use borrow.Author.Needs.{needs}
+use Rattle.flags.proofs.pointer_flags.Statement.{statement}
+use Rattle.flags.proofs.pointer_flags.Tie as tie
+
+returns : tie.Need-returns
+returns c = rw (c .argument-flag .ensures)
+
+pub pointer-flags-spec : {M : Type 1} → statement M
+pointer-flags-spec =
+    tie.close
+    (tie.spec
+    (λ c κs. search needs)
+    returns)

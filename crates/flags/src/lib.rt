@@ -1,0 +1,112 @@
+// TypeFlags of naga's valid/type.rs, and bits of a word. Flags are numbers with 01's values.
+ghost use mathlib.Core.Path.{_≡_};
+ghost use Prim.Native.Nat.{_<_};
+ghost use lib.Bits.{bitAnd, bitOr};
+ghost use Rattle.flags.specs.Flags.{bit, dataBit, sizedBit, hostShareableBit, creationResolvedBit, startingFlags, scalarFlags, argumentFlag, pointerFlags, arrayFlags, runtimeArrayFlags, bindingArrayFlags, notHostShareable};
+
+// The starting flags of each kind, by its number.
+const STARTING_FLAGS: [u32; 14] = [
+    255, 255, 247, 247, 147, 134, 134, 247, 247, 160, 160, 160, 195, 146,
+];
+const ARRAY_KIND: usize = 7;
+const BINDING_ARRAY_KIND: usize = 13;
+const BOOL: u32 = 3;
+const ARGUMENT: u32 = 32;
+// All flags but IO_SHAREABLE and HOST_SHAREABLE.
+const NOT_SHAREABLE: u32 = 231;
+const NOT_HOST_SHAREABLE: u32 = 239;
+// DATA, COPY, HOST_SHAREABLE and CREATION_RESOLVED.
+const RUNTIME_ARRAY: u32 = 149;
+// HOST_SHAREABLE and CREATION_RESOLVED.
+const DYNAMIC_BINDING_ARRAY: u32 = 144;
+
+// Bit k of a capability word.
+pub fn capable(capabilities: u32, k: u32) -> bool
+    requires { ⌜ k < 32 ⌝ }
+    ensures { λ r. ⌜ r ≡ bit capabilities k ⌝ }
+{
+    (capabilities >> k) % 2 == 1
+}
+
+pub fn is_data(flags: u32) -> bool
+    ensures { λ r. ⌜ r ≡ bit flags dataBit ⌝ }
+{
+    flags / 1 % 2 == 1
+}
+
+pub fn is_sized(flags: u32) -> bool
+    ensures { λ r. ⌜ r ≡ bit flags sizedBit ⌝ }
+{
+    flags / 2 % 2 == 1
+}
+
+pub fn is_host_shareable(flags: u32) -> bool
+    ensures { λ r. ⌜ r ≡ bit flags hostShareableBit ⌝ }
+{
+    flags / 16 % 2 == 1
+}
+
+pub fn is_creation_resolved(flags: u32) -> bool
+    ensures { λ r. ⌜ r ≡ bit flags creationResolvedBit ⌝ }
+{
+    flags / 128 % 2 == 1
+}
+
+pub fn starting_flags(kind: usize) -> u32
+    requires { ⌜ kind < 14 ⌝ }
+    ensures { λ r. ⌜ r ≡ startingFlags kind ⌝ }
+{
+    STARTING_FLAGS[kind]
+}
+
+// A bool is not shareable.
+pub fn scalar_flags(scalar_kind: u32, flags: u32) -> u32
+    ensures { λ r. ⌜ r ≡ scalarFlags «scalar_kind» flags ⌝ }
+{
+    if scalar_kind == BOOL { flags & NOT_SHAREABLE } else { flags }
+}
+
+// ptr_space_argument_flag.
+fn argument_flag(space: u32) -> u32
+    ensures { λ r. ⌜ r ≡ argumentFlag space ⌝ }
+{
+    if (space <= 1) | (8 <= space) { ARGUMENT } else { 0 }
+}
+
+pub fn pointer_flags(space: u32, flags: u32) -> u32
+    ensures { λ r. ⌜ r ≡ pointerFlags space flags ⌝ }
+{
+    let argument = argument_flag(space);
+    flags | argument
+}
+
+pub fn array_flags(base: u32) -> u32
+    ensures { λ r. ⌜ r ≡ arrayFlags base ⌝ }
+{
+    base & STARTING_FLAGS[ARRAY_KIND]
+}
+
+pub fn runtime_array_flags(base: u32) -> u32
+    ensures { λ r. ⌜ r ≡ runtimeArrayFlags base ⌝ }
+{
+    base & RUNTIME_ARRAY
+}
+
+pub fn binding_array_flags(form: u32, base: u32) -> u32
+    ensures { λ r. ⌜ r ≡ bindingArrayFlags form base ⌝ }
+{
+    if form == 0 { base & STARTING_FLAGS[BINDING_ARRAY_KIND] } else { base & DYNAMIC_BINDING_ARRAY }
+}
+
+pub fn not_host_shareable(flags: u32) -> u32
+    ensures { λ r. ⌜ r ≡ notHostShareable flags ⌝ }
+{
+    flags & NOT_HOST_SHAREABLE
+}
+
+// What two types both have.
+pub fn both(a: u32, b: u32) -> u32
+    ensures { λ r. ⌜ r ≡ bitAnd a b ⌝ }
+{
+    a & b
+}

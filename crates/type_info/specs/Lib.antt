@@ -1,0 +1,2 @@
+pub mod TypeInfo
+pub mod Verdict

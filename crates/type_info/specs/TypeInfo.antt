@@ -1,0 +1,64 @@
+-- 01, 'The result row': size, alignment, flags; uniform verdict (five words); storage verdict (five); immediates word.
+-- Assumes nothing.
+use mathlib.Core.List.{List, [], _∷_}
+use Prim.Native.Nat.{ℕ}
+use Rattle.rows.specs.Rows.{rowWord}
+use Rattle.type_info.specs.declared.Verdict.{Verdict}
+use Rattle.type_info.specs.declared.Row.{Row}
+
+-- the fourteen words of a row
+unfoldable pub wordsOf : Row → List ℕ
+wordsOf r =
+    r .size
+    ∷ r .alignment
+    ∷ r .flags
+    ∷ r .uniform .code
+    ∷ r .uniform .ty
+    ∷ r .uniform .index
+    ∷ r .uniform .value
+    ∷ r .uniform .bound
+    ∷ r .storage .code
+    ∷ r .storage .ty
+    ∷ r .storage .index
+    ∷ r .storage .value
+    ∷ r .storage .bound
+    ∷ r .immediates
+    ∷ []
+
+-- the rows that stand in words; past them a row of zeros
+unfoldable pub rowsIn : List ℕ → ℕ → Row
+rowsIn words k =
+    record {
+      size = rowWord words k 0;
+      alignment = rowWord words k 1;
+      flags = rowWord words k 2;
+      uniform =
+          record {
+            code = rowWord words k 3;
+            ty = rowWord words k 4;
+            index = rowWord words k 5;
+            value = rowWord words k 6;
+            bound = rowWord words k 7;
+          };
+      storage =
+          record {
+            code = rowWord words k 8;
+            ty = rowWord words k 9;
+            index = rowWord words k 10;
+            value = rowWord words k 11;
+            bound = rowWord words k 12;
+          };
+      immediates = rowWord words k 13;
+    }
+
+-- in the place of a row that is not made yet: a pointer or binding array that names itself or a later type reads its empty flags
+abbrev pub emptyRow : Row
+emptyRow =
+    record {
+      size = 0;
+      alignment = 0;
+      flags = 0;
+      uniform = record { code = 0; ty = 0; index = 0; value = 0; bound = 0 };
+      storage = record { code = 0; ty = 0; index = 0; value = 0; bound = 0 };
+      immediates = 0;
+    }

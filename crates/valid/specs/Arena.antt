@@ -1,0 +1,52 @@
+-- 01, 'The refusal' and 'The result row': the arena check, its answer and what it leaves in the lent rows.
+-- Assumes nothing.
+use mathlib.Core.Bool.{Bool, _&&_}
+use mathlib.Core.List.{List}
+use Prim.Native.Nat.{ℕ}
+use lib.ListN.{length}
+use Rattle.records.specs.Result.{Result, pick}
+use Rattle.records.specs.Record.{Decoded, decoded, typeCount}
+use Rattle.records.specs.Fields.{tablesFit, capabilitiesKnown}
+use Rattle.records.specs.Table.{resultAt, valueAt, also, firstRefusal, flat}
+use Rattle.records.specs.declared.Outcome.{Outcome}
+use Rattle.records.specs.declared.Outcome.the-variants.{Accepted, Refused}
+use Rattle.records.specs.declared.TypeInner.{TypeInner}
+use Rattle.layouter.specs.Layouter.{layout, layoutOutcome, rowsAfter}
+use Rattle.type_info.specs.declared.Row.{Row}
+use Rattle.type_info.specs.TypeInfo.{emptyRow, wordsOf}
+use Rattle.valid.specs.Valid.{judge}
+
+-- ---- types in ascending order
+abbrev pub judgeStep : (c : ℕ) (types : ℕ → Decoded) → (ℕ → Row) → ℕ → Result Row
+judgeStep c types rows i = judge c (λ k. types k .inner) rows i (layout types i) (types i .inner) (types i .members)
+
+abbrev pub judgedAt : (c : ℕ) (types : ℕ → Decoded) → ℕ → Result Row
+judgedAt c types = resultAt emptyRow (judgeStep c types)
+
+abbrev pub row : (c : ℕ) (types : ℕ → Decoded) → ℕ → Row
+row c types = valueAt emptyRow (judgeStep c types)
+
+-- ---- the answer: 1; then 2 and 3; then 4 to 7 over the arena; then types in order
+unfoldable pub judgeOutcome : (c : ℕ) (ts ms : List ℕ) → Outcome
+judgeOutcome c ts ms = firstRefusal (judgedAt c (decoded ts ms)) (typeCount ts)
+
+unfoldable pub arenaOutcome : (c : ℕ) (ts ms : List ℕ) → Outcome
+arenaOutcome c ts ms = also (layoutOutcome ts ms) (judgeOutcome c ts ms)
+
+abbrev pub arenaFits : (c : ℕ) (ts ms rows : List ℕ) → Bool
+arenaFits c ts ms rows = capabilitiesKnown c && tablesFit (length ts) (length ms) (length rows)
+
+unfoldable pub arenaAnswer : (c : ℕ) (ts ms rows : List ℕ) → Outcome
+arenaAnswer c ts ms rows = pick (arenaFits c ts ms rows) (arenaOutcome c ts ms) (Refused 1 0 0 0)
+
+-- ---- the lent rows: on acceptance the fourteen words of each type, and no other word; number 1 touches nothing, every other refusal
+-- zeroes fourteen words for each type
+abbrev pub rowAt : (c : ℕ) (ts ms : List ℕ) → ℕ → List ℕ
+rowAt c ts ms i = wordsOf (row c (decoded ts ms) i)
+
+unfoldable pub arenaRows : (c : ℕ) (ts ms : List ℕ) → ℕ → List ℕ
+arenaRows c ts ms n = flat (rowAt c ts ms) n
+
+unfoldable pub arenaWords : (c : ℕ) (ts ms rows : List ℕ) → List ℕ
+arenaWords c ts ms rows =
+    pick (arenaFits c ts ms rows) (rowsAfter (arenaOutcome c ts ms) (arenaRows c ts ms (typeCount ts)) (typeCount ts) rows) rows

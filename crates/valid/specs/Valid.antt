@@ -1,0 +1,158 @@
+-- 01, 'The result row': the row of one type (`validate_type` of naga's valid/type.rs). c is the capability word, `inner` what each record
+-- of the arena says, `rows` the rows of the types before type i. Flags, or the refusal, on one side; verdicts on the other.
+-- Assumes nothing.
+use mathlib.Core.Bool.{Bool, true, false, not, _&&_, _||_}
+use mathlib.Core.List.{List}
+use Prim.Native.Nat.{ℕ, _*_}
+use lib.Dec.{eqb, leb, ltb}
+use Rattle.records.specs.Result.{Result, err, ok, pick, require, andThen}
+use Rattle.records.specs.Record.{Decoded, scalarKind, vectorKind, matrixKind, cooperativeMatrixKind, atomicKind, pointerKind, valuePointerKind, imageKind, samplerKind, accelerationStructureKind, rayQueryKind}
+use Rattle.records.specs.declared.Leaf.{Leaf}
+use Rattle.records.specs.declared.Leaf.the-variants.{Scalar, Vector, Matrix, CooperativeMatrix, Atomic, RayQuery}
+use Rattle.records.specs.declared.NonData.{NonData}
+use Rattle.records.specs.declared.NonData.the-variants.{Pointer, ValuePointer, Image, Sampler, AccelerationStructure, BindingArray}
+use Rattle.records.specs.declared.TypeInner.{TypeInner}
+use Rattle.records.specs.declared.TypeInner.the-variants.{Plain, Array, RuntimeArray, Struct, Other}
+use Rattle.alignment.specs.Alignment.{vectorAlignment}
+use Rattle.layouter.specs.declared.TypeLayout.{TypeLayout}
+use Rattle.flags.specs.Flags.{bit, dataBit, sizedBit, creationResolvedBit, startingFlags, scalarFlags, pointerFlags, arrayFlags, runtimeArrayFlags, bindingArrayFlags}
+use Rattle.width.specs.Width.{float, capability, checkWidth, atomicWidth, immediatesWord, cooperativeMatrix, cubeArrayTextures, textureExternal, rayQuery, rayTracingPipeline, rayHitVertexPosition}
+use Rattle.type_info.specs.declared.Verdict.{Verdict}
+use Rattle.type_info.specs.declared.Row.{Row}
+use Rattle.type_info.specs.Verdict.{minUniform, minStorage, okVerdict, arrayVerdict, spanVerdict}
+use Rattle.members.specs.declared.Bounds.{Bounds}
+use Rattle.members.specs.Members.{boundsAfter, uniformAfter, storageAfter, immediatesAfter}
+
+-- ---- flags of a leaf, numbers 8 to 12
+unfoldable pub leafFlags : (c : ℕ) → Leaf → Result ℕ
+leafFlags c (Scalar kind width) = andThen (checkWidth c kind width) (λ _. ok (scalarFlags kind (startingFlags scalarKind)))
+leafFlags c (Vector size kind width) = andThen (checkWidth c kind width) (λ _. ok (scalarFlags kind (startingFlags vectorKind)))
+leafFlags c (Matrix columns rows kind width) =
+    require (eqb kind float) 11 0 0 (andThen (checkWidth c kind width) (λ _. ok (startingFlags matrixKind)))
+leafFlags c (CooperativeMatrix columns rows kind width role) =
+    capability c cooperativeMatrix
+    (require (eqb kind float && (eqb width 2 || eqb width 4)) 11 0 0 (ok (startingFlags cooperativeMatrixKind)))
+leafFlags c (Atomic kind width) = andThen (atomicWidth c kind width) (λ _. ok (startingFlags atomicKind))
+leafFlags c (RayQuery vertexReturn) =
+    capability c rayQuery (require (eqb vertexReturn 0 || bit c rayHitVertexPosition) 8 0 rayHitVertexPosition (ok (startingFlags rayQueryKind)))
+
+-- ---- flags of what is no data
+-- dims 0 to 3 are D1, D2, D3 and Cube; class 2 is External. Number 22, and 8
+abbrev pub imageFlags : (c dim arrayed class : ℕ) → Result ℕ
+imageFlags c dim arrayed class =
+    require (not (eqb arrayed 1 && eqb dim 2)) 22 0 0
+    (require (not (eqb arrayed 1 && eqb dim 3) || bit c cubeArrayTextures) 8 0 cubeArrayTextures
+    (require (not (eqb class 2) || eqb dim 1 && eqb arrayed 0) 22 0 0
+    (require (not (eqb class 2) || bit c textureExternal) 8 0 textureExternal (ok (startingFlags imageKind)))))
+
+abbrev pub isStruct : TypeInner → Bool
+isStruct (Plain leaf) = false
+isStruct (Array base count stride) = false
+isStruct (RuntimeArray base stride) = false
+isStruct (Struct count span) = true
+isStruct (Other o) = false
+
+abbrev pub isExternalImage : TypeInner → Bool
+isExternalImage (Plain leaf) = false
+isExternalImage (Array base count stride) = false
+isExternalImage (RuntimeArray base stride) = false
+isExternalImage (Struct count span) = false
+isExternalImage (Other (Pointer base space)) = false
+isExternalImage (Other (ValuePointer kind width space)) = false
+isExternalImage (Other (Image dim arrayed class)) = eqb class 2
+isExternalImage (Other Sampler) = false
+isExternalImage (Other (AccelerationStructure vertexReturn)) = false
+isExternalImage (Other (BindingArray base form count)) = false
+
+-- numbers 13, 14, 23, 24 and 17; space 4 is Storage
+unfoldable pub nonDataFlags : (c : ℕ) (inner : ℕ → TypeInner) (rows : ℕ → Row) → NonData → Result ℕ
+nonDataFlags c inner rows (Pointer base space) =
+    require (bit (rows base .flags) dataBit) 13 0 0
+    (require (bit (rows base .flags) sizedBit || eqb space 4) 14 0 0 (ok (pointerFlags space (startingFlags pointerKind))))
+nonDataFlags c inner rows (ValuePointer kind width space) =
+    andThen (checkWidth c kind width) (λ _. ok (pointerFlags space (startingFlags valuePointerKind)))
+nonDataFlags c inner rows (Image dim arrayed class) = imageFlags c dim arrayed class
+nonDataFlags c inner rows Sampler = ok (startingFlags samplerKind)
+nonDataFlags c inner rows (AccelerationStructure vertexReturn) =
+    require (bit c rayTracingPipeline || bit c rayQuery) 8 0 rayQuery
+    (require (eqb vertexReturn 0 || bit c rayHitVertexPosition) 8 0 rayHitVertexPosition (ok (startingFlags accelerationStructureKind)))
+nonDataFlags c inner rows (BindingArray base form count) =
+    require (not (bit (rows base .flags) dataBit) || isStruct (inner base)) 23 0 0
+    (require (not (isExternalImage (inner base))) 24 0 0
+    (require (bit (rows base .flags) creationResolvedBit) 17 0 0 (ok (bindingArrayFlags form (rows base .flags)))))
+
+-- ---- number 15: what an array's base has to be
+abbrev pub isArrayBase : (flags : ℕ) → Bool
+isArrayBase flags = bit flags dataBit && bit flags sizedBit && bit flags creationResolvedBit
+
+-- ---- the flags of type i, or its refusal
+unfoldable pub flagsOf : (c : ℕ) (inner : ℕ → TypeInner) (rows : ℕ → Row) → TypeInner → (members : List ℕ) → Result ℕ
+flagsOf c inner rows (Plain leaf) members = leafFlags c leaf
+flagsOf c inner rows (Array base count stride) members = require (isArrayBase (rows base .flags)) 15 0 0 (ok (arrayFlags (rows base .flags)))
+flagsOf c inner rows (RuntimeArray base stride) members =
+    require (isArrayBase (rows base .flags)) 15 0 0 (ok (runtimeArrayFlags (rows base .flags)))
+flagsOf c inner rows (Struct count span) members =
+    require (ltb 0 count) 16 0 0 (andThen (boundsAfter inner rows count span members count) (λ b. ok (b .flags)))
+flagsOf c inner rows (Other o) members = nonDataFlags c inner rows o
+
+-- ---- verdicts
+-- the alignment in both verdicts of a leaf; a cooperative matrix has that of its width
+abbrev pub leafVerdictAlignment : Leaf → ℕ
+leafVerdictAlignment (Scalar kind width) = width
+leafVerdictAlignment (Vector size kind width) = vectorAlignment size * width
+leafVerdictAlignment (Matrix columns rows kind width) = vectorAlignment rows * width
+leafVerdictAlignment (CooperativeMatrix columns rows kind width role) = width
+leafVerdictAlignment (Atomic kind width) = width
+leafVerdictAlignment (RayQuery vertexReturn) = 1
+
+abbrev pub leafImmediates : Leaf → ℕ
+leafImmediates (Scalar kind width) = immediatesWord kind width
+leafImmediates (Vector size kind width) = immediatesWord kind width
+leafImmediates (Matrix columns rows kind width) = immediatesWord kind width
+leafImmediates (CooperativeMatrix columns rows kind width role) = 0
+leafImmediates (Atomic kind width) = 0
+leafImmediates (RayQuery vertexReturn) = 0
+
+-- alignment: the layout alignment of type i
+unfoldable pub uniformOf : (least : ℕ) (inner : ℕ → TypeInner) (rows : ℕ → Row) (i alignment : ℕ) → TypeInner → (members : List ℕ) → Verdict
+uniformOf least inner rows i alignment (Plain leaf) members = okVerdict (leafVerdictAlignment leaf)
+uniformOf least inner rows i alignment (Array base count stride) members =
+    arrayVerdict least i stride (rows base .alignment) (rows base .uniform)
+uniformOf least inner rows i alignment (RuntimeArray base stride) members =
+    arrayVerdict least i stride (rows base .alignment) (rows base .uniform)
+uniformOf least inner rows i alignment (Struct count span) members =
+    spanVerdict i span alignment (uniformAfter least inner rows i members count)
+uniformOf least inner rows i alignment (Other o) members = okVerdict 1
+
+unfoldable pub storageOf : (rows : ℕ → Row) (i alignment : ℕ) → TypeInner → (members : List ℕ) → Verdict
+storageOf rows i alignment (Plain leaf) members = okVerdict (leafVerdictAlignment leaf)
+storageOf rows i alignment (Array base count stride) members =
+    arrayVerdict minStorage i stride (rows base .alignment) (rows base .storage)
+storageOf rows i alignment (RuntimeArray base stride) members =
+    arrayVerdict minStorage i stride (rows base .alignment) (rows base .storage)
+storageOf rows i alignment (Struct count span) members = spanVerdict i span alignment (storageAfter rows i members count)
+storageOf rows i alignment (Other o) members = okVerdict 1
+
+unfoldable pub immediatesOf : (rows : ℕ → Row) → TypeInner → (members : List ℕ) → ℕ
+immediatesOf rows (Plain leaf) members = leafImmediates leaf
+immediatesOf rows (Array base count stride) members = rows base .immediates
+immediatesOf rows (RuntimeArray base stride) members = rows base .immediates
+immediatesOf rows (Struct count span) members = immediatesAfter rows members count
+immediatesOf rows (Other o) members = 0
+
+-- ---- the row
+-- of an accepted type with these flags
+unfoldable pub rowOf : (least : ℕ) (inner : ℕ → TypeInner) (rows : ℕ → Row) (i : ℕ) → TypeLayout → TypeInner → (members : List ℕ) → (flags : ℕ) → Row
+rowOf least inner rows i layout this members flags =
+    record {
+      size = layout .size;
+      alignment = layout .alignment;
+      flags = flags;
+      uniform = uniformOf least inner rows i (layout .alignment) this members;
+      storage = storageOf rows i (layout .alignment) this members;
+      immediates = immediatesOf rows this members;
+    }
+
+unfoldable pub judge : (c : ℕ) (inner : ℕ → TypeInner) (rows : ℕ → Row) (i : ℕ) → TypeLayout → TypeInner → (members : List ℕ) → Result Row
+judge c inner rows i layout this members =
+    andThen (flagsOf c inner rows this members) (λ flags. ok (rowOf minUniform inner rows i layout this members flags))

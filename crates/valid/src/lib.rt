@@ -1,0 +1,1 @@
+// validate_type of naga's valid/type.rs, and the arena check.

@@ -1,0 +1,82 @@
+//! The marked examples of 01, tried on the reference.
+
+use crate::records::*;
+use crate::{reference, slots, translate};
+
+const E: [u32; 6] = [kind::SCALAR, 2, 4, 0, 0, 0];
+const V: [u32; 6] = [kind::VECTOR, 3, 2, 4, 0, 0];
+
+fn structure(first: u32, count: u32, span: u32) -> [u32; 6] {
+    [kind::STRUCT, first, count, span, 0, 0]
+}
+
+fn array(base: u32, count: u32, stride: u32) -> [u32; 6] {
+    [kind::ARRAY, base, 0, count, stride, 0]
+}
+
+fn check(types: &[[u32; 6]], members: &[u32], capabilities: u32) -> Result<Vec<Row>, Answer> {
+    let types = types.as_flattened();
+    let outcome = reference::check(types, members, capabilities, ROW_WORDS * types.len() / 6);
+    outcome.rows.ok_or(outcome.answer)
+}
+
+/// M1's arena with E at another offset and another span.
+fn m1(offset: u32, span: u32) -> Result<Vec<Row>, Answer> {
+    check(&[E, V, structure(0, 2, span)], &[1, 0, 0, offset], 0)
+}
+
+#[test]
+fn m1_and_its_changes() {
+    let rows = m1(12, 16).unwrap();
+    assert_eq!(rows[0], [4, 4, 255, 0, 4, 0, 0, 0, 0, 4, 0, 0, 0, 0]);
+    assert_eq!(rows[1], [12, 16, 255, 0, 16, 0, 0, 0, 0, 16, 0, 0, 0, 0]);
+    assert_eq!(rows[2], [16, 16, 247, 0, 16, 0, 0, 0, 0, 16, 0, 0, 0, 0]);
+    let m3 = m1(12, 20).unwrap()[2];
+    assert_eq!(m3[3..13], [2, 2, 0, 20, 16, 2, 2, 0, 20, 16]);
+    assert_eq!(m1(8, 16), Err([18, 2, 1, 0]));
+    assert_eq!(m1(0, 16).unwrap()[2][2], 231);
+    assert_eq!(m1(12, 15), Err([19, 2, 1, 0]));
+}
+
+#[test]
+fn m2_slots() {
+    let types = [E, V, structure(0, 2, 16)];
+    let arena = translate::arena(types.as_flattened(), &[1, 0, 0, 12]);
+    assert_eq!(slots::of_type(&arena, 2, 0), Ok(15));
+}
+
+#[test]
+fn m7_and_m8_arrays() {
+    let row = check(&[E, array(0, 3, 4)], &[], 0).unwrap()[1];
+    assert_eq!(row[3..13], [1, 1, 0, 4, 16, 0, 4, 0, 0, 0]);
+    assert!(check(&[E, array(0, 1_073_741_823, 2)], &[], 0).is_ok());
+    assert_eq!(
+        check(&[E, array(0, 1_073_741_824, 2)], &[], 0),
+        Err([4, 1, 0, 0])
+    );
+}
+
+#[test]
+fn m9_and_m10_distances() {
+    let types = [E, structure(0, 1, 4), structure(1, 2, 16)];
+    let row = check(&types, &[0, 0, 1, 0, 0, 4], 0).unwrap()[2];
+    assert_eq!(row[3..13], [4, 2, 1, 4, 16, 0, 4, 0, 0, 0]);
+    let types = [E, structure(0, 1, 4), structure(1, 3, 32)];
+    let members = [0, 0, 0, 0, 1, 16, 0, 0];
+    assert_eq!(check(&types, &members, 0), Err([21, 2, 2, 0]));
+}
+
+#[test]
+fn m11_half_floats() {
+    let half = [kind::SCALAR, 2, 2, 0, 0, 0];
+    assert_eq!(check(&[half], &[], 0), Err([8, 0, 0, 1]));
+    assert_eq!(check(&[half], &[], 2).unwrap()[0][13], 3);
+}
+
+#[test]
+fn m12_ranges() {
+    assert_eq!(slots::of_range(300, 0), Ok(0));
+    assert_eq!(slots::of_range(3, 2), Ok(3));
+    assert_eq!(slots::of_range(252, 4), Ok(1 << 63));
+    assert_eq!(slots::of_range(252, 5), Err(25));
+}
