@@ -2,11 +2,11 @@
 -- Assumes nothing.
 use mathlib.Core.Bool.{Bool, _&&_}
 use mathlib.Core.List.{List}
-use Prim.Native.Nat.{ℕ}
+use Prim.Native.Nat.{ℕ, _*_}
 use lib.ListN.{length}
 use Rattle.records.specs.Result.{Result, pick}
 use Rattle.records.specs.Record.{Decoded, decoded, typeCount}
-use Rattle.records.specs.Fields.{tablesFit, capabilitiesKnown}
+use Rattle.records.specs.Fields.{rowWords, tablesFit, capabilitiesKnown}
 use Rattle.records.specs.Table.{resultAt, valueAt, also, firstRefusal, flat}
 use Rattle.records.specs.declared.Outcome.{Outcome}
 use Rattle.records.specs.declared.Outcome.the-variants.{Accepted, Refused}
@@ -38,6 +38,11 @@ arenaFits c ts ms rows = capabilitiesKnown c && tablesFit (length ts) (length ms
 
 unfoldable pub arenaAnswer : (c : ℕ) (ts ms rows : List ℕ) → Outcome
 arenaAnswer c ts ms rows = pick (arenaFits c ts ms rows) (arenaOutcome c ts ms) (Refused 1 0 0 0)
+
+-- the answer where the lent rows are as long as needed: an accepted arena is one for which this is Accepted
+unfoldable pub arena : (c : ℕ) (ts ms : List ℕ) → Outcome
+arena c ts ms =
+    pick (capabilitiesKnown c && tablesFit (length ts) (length ms) (typeCount ts * rowWords)) (arenaOutcome c ts ms) (Refused 1 0 0 0)
 
 -- ---- the lent rows: on acceptance the fourteen words of each type, and no other word; number 1 touches nothing, every other refusal
 -- zeroes fourteen words for each type
