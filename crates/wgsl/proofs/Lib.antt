@@ -1,0 +1,2 @@
+pub mod AcceptedLaws
+pub mod Powers

@@ -1,0 +1,2 @@
+-- The memory layout of the W3C WGSL specification.
+-- Assumes nothing.
