@@ -1,13 +1,13 @@
 -- What an accepted alignment, and an accepted layout, says of its parts.
 -- Assumes nothing.
-use mathlib.Core.Path.{_≡_, refl, sym, _∙_, ap}
+use mathlib.Core.Path.{_≡_, sym, _∙_, ap}
 use mathlib.Core.List.{List}
-use Prim.Native.Nat.{ℕ, zero, suc, _*_, _<_, max}
+use Prim.Native.Nat.{ℕ, suc, _*_, _<_, max}
 use mathlib.Core.Bool.{_&&_}
 use lib.Dec.{T, ltb, leb, ltb→lt}
 use Rattle.records.specs.Result.{Result, ok, require, andThen}
 use Rattle.records.specs.Record.{Decoded, memberType}
-use Rattle.records.specs.Table.{table, resultAt, valueAt, firstRefusal}
+use Rattle.records.specs.Table.{table, resultAt, firstRefusal}
 use Rattle.records.specs.declared.Outcome.the-variants.{Accepted}
 use Rattle.records.specs.declared.Leaf.{Leaf}
 use Rattle.records.specs.declared.TypeInner.{TypeInner}
@@ -67,7 +67,7 @@ module _ (types : ℕ → Decoded) (n : ℕ) (accepted : firstRefusal (layoutAt 
   -- the size of record t is the one that was tried, and its alignment is made from the layouts of the types before it
   parts : (inner : TypeInner) → types t .inner ≡ inner
       → (trySize inner ≡ ok (layout types t .size))
-          × (alignmentOf (table noLayout (layoutStep types) t) t inner (types t .members) ≡ ok (layout types t .alignment))
+      × (alignmentOf (table noLayout (layoutStep types) t) t inner (types t .members) ≡ ok (layout types t .alignment))
   parts inner e =
       rw e at (layout-parts (table noLayout (layoutStep types) t) t (types t .inner) (types t .members) (layout types t) (accepted-step types n accepted t h))
 
@@ -107,7 +107,7 @@ module _ (types : ℕ → Decoded) (n : ℕ) (accepted : firstRefusal (layoutAt 
   -- a struct has its span for its size and the largest alignment of its members
   pub struct-layout : (count span : ℕ) → types t .inner ≡ Struct count span
       → (layout types t .size ≡ span)
-          × (membersAlignment (table noLayout (layoutStep types) t) t (types t .members) count ≡ ok (layout types t .alignment))
+      × (membersAlignment (table noLayout (layoutStep types) t) t (types t .members) count ≡ ok (layout types t .alignment))
   unfolding trySize alignmentOf
   struct-layout count span e = let p = parts (Struct count span) e in (sym (ok-inj (p .0)), p .1)
 
@@ -115,7 +115,7 @@ module _ (types : ℕ → Decoded) (n : ℕ) (accepted : firstRefusal (layoutAt 
 pub member-layout : (types : ℕ → Decoded) (t : ℕ) (members : List ℕ) (j a : ℕ)
     → membersAlignment (table noLayout (layoutStep types) t) t members (suc j) ≡ ok a
     → (b : ℕ) × (membersAlignment (table noLayout (layoutStep types) t) t members j ≡ ok b) × (memberType members j < t)
-        × (a ≡ max b (layout types (memberType members j) .alignment))
+    × (a ≡ max b (layout types (memberType members j) .alignment))
 member-layout types t members j a e =
     let m = member-accepted (table noLayout (layoutStep types) t) t members j a e in
     (m .0, m .1, m .2, sym (m .3) ∙ ap (λ (l : TypeLayout). max (m .0) (l .alignment)) (table-value noLayout (layoutStep types) t (memberType members j) (m .2)))

@@ -1,9 +1,9 @@
 -- The layouter agrees with the W3C WGSL specification: where it accepts the records of a host-shareable WGSL type,
 -- their sizes and alignments are SizeOf and AlignOf.
 -- Assumes nothing.
-use mathlib.Core.Path.{_≡_, refl, sym, _∙_, ap}
+use mathlib.Core.Path.{_≡_, _∙_}
 use mathlib.Core.List.{List}
-use Prim.Native.Nat.{ℕ, zero, suc, _*_, _≤_, _<_, max}
+use Prim.Native.Nat.{ℕ, zero, suc, _≤_, _<_, max}
 use native.Mathlib.Omega.{arith}
 use Rattle.records.specs.Result.{ok}
 use Rattle.records.specs.Record.{Decoded, decoded, typeCount, memberType}
@@ -16,7 +16,7 @@ use Rattle.records.proofs.TableLaws.{also-accepted}
 use Rattle.layouter.specs.Layouter.{membersAlignment, noLayout, layoutStep, layoutAt, layout, layoutOutcome}
 use Rattle.wgsl.specs.Wgsl.{integer, float, WgslType, scalar, vector, matrix, atomic, array, runtimeArray, struct, Members, last, member, lastMember, memberTotal, number, kindOf, widthOf, maxOver, alignOf, alignOfMember, sizeOf, strideOf, HostShareable, AllHostShareable, IsType, IsMember}
 use Rattle.wgsl.proofs.AcceptedLaws.{plain-layout, array-layout, runtime-array-layout, struct-layout, member-layout}
-use Rattle.wgsl.proofs.TypeLaws.{align-positive, align-member-positive, scalar-size, vector-size, vector-align, matrix-size}
+use Rattle.wgsl.proofs.TypeLaws.{align-positive, scalar-size, vector-size, vector-align, matrix-size}
 
 -- the largest alignment of the first j + 1 members, where f says what the layouts of their types have
 members-largest : (types : ℕ → Decoded) (t : ℕ) (members : List ℕ) (f : ℕ → ℕ) (j a : ℕ)
@@ -37,6 +37,7 @@ members-largest types t members f (suc j) a each e =
 module _ (types : ℕ → Decoded) (n : ℕ) (accepted : firstRefusal (layoutAt types) n ≡ Accepted) where
   mutual
     unfolding HostShareable IsType sizeOf alignOf
+
     -- where the first n types of an arena are accepted and record t, one of them, is a host-shareable WGSL type, its layout is SizeOf and AlignOf
     pub agreement : (type : WgslType) → HostShareable type → (t : ℕ) → t < n → IsType type types t
         → (layout types t .size ≡ sizeOf type) × (layout types t .alignment ≡ alignOf type)
@@ -60,7 +61,7 @@ module _ (types : ℕ → Decoded) (n : ℕ) (accepted : firstRefusal (layoutAt 
     agreement (struct members) shareable t h is =
         let l = struct-layout types n accepted t h (memberTotal members) (sizeOf (struct members)) (is .0) in
         let largest = members-largest types t (types t .members) (alignOfMember members) (lastMember members) (layout types t .alignment)
-            (λ i j k. agreement-member members shareable i (memberType (types t .members) i) (omega arith) (is .2 i (omega arith))) (l .1) in
+        (λ i j k. agreement-member members shareable i (memberType (types t .members) i) (omega arith) (is .2 i (omega arith))) (l .1) in
         (l .0, omega (arith, largest, align-positive (struct members)))
 
     -- and so it is for the types of a struct's members

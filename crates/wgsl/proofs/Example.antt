@@ -11,7 +11,7 @@ use Rattle.records.specs.Table.{resultAt, valueAt}
 use Rattle.records.specs.declared.Outcome.the-variants.{Accepted}
 use Rattle.type_methods.specs.TypeMethods.{trySize}
 use Rattle.layouter.specs.Layouter.{membersAlignment, alignmentOf, layoutOf, layout, layoutOutcome}
-use Rattle.wgsl.specs.Wgsl.{u32, Float, f32, f16, float, bool, Dimension, two, three, four, number, WgslType, scalar, vector, matrix, atomic, array, runtimeArray, struct, Members, last, member, lastMember, roundUp, maxOver, offsetBy, alignOf, sizeOf, strideOf, alignOfMember, sizeOfMember, offsetOfMember, HostShareable, IsType, IsMember}
+use Rattle.wgsl.specs.Wgsl.{u32, Float, f32, f16, float, bool, Dimension, two, three, four, number, WgslType, scalar, vector, matrix, atomic, array, runtimeArray, struct, Members, last, member, lastMember, roundUp, maxOver, offsetBy, alignOf, sizeOf, alignOfMember, sizeOfMember, offsetOfMember, HostShareable, IsType, IsMember}
 use Rattle.wgsl.proofs.Agreement.{tables-agreement}
 
 -- a statement about the numbers below 3
@@ -53,10 +53,11 @@ body-layout = (refl, refl, refl, refl)
 -- record 4 is the struct, record 5 the array of structs
 body-is : IsType body (decoded bodyTypes bodyRows) 4
 unfolding IsType typeInner innerOf structMembers offsetBy alignOf sizeOf roundUp lastMember maxOver
-body-is =
-    (refl,
-    below-three (λ i. memberOffset bodyRows i ≡ offsetOfMember bodyMembers i) refl refl refl,
-    below-three (λ i. IsMember bodyMembers (decoded bodyTypes bodyRows) i (memberType bodyRows i)) refl refl (2, refl, refl))
+body-is = (
+  refl,
+  below-three (λ i. memberOffset bodyRows i ≡ offsetOfMember bodyMembers i) refl refl refl,
+  below-three (λ i. IsMember bodyMembers (decoded bodyTypes bodyRows) i (memberType bodyRows i)) refl refl (2, refl, refl),
+)
 
 bodies-are : IsType (array body 3) (decoded bodyTypes bodyRows) 5
 unfolding IsType typeInner innerOf offsetBy alignOf sizeOf roundUp lastMember maxOver
@@ -101,10 +102,11 @@ queue-layout = (refl, refl)
 
 queue-is : IsType queue (decoded queueTypes queueRows) 4
 unfolding IsType typeInner innerOf structMembers offsetBy alignOf sizeOf roundUp lastMember maxOver
-queue-is =
-    (refl,
-    below-three (λ i. memberOffset queueRows i ≡ offsetOfMember queueMembers i) refl refl refl,
-    below-three (λ i. IsMember queueMembers (decoded queueTypes queueRows) i (memberType queueRows i)) refl refl (2, refl, refl))
+queue-is = (
+  refl,
+  below-three (λ i. memberOffset queueRows i ≡ offsetOfMember queueMembers i) refl refl refl,
+  below-three (λ i. IsMember queueMembers (decoded queueTypes queueRows) i (memberType queueRows i)) refl refl (2, refl, refl),
+)
 
 queue-shareable : HostShareable queue
 unfolding HostShareable

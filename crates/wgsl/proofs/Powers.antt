@@ -2,9 +2,9 @@
 -- Assumes nothing.
 use mathlib.Core.Path.{_≡_, refl}
 use mathlib.Core.List.{List}
-use Prim.Native.Nat.{ℕ, zero, suc, _*_, _<_, max}
+use Prim.Native.Nat.{ℕ, zero, suc, _*_, _<_}
 use native.Mathlib.Nat.{le-refl}
-use Rattle.records.specs.Result.{Result, ok}
+use Rattle.records.specs.Result.{ok}
 use Rattle.records.specs.Record.{decoded, memberType, typeInner, structMembers, typeCount}
 use Rattle.records.specs.Fields.{LeafBounds, InnerBounds, recordAt}
 use Rattle.records.specs.Table.{firstRefusal}
@@ -19,7 +19,7 @@ use Rattle.records.proofs.RecordLaws.{record-bounds}
 use Rattle.alignment.specs.Alignment.{Power}
 use Rattle.alignment.proofs.PowerLaws.{power-of-width, power-vector, power-product, power-cooperative, power-max}
 use Rattle.layouter.specs.declared.TypeLayout.{TypeLayout}
-use Rattle.layouter.specs.Layouter.{leafWidth, leafFactor, leafAlignment, baseAlignment, membersAlignment, alignmentOf, layoutOf, noLayout, layoutStep, layoutAt, layout, layoutOutcome}
+use Rattle.layouter.specs.Layouter.{leafWidth, leafFactor, leafAlignment, baseAlignment, membersAlignment, alignmentOf, noLayout, layoutStep, layoutAt, layout, layoutOutcome}
 use Rattle.wgsl.proofs.AcceptedLaws.{leaf-accepted, base-accepted, member-accepted, layout-parts}
 
 -- one is a power of two

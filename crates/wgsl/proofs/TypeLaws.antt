@@ -1,19 +1,21 @@
 -- Laws of the WGSL definitions: alignments are positive, and what the records of numeric scalars, vectors and matrices measure is the standard's.
 -- Assumes nothing.
 use mathlib.Core.Path.{_≡_, refl, _∙_, ap}
-use Prim.Native.Nat.{ℕ, zero, suc, _*_, _≤_, max}
+use Prim.Native.Nat.{ℕ, zero, suc, _*_, _≤_}
 use native.Mathlib.Nat.{mul-comm}
 use native.Mathlib.Omega.{arith}
 use Rattle.alignment.specs.Alignment.{vectorAlignment}
-use Rattle.wgsl.specs.Wgsl.{Scalar, bool, integer, float, Float, f32, f16, Dimension, two, three, four, WgslType, scalar, vector, matrix, atomic, array, runtimeArray, struct, Members, last, member, number, roundUp, maxOver, byScalar, alignOfScalar, sizeOfScalar, alignOfVector, sizeOfVector, alignOf, alignOfMember, sizeOf, lastMember, Numeric, widthOf}
+use Rattle.wgsl.specs.Wgsl.{Scalar, bool, integer, float, Float, f32, f16, Dimension, two, three, four, WgslType, scalar, vector, matrix, atomic, array, runtimeArray, struct, Members, last, member, number, roundUp, maxOver, byScalar, sizeOfScalar, alignOfVector, sizeOfVector, alignOf, alignOfMember, sizeOf, lastMember, Numeric, widthOf}
 
 -- ---- alignments are positive
+-- a line of the table is positive where its two numbers are
 by-scalar-positive : (s : Scalar) (a b : ℕ) → 1 ≤ a → 1 ≤ b → 1 ≤ byScalar s a b
 by-scalar-positive bool a b p q = p
 by-scalar-positive (integer i) a b p q = p
 by-scalar-positive (float f32) a b p q = p
 by-scalar-positive (float f16) a b p q = q
 
+-- the alignment of a vector is positive
 vector-positive : (n : Dimension) (s : Scalar) → 1 ≤ alignOfVector n s
 vector-positive two s = by-scalar-positive s 8 4 (omega arith) (omega arith)
 vector-positive three s = by-scalar-positive s 16 8 (omega arith) (omega arith)
@@ -27,6 +29,8 @@ max-positive f p (suc n) = let q = p (suc n) in omega arith
 
 mutual
   unfolding alignOf
+
+  -- AlignOf is positive
   pub align-positive : (type : WgslType) → 1 ≤ alignOf type
   align-positive (scalar s) = by-scalar-positive s 4 2 (omega arith) (omega arith)
   align-positive (vector n s) = vector-positive n s
@@ -36,6 +40,7 @@ mutual
   align-positive (runtimeArray element) = align-positive element
   align-positive (struct members) = max-positive (alignOfMember members) (λ i. align-member-positive members i) (lastMember members)
 
+  -- AlignOfMember is positive
   pub align-member-positive : (members : Members) (i : ℕ) → 1 ≤ alignOfMember members i
   align-member-positive (last type size) i = align-positive type
   align-member-positive (member type size rest) zero = align-positive type

@@ -22,10 +22,12 @@ pub data Scalar : Type 0 where
   integer : Integer → Scalar
   float : Float → Scalar
 
--- of a vector, and of a matrix' columns and rows
+-- of a vector, and of a matrix's columns and rows
 pub data Dimension : Type 0 where
   two three four : Dimension
 
+-- What the standard asks besides is not asked here, so that what is proved holds of more trees: that N is positive, that k of @size(k) is
+-- at least SizeOf of the type, and that a runtime array is only the last member of a struct that is no element and no member.
 mutual
   pub data WgslType : Type 0 where
     scalar : Scalar → WgslType
@@ -205,8 +207,8 @@ unfoldable mutual
   IsType (runtimeArray element) types t = (base : ℕ) × (types t .inner ≡ RuntimeArray base (strideOf element)) × IsType element types base
   IsType (struct members) types t =
       (types t .inner ≡ Struct (memberTotal members) (sizeOf (struct members)))
-          × ((i : ℕ) → i < memberTotal members → memberOffset (types t .members) i ≡ offsetOfMember members i)
-          × ((i : ℕ) → i < memberTotal members → IsMember members types i (memberType (types t .members) i))
+      × ((i : ℕ) → i < memberTotal members → memberOffset (types t .members) i ≡ offsetOfMember members i)
+      × ((i : ℕ) → i < memberTotal members → IsMember members types i (memberType (types t .members) i))
 
   -- record t of an arena is the type of member i
   pub IsMember : Members → (types : ℕ → Decoded) → (i t : ℕ) → Type 0
