@@ -1,4 +1,4 @@
--- Tables whose records are WGSL types, so that the theorem of Agreement has what it asks for; and lines of the standard's table.
+-- Tables whose records are WGSL types, so that the theorem of Agreement has what it asks for; lines of the standard's table; where arena and standard differ.
 -- Assumes nothing.
 use mathlib.Core.Path.{_≡_, refl, _∙_}
 use mathlib.Core.Option.{none, some}
@@ -171,3 +171,28 @@ bool-differs : IsType (scalar bool) (decoded boolTypes []) 0 × (sizeOf (scalar 
     × (layout (decoded boolTypes []) 0 .size ≡ 1)
 unfolding boolTypes IsType typeInner innerOf structMembers sizeOf layoutOutcome recordAt fieldsOk resultAt valueAt layoutOf trySize alignmentOf
 bool-differs = (refl, refl, refl, refl)
+
+-- ---- records that are accepted and are no WGSL types of this tree
+-- an array of one f32 with stride 0: it measures 0, and 4 in the standard
+strideTypes : List ℕ
+strideTypes = 0 ∷ 2 ∷ 4 ∷ 0 ∷ 0 ∷ 0 ∷ 7 ∷ 0 ∷ 0 ∷ 1 ∷ 0 ∷ 0 ∷ []
+
+stride-differs : (layoutOutcome strideTypes [] ≡ Accepted) × (layout (decoded strideTypes []) 1 .size ≡ 0) × (sizeOf (array (scalar (float f32)) 1) ≡ 4)
+unfolding strideTypes typeInner innerOf structMembers sizeOf alignOf roundUp layoutOutcome recordAt fieldsOk resultAt valueAt layoutOf trySize alignmentOf
+stride-differs = (refl, refl, refl)
+
+-- a struct of no member: its alignment is 1; the standard has no such struct
+emptyTypes : List ℕ
+emptyTypes = 8 ∷ 0 ∷ 0 ∷ 0 ∷ 0 ∷ 0 ∷ []
+
+empty-struct : (layoutOutcome emptyTypes [] ≡ Accepted) × (layout (decoded emptyTypes []) 0 .size ≡ 0) × (layout (decoded emptyTypes []) 0 .alignment ≡ 1)
+unfolding emptyTypes typeInner innerOf structMembers layoutOutcome recordAt fieldsOk resultAt valueAt layoutOf trySize alignmentOf membersAlignment
+empty-struct = (refl, refl, refl)
+
+-- struct { @align(16) a: f32 }, of span 16: its alignment is 4, and 16 in the standard
+alignTypes : List ℕ
+alignTypes = 0 ∷ 2 ∷ 4 ∷ 0 ∷ 0 ∷ 0 ∷ 8 ∷ 0 ∷ 1 ∷ 16 ∷ 0 ∷ 0 ∷ []
+
+align-differs : (layoutOutcome alignTypes (0 ∷ 0 ∷ []) ≡ Accepted) × (layout (decoded alignTypes (0 ∷ 0 ∷ [])) 1 .alignment ≡ 4)
+unfolding alignTypes typeInner innerOf structMembers layoutOutcome recordAt fieldsOk resultAt valueAt layoutOf trySize alignmentOf membersAlignment
+align-differs = (refl, refl)
