@@ -1,0 +1,6 @@
+pub mod AcceptedLaws
+pub mod Powers
+pub mod RoundLaws
+pub mod TypeLaws
+pub mod Agreement
+pub mod Example
