@@ -1,1 +1,3 @@
 pub mod LayoutLaws
+pub mod AcceptedLaws
+pub mod Powers

@@ -1,5 +1,3 @@
-pub mod AcceptedLaws
-pub mod Powers
 pub mod RoundLaws
 pub mod TypeLaws
 pub mod Agreement

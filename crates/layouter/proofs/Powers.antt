@@ -18,9 +18,9 @@ use Rattle.records.proofs.TableLaws.{value-holds, all-ok, also-accepted}
 use Rattle.records.proofs.RecordLaws.{record-bounds}
 use Rattle.alignment.specs.Alignment.{Power}
 use Rattle.alignment.proofs.PowerLaws.{power-of-width, power-vector, power-product, power-cooperative, power-max}
 use Rattle.layouter.specs.declared.TypeLayout.{TypeLayout}
 use Rattle.layouter.specs.Layouter.{leafWidth, leafFactor, leafAlignment, baseAlignment, membersAlignment, alignmentOf, noLayout, layoutStep, layoutAt, layout, layoutOutcome}
-use Rattle.wgsl.proofs.AcceptedLaws.{leaf-accepted, base-accepted, member-accepted, layout-parts}
+use Rattle.layouter.proofs.AcceptedLaws.{leaf-accepted, base-accepted, member-accepted, layout-parts}
 
 -- one is a power of two
 power-one : Power 1
