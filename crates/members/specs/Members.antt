@@ -16,8 +16,19 @@ use Rattle.type_info.specs.declared.Verdict.{Verdict}
 use Rattle.type_info.specs.declared.Previous.{Previous}
 use Rattle.type_info.specs.declared.Previous.the-variants.{NoStruct, StructBefore}
 use Rattle.type_info.specs.declared.Row.{Row}
-use Rattle.type_info.specs.Verdict.{okVerdict, shareVerdict, memberVerdict, distanceVerdict, distanceOk, unsizedVerdict, minStorage}
+use Rattle.type_info.specs.declared.Distance.{Distance}
+use Rattle.type_info.specs.Verdict.{okVerdict, shareVerdict, memberVerdict, distanceVerdict, distanceOk, afterDistance, unsizedVerdict, minUniform, minStorage}
 use Rattle.members.specs.declared.Bounds.{Bounds}
+use Rattle.members.specs.declared.State.{State}
+use Rattle.members.specs.declared.Bounded.{Bounded}
+use Rattle.members.specs.declared.Bounded.the-variants as bounded
+use Rattle.members.specs.declared.Bounded.the-variants.{Within}
+use Rattle.members.specs.declared.Stepped.{Stepped}
+use Rattle.members.specs.declared.Stepped.the-variants as stepped
+use Rattle.members.specs.declared.Stepped.the-variants.{Took}
+use Rattle.members.specs.declared.Members.{Members}
+use Rattle.members.specs.declared.Members.the-variants as members
+use Rattle.members.specs.declared.Members.the-variants.{Taken}
 
 -- the struct that a member of this type is, for the distance of the next one
 abbrev pub structAt : TypeInner → (offset : ℕ) → Previous
@@ -44,16 +55,31 @@ isArray (Other o) = false
 abbrev pub memberFlags : (end offset flags : ℕ) → ℕ
 memberFlags end offset flags = pick (leb end offset) flags (notHostShareable flags)
 
--- member j of `count`, of the type whose row is r; numbers 17 to 21 in the Rust's order
-unfoldable pub memberBounds : (count span : ℕ) → Previous → TypeInner → (offset j : ℕ) → Row → Bounds → Result Bounds
-memberBounds count span previous inner offset j r so-far =
-    require (bit (r .flags) dataBit && bit (r .flags) creationResolvedBit) 17 j 0
-    (require (leb (so-far .end) offset || eqb offset 0) 18 j 0
+-- number 17: data of a size known at shader creation
+abbrev pub isMemberData : (flags : ℕ) → Bool
+isMemberData flags = bit flags dataBit && bit flags creationResolvedBit
+
+-- number 18: at or past the running end, or at 0
+abbrev pub isApart : (end offset : ℕ) → Bool
+isApart end offset = leb end offset || eqb offset 0
+
+-- number 20: sized, or an array that is the last member
+abbrev pub isMemberSized : (flags : ℕ) → TypeInner → (j count : ℕ) → Bool
+isMemberSized flags inner j count = bit flags sizedBit || isArray inner && eqb (suc j) count
+
+-- member j of `count`, of the type whose row is r; numbers 17 to 21 in the Rust's order. within: the distance from a struct before it can be told
+abbrev pub boundsBy : (count span : ℕ) (within : Bool) → TypeInner → (offset j : ℕ) → Row → Bounds → Result Bounds
+boundsBy count span within inner offset j r so-far =
+    require (isMemberData (r .flags)) 17 j 0
+    (require (isApart (so-far .end) offset) 18 j 0
     (require (leb (offset + r .size) most) 21 j 0
     (require (leb (offset + r .size) span) 19 j 0
-    (require (distanceOk previous offset) 21 j 0
-    (require (bit (r .flags) sizedBit || isArray inner && eqb (suc j) count) 20 j 0
+    (require within 21 j 0
+    (require (isMemberSized (r .flags) inner j count) 20 j 0
     (ok (record { end = offset + r .size; flags = memberFlags (so-far .end) offset (bitAnd (so-far .flags) (r .flags)) })))))))
+
+unfoldable pub memberBounds : (count span : ℕ) → Previous → TypeInner → (offset j : ℕ) → Row → Bounds → Result Bounds
+memberBounds count span previous inner offset j r so-far = boundsBy count span (distanceOk previous offset) inner offset j r so-far
 
 -- the running end and the flags after j members
 unfoldable pub boundsAfter : (inner : ℕ → TypeInner) (rows : ℕ → Row) (count span : ℕ) (members : List ℕ) → ℕ → Result Bounds
@@ -62,25 +88,73 @@ boundsAfter inner rows count span members (suc j) =
     andThen (boundsAfter inner rows count span members j)
     (memberBounds count span (previousOf inner members j) (inner (memberType members j)) (memberOffset members j) j (rows (memberType members j)))
 
+-- ---- verdicts: what member j, of type t with row r, makes of those so far
+abbrev pub memberUniform : (least i j t offset : ℕ) → Previous → Row → Verdict → Verdict
+memberUniform least i j t offset previous r so-far =
+    unsizedVerdict (bit (r .flags) sizedBit) i j
+    (distanceVerdict least i j offset previous
+    (memberVerdict i j offset (shareVerdict (bit (r .flags) hostShareableBit) t so-far) (r .uniform)))
+
+abbrev pub memberStorage : (i j t offset : ℕ) → Row → Verdict → Verdict
+memberStorage i j t offset r so-far = memberVerdict i j offset (shareVerdict (bit (r .flags) hostShareableBit) t so-far) (r .storage)
+
+-- the last failing member gives the immediates word
+abbrev pub memberImmediates : Row → ℕ → ℕ
+memberImmediates r so-far = pick (eqb (r .immediates) 0) so-far (r .immediates)
+
 -- ---- verdicts after j members
 unfoldable pub uniformAfter : (least : ℕ) (inner : ℕ → TypeInner) (rows : ℕ → Row) (i : ℕ) (members : List ℕ) → ℕ → Verdict
 uniformAfter least inner rows i members zero = okVerdict least
 uniformAfter least inner rows i members (suc j) =
-    unsizedVerdict (bit (rows (memberType members j) .flags) sizedBit) i j
-    (distanceVerdict least i j (memberOffset members j) (previousOf inner members j)
-    (memberVerdict i j (memberOffset members j)
-    (shareVerdict (bit (rows (memberType members j) .flags) hostShareableBit) (memberType members j) (uniformAfter least inner rows i members j))
-    (rows (memberType members j) .uniform)))
+    memberUniform least i j (memberType members j) (memberOffset members j) (previousOf inner members j) (rows (memberType members j))
+    (uniformAfter least inner rows i members j)
 
 unfoldable pub storageAfter : (rows : ℕ → Row) (i : ℕ) (members : List ℕ) → ℕ → Verdict
 storageAfter rows i members zero = okVerdict minStorage
 storageAfter rows i members (suc j) =
-    memberVerdict i j (memberOffset members j)
-    (shareVerdict (bit (rows (memberType members j) .flags) hostShareableBit) (memberType members j) (storageAfter rows i members j))
-    (rows (memberType members j) .storage)
+    memberStorage i j (memberType members j) (memberOffset members j) (rows (memberType members j)) (storageAfter rows i members j)
 
--- the last failing member gives the immediates word
 unfoldable pub immediatesAfter : (rows : ℕ → Row) (members : List ℕ) → ℕ → ℕ
 immediatesAfter rows members zero = 0
-immediatesAfter rows members (suc j) =
-    pick (eqb (rows (memberType members j) .immediates) 0) (immediatesAfter rows members j) (rows (memberType members j) .immediates)
+immediatesAfter rows members (suc j) = memberImmediates (rows (memberType members j)) (immediatesAfter rows members j)
+
+-- ---- what the code carries from member to member, and answers
+unfoldable pub stateAfter : (inner : ℕ → TypeInner) (rows : ℕ → Row) (i count span : ℕ) (members : List ℕ) → ℕ → Result State
+stateAfter inner rows i count span members j =
+    andThen (boundsAfter inner rows count span members j)
+    (λ b. ok (record {
+      bounds = b;
+      uniform = uniformAfter minUniform inner rows i members j;
+      storage = storageAfter rows i members j;
+      immediates = immediatesAfter rows members j;
+      previous = previousOf inner members j;
+    }))
+
+unfoldable pub memberStep : (i count span j t offset : ℕ) → TypeInner → Row → State → Result State
+memberStep i count span j t offset inner r s =
+    andThen (memberBounds count span (s .previous) inner offset j r (s .bounds))
+    (λ b. ok (record {
+      bounds = b;
+      uniform = memberUniform minUniform i j t offset (s .previous) r (s .uniform);
+      storage = memberStorage i j t offset r (s .storage);
+      immediates = memberImmediates r (s .immediates);
+      previous = structAt inner offset;
+    }))
+
+-- the uniform verdict by the distance that the code has
+abbrev pub uniformBy : Distance → (i j t offset : ℕ) → Row → Verdict → Verdict
+uniformBy d i j t offset r so-far =
+    unsizedVerdict (bit (r .flags) sizedBit) i j
+    (afterDistance d i j offset (memberVerdict i j offset (shareVerdict (bit (r .flags) hostShareableBit) t so-far) (r .uniform)))
+
+abbrev pub boundedResult : (j : ℕ) → Bounded → Result Bounds
+boundedResult j (Within b) = ok b
+boundedResult j (bounded.Refused number) = err number j 0
+
+abbrev pub steppedResult : (j : ℕ) → Stepped → Result State
+steppedResult j (Took s) = ok s
+steppedResult j (stepped.Refused number) = err number j 0
+
+abbrev pub membersResult : Members → Result State
+membersResult (Taken s) = ok s
+membersResult (members.Refused number member) = err number member 0

@@ -1,7 +1,7 @@
 -- 01, 'The result row': size, alignment, flags; uniform verdict (five words); storage verdict (five); immediates word.
 -- Assumes nothing.
 use mathlib.Core.List.{List, [], _∷_}
-use Prim.Native.Nat.{ℕ}
+use Prim.Native.Nat.{ℕ, _+_}
 use Rattle.rows.specs.Rows.{rowWord}
 use Rattle.type_info.specs.declared.Verdict.{Verdict}
 use Rattle.type_info.specs.declared.Row.{Row}
@@ -25,6 +25,17 @@ wordsOf r =
     ∷ r .immediates
     ∷ []
 
+-- the verdict in words j to j + 4 of row k
+abbrev pub verdictIn : List ℕ → (k j : ℕ) → Verdict
+verdictIn words k j =
+    record {
+      code = rowWord words k j;
+      ty = rowWord words k (j + 1);
+      index = rowWord words k (j + 2);
+      value = rowWord words k (j + 3);
+      bound = rowWord words k (j + 4);
+    }
+
 -- the rows that stand in words; past them a row of zeros
 unfoldable pub rowsIn : List ℕ → ℕ → Row
 rowsIn words k =
@@ -32,22 +43,8 @@ rowsIn words k =
       size = rowWord words k 0;
       alignment = rowWord words k 1;
       flags = rowWord words k 2;
-      uniform =
-          record {
-            code = rowWord words k 3;
-            ty = rowWord words k 4;
-            index = rowWord words k 5;
-            value = rowWord words k 6;
-            bound = rowWord words k 7;
-          };
-      storage =
-          record {
-            code = rowWord words k 8;
-            ty = rowWord words k 9;
-            index = rowWord words k 10;
-            value = rowWord words k 11;
-            bound = rowWord words k 12;
-          };
+      uniform = verdictIn words k 3;
+      storage = verdictIn words k 8;
       immediates = rowWord words k 13;
     }
 

@@ -7,6 +7,8 @@ use lib.Dec.{eqb, leb}
 use Rattle.records.specs.Result.{pick}
 use Rattle.alignment.specs.Alignment.{isAligned, roundUp, most}
 use Rattle.type_info.specs.declared.Verdict.{Verdict}
+use Rattle.type_info.specs.declared.Distance.{Distance}
+use Rattle.type_info.specs.declared.Distance.the-variants.{Enough, Short, Overflow}
 use Rattle.type_info.specs.declared.Previous.{Previous}
 use Rattle.type_info.specs.declared.Previous.the-variants.{NoStruct, StructBefore}
 
@@ -83,6 +85,17 @@ distanceOk (StructBefore span at) offset =
     leb at offset
     && leb (span + (minUniform - 1)) most
     && (leb (roundUp minUniform span) (offset - at) || leb (at + roundUp minUniform span) most)
+
+-- what the code answers of both at once
+abbrev pub isWithin : Distance → Bool
+isWithin Enough = true
+isWithin (Short expected) = true
+isWithin Overflow = false
+
+abbrev pub afterDistance : Distance → (i j offset : ℕ) → Verdict → Verdict
+afterDistance Enough i j offset so-far = so-far
+afterDistance (Short expected) i j offset so-far = memberOffsetAfterStruct i j offset expected
+afterDistance Overflow i j offset so-far = so-far
 
 -- a member that is not sized has no place in a uniform buffer; an earlier error stays
 unfoldable pub unsizedVerdict : (sized : Bool) (i j : ℕ) → Verdict → Verdict

@@ -20,30 +20,59 @@ use Rattle.width.specs.Width.{float, capability, checkWidth, atomicWidth, immed
 use Rattle.type_info.specs.declared.Verdict.{Verdict}
 use Rattle.type_info.specs.declared.Row.{Row}
 use Rattle.type_info.specs.Verdict.{minUniform, minStorage, okVerdict, arrayVerdict, spanVerdict}
+use Rattle.rows.specs.Rows.{withRow}
+use Rattle.type_info.specs.TypeInfo.{wordsOf}
 use Rattle.members.specs.declared.Bounds.{Bounds}
+use Rattle.valid.specs.declared.Flagged.{Flagged}
+use Rattle.valid.specs.declared.Flagged.the-variants as flagged
+use Rattle.valid.specs.declared.Flagged.the-variants.{Flags}
+use Rattle.valid.specs.declared.Judged.{Judged}
+use Rattle.valid.specs.declared.Judged.the-variants as judged
+use Rattle.valid.specs.declared.Judged.the-variants.{Made}
 use Rattle.members.specs.Members.{boundsAfter, uniformAfter, storageAfter, immediatesAfter}
 
 -- ---- flags of a leaf, numbers 8 to 12
-unfoldable pub leafFlags : (c : ℕ) → Leaf → Result ℕ
-leafFlags c (Scalar kind width) = andThen (checkWidth c kind width) (λ _. ok (scalarFlags kind (startingFlags scalarKind)))
-leafFlags c (Vector size kind width) = andThen (checkWidth c kind width) (λ _. ok (scalarFlags kind (startingFlags vectorKind)))
-leafFlags c (Matrix columns rows kind width) =
-    require (eqb kind float) 11 0 0 (andThen (checkWidth c kind width) (λ _. ok (startingFlags matrixKind)))
-leafFlags c (CooperativeMatrix columns rows kind width role) =
+-- where the width is allowed
+abbrev pub withWidth : Result (Unit {0}) → (flags : ℕ) → Result ℕ
+withWidth width flags = andThen width (λ _. ok flags)
+
+abbrev pub cooperativeFlags : (c kind width : ℕ) → Result ℕ
+cooperativeFlags c kind width =
     capability c cooperativeMatrix
     (require (eqb kind float && (eqb width 2 || eqb width 4)) 11 0 0 (ok (startingFlags cooperativeMatrixKind)))
-leafFlags c (Atomic kind width) = andThen (atomicWidth c kind width) (λ _. ok (startingFlags atomicKind))
-leafFlags c (RayQuery vertexReturn) =
-    capability c rayQuery (require (eqb vertexReturn 0 || bit c rayHitVertexPosition) 8 0 rayHitVertexPosition (ok (startingFlags rayQueryKind)))
+
+-- vertex_return asks for a capability of its own
+abbrev pub vertexFlags : (c vertexReturn flags : ℕ) → Result ℕ
+vertexFlags c vertexReturn flags = require (eqb vertexReturn 0 || bit c rayHitVertexPosition) 8 0 rayHitVertexPosition (ok flags)
+
+unfoldable pub leafFlags : (c : ℕ) → Leaf → Result ℕ
+leafFlags c (Scalar kind width) = withWidth (checkWidth c kind width) (scalarFlags kind (startingFlags scalarKind))
+leafFlags c (Vector size kind width) = withWidth (checkWidth c kind width) (scalarFlags kind (startingFlags vectorKind))
+leafFlags c (Matrix columns rows kind width) = require (eqb kind float) 11 0 0 (withWidth (checkWidth c kind width) (startingFlags matrixKind))
+leafFlags c (CooperativeMatrix columns rows kind width role) = cooperativeFlags c kind width
+leafFlags c (Atomic kind width) = withWidth (atomicWidth c kind width) (startingFlags atomicKind)
+leafFlags c (RayQuery vertexReturn) = capability c rayQuery (vertexFlags c vertexReturn (startingFlags rayQueryKind))
 
 -- ---- flags of what is no data
 -- dims 0 to 3 are D1, D2, D3 and Cube; class 2 is External. Number 22, and 8
+abbrev pub isFlat : (dim arrayed : ℕ) → Bool
+isFlat dim arrayed = not (eqb arrayed 1 && eqb dim 2)
+
+abbrev pub cubeAllowed : (c dim arrayed : ℕ) → Bool
+cubeAllowed c dim arrayed = not (eqb arrayed 1 && eqb dim 3) || bit c cubeArrayTextures
+
+abbrev pub isExternalForm : (dim arrayed class : ℕ) → Bool
+isExternalForm dim arrayed class = not (eqb class 2) || eqb dim 1 && eqb arrayed 0
+
+abbrev pub externalAllowed : (c class : ℕ) → Bool
+externalAllowed c class = not (eqb class 2) || bit c textureExternal
+
 abbrev pub imageFlags : (c dim arrayed class : ℕ) → Result ℕ
 imageFlags c dim arrayed class =
-    require (not (eqb arrayed 1 && eqb dim 2)) 22 0 0
-    (require (not (eqb arrayed 1 && eqb dim 3) || bit c cubeArrayTextures) 8 0 cubeArrayTextures
-    (require (not (eqb class 2) || eqb dim 1 && eqb arrayed 0) 22 0 0
-    (require (not (eqb class 2) || bit c textureExternal) 8 0 textureExternal (ok (startingFlags imageKind)))))
+    require (isFlat dim arrayed) 22 0 0
+    (require (cubeAllowed c dim arrayed) 8 0 cubeArrayTextures
+    (require (isExternalForm dim arrayed class) 22 0 0
+    (require (externalAllowed c class) 8 0 textureExternal (ok (startingFlags imageKind)))))
 
 abbrev pub isStruct : TypeInner → Bool
 isStruct (Plain leaf) = false
@@ -64,22 +93,34 @@ isExternalImage (Other Sampler) = false
 isExternalImage (Other (AccelerationStructure vertexReturn)) = false
 isExternalImage (Other (BindingArray base form count)) = false
 
--- numbers 13, 14, 23, 24 and 17; space 4 is Storage
+-- numbers 13 and 14, by the flags of the base; space 4 is Storage
+abbrev pub pointerTo : (base space : ℕ) → Result ℕ
+pointerTo base space =
+    require (bit base dataBit) 13 0 0
+    (require (bit base sizedBit || eqb space 4) 14 0 0 (ok (pointerFlags space (startingFlags pointerKind))))
+
+-- one of the two ray capabilities; the missing one that is reported is RAY_QUERY
+abbrev pub accelerationFlags : (c vertexReturn : ℕ) → Result ℕ
+accelerationFlags c vertexReturn =
+    require (bit c rayTracingPipeline || bit c rayQuery) 8 0 rayQuery (vertexFlags c vertexReturn (startingFlags accelerationStructureKind))
+
+-- numbers 23, 24 and 17, by what the base is and its flags
+abbrev pub isBindingBase : TypeInner → (base : ℕ) → Bool
+isBindingBase inner base = not (bit base dataBit) || isStruct inner
+
+abbrev pub bindingArrayOf : TypeInner → (base form : ℕ) → Result ℕ
+bindingArrayOf inner base form =
+    require (isBindingBase inner base) 23 0 0
+    (require (not (isExternalImage inner)) 24 0 0
+    (require (bit base creationResolvedBit) 17 0 0 (ok (bindingArrayFlags form base))))
+
 unfoldable pub nonDataFlags : (c : ℕ) (inner : ℕ → TypeInner) (rows : ℕ → Row) → NonData → Result ℕ
-nonDataFlags c inner rows (Pointer base space) =
-    require (bit (rows base .flags) dataBit) 13 0 0
-    (require (bit (rows base .flags) sizedBit || eqb space 4) 14 0 0 (ok (pointerFlags space (startingFlags pointerKind))))
-nonDataFlags c inner rows (ValuePointer kind width space) =
-    andThen (checkWidth c kind width) (λ _. ok (pointerFlags space (startingFlags valuePointerKind)))
+nonDataFlags c inner rows (Pointer base space) = pointerTo (rows base .flags) space
+nonDataFlags c inner rows (ValuePointer kind width space) = withWidth (checkWidth c kind width) (pointerFlags space (startingFlags valuePointerKind))
 nonDataFlags c inner rows (Image dim arrayed class) = imageFlags c dim arrayed class
 nonDataFlags c inner rows Sampler = ok (startingFlags samplerKind)
-nonDataFlags c inner rows (AccelerationStructure vertexReturn) =
-    require (bit c rayTracingPipeline || bit c rayQuery) 8 0 rayQuery
-    (require (eqb vertexReturn 0 || bit c rayHitVertexPosition) 8 0 rayHitVertexPosition (ok (startingFlags accelerationStructureKind)))
-nonDataFlags c inner rows (BindingArray base form count) =
-    require (not (bit (rows base .flags) dataBit) || isStruct (inner base)) 23 0 0
-    (require (not (isExternalImage (inner base))) 24 0 0
-    (require (bit (rows base .flags) creationResolvedBit) 17 0 0 (ok (bindingArrayFlags form (rows base .flags)))))
+nonDataFlags c inner rows (AccelerationStructure vertexReturn) = accelerationFlags c vertexReturn
+nonDataFlags c inner rows (BindingArray base form count) = bindingArrayOf (inner base) (rows base .flags) form
 
 -- ---- number 15: what an array's base has to be
 abbrev pub isArrayBase : (flags : ℕ) → Bool
@@ -156,3 +197,41 @@ rowOf least inner rows i layout this members flags =
 unfoldable pub judge : (c : ℕ) (inner : ℕ → TypeInner) (rows : ℕ → Row) (i : ℕ) → TypeLayout → TypeInner → (members : List ℕ) → Result Row
 judge c inner rows i layout this members =
     andThen (flagsOf c inner rows this members) (λ flags. ok (rowOf minUniform inner rows i layout this members flags))
+
+-- ---- what the code answers
+abbrev pub flaggedResult : Flagged → Result ℕ
+flaggedResult (Flags flags) = ok flags
+flaggedResult (flagged.Refused number member detail) = err number member detail
+
+abbrev pub judgedResult : Judged → Result Row
+judgedResult (Made r) = ok r
+judgedResult (judged.Refused number member detail) = err number member detail
+
+-- a row with these flags and one alignment in both verdicts
+abbrev pub plainRow : TypeLayout → (alignment immediates : ℕ) → (flags : ℕ) → Row
+plainRow layout alignment immediates flags =
+    record {
+      size = layout .size;
+      alignment = layout .alignment;
+      flags = flags;
+      uniform = okVerdict alignment;
+      storage = okVerdict alignment;
+      immediates = immediates;
+    }
+
+-- the row of an array over a base, with the flags that its form leaves
+abbrev pub arrayRow : (i stride : ℕ) → (base : Row) → TypeLayout → (flags : ℕ) → Row
+arrayRow i stride base layout flags =
+    record {
+      size = layout .size;
+      alignment = layout .alignment;
+      flags = flags;
+      uniform = arrayVerdict minUniform i stride (base .alignment) (base .uniform);
+      storage = arrayVerdict minStorage i stride (base .alignment) (base .storage);
+      immediates = base .immediates;
+    }
+
+-- what one type's judgement, to be written from `at` on, makes of the lent words
+abbrev pub rowsWith : Judged → (at : ℕ) → List ℕ → List ℕ
+rowsWith (Made r) at words = withRow words at (wordsOf r)
+rowsWith (judged.Refused number member detail) at words = words

@@ -1,1 +1,464 @@
 // validate_type of naga's valid/type.rs, and the arena check.
+use layouter::TypeLayout;
+use members::Members;
+use records::{Leaf, NonData, Outcome, TypeInner};
+use type_info::Row;
+use width::Width;
+ghost use mathlib.Core.Path.{_≡_};
+ghost use Prim.Native.Nat.{ℕ, _+_, _*_, _≤_, _<_};
+ghost use lib.ListN.{length, take};
+ghost use Rattle.records.specs.Result.{err, ok, require, andThen};
+ghost use Rattle.records.specs.Record.{decoded, typeInner, structMembers, typeCount};
+ghost use Rattle.records.specs.Fields.{LeafBounds, InnerBounds};
+ghost use Rattle.records.specs.Table.{firstRefusal};
+ghost use Rattle.records.specs.declared.TypeInner.the-variants.{Struct, Other};
+ghost use Rattle.layouter.specs.Layouter.{layoutsIn, layoutRows, rowsAfter};
+ghost use Rattle.width.specs.Width.{widthResult};
+ghost use Rattle.type_info.specs.TypeInfo.{rowsIn};
+ghost use Rattle.valid.specs.Valid.{isFlat, cubeAllowed, isExternalForm, externalAllowed, isBindingBase, cooperativeFlags, pointerTo, accelerationFlags, bindingArrayOf, leafFlags, imageFlags, isStruct, isExternalImage, nonDataFlags, isArrayBase, leafVerdictAlignment, leafImmediates, judge, flaggedResult, judgedResult, plainRow, arrayRow, rowsWith, withWidth, vertexFlags};
+ghost use Rattle.valid.specs.Arena.{judgedAt, arenaRows, arenaAnswer, arenaWords};
+
+// The flags of a type, or its refusal.
+pub enum Flagged {
+    Flags(u32),
+    Refused { number: u32, member: u32, detail: u32 },
+}
+
+pub enum Judged {
+    Made(Row),
+    Refused { number: u32, member: u32, detail: u32 },
+}
+
+const ROW_WORDS: usize = 14;
+const MIN_UNIFORM: u32 = 16;
+const MIN_STORAGE: u32 = 1;
+const FLOAT: u32 = 2;
+const STORAGE_SPACE: u32 = 4;
+const D2: u32 = 1;
+const D3: u32 = 2;
+const CUBE: u32 = 3;
+const EXTERNAL: u32 = 2;
+const COOPERATIVE_MATRIX: u32 = 7;
+const CUBE_ARRAY_TEXTURES: u32 = 8;
+const TEXTURE_EXTERNAL: u32 = 9;
+const RAY_QUERY: u32 = 10;
+const RAY_TRACING_PIPELINE: u32 = 11;
+const RAY_HIT_VERTEX_POSITION: u32 = 12;
+
+fn refused(number: u32) -> Flagged
+    ensures { λ r. ⌜ flaggedResult r ≡ err number 0 0 ⌝ }
+{
+    Flagged::Refused { number, member: 0, detail: 0 }
+}
+
+// Number 8, with the capability's bit.
+fn missing(bit: u32) -> Flagged
+    ensures { λ r. ⌜ flaggedResult r ≡ err 8 0 bit ⌝ }
+{
+    Flagged::Refused { number: 8, member: 0, detail: bit }
+}
+
+// The flags, where the width is allowed.
+fn with_width(width: Width, flags: u32) -> Flagged
+    ensures { λ r. ⌜ flaggedResult r ≡ withWidth (widthResult width) flags ⌝ }
+{
+    match width {
+        Width::Allowed => Flagged::Flags(flags),
+        Width::Refused { number, detail } => Flagged::Refused { number, member: 0, detail },
+    }
+}
+
+fn cooperative_flags(capabilities: u32, kind: u32, width: u32) -> Flagged
+    ensures { λ r. ⌜ flaggedResult r ≡ cooperativeFlags capabilities kind width ⌝ }
+{
+    if !flags::capable(capabilities, COOPERATIVE_MATRIX) {
+        return missing(COOPERATIVE_MATRIX);
+    }
+    if (kind == FLOAT) & ((width == 2) | (width == 4)) {
+        return Flagged::Flags(flags::starting_flags(3));
+    }
+    refused(11)
+}
+
+// vertex_return asks for a capability of its own.
+fn vertex_flags(capabilities: u32, vertex_return: u32, flags: u32) -> Flagged
+    ensures { λ r. ⌜ flaggedResult r ≡ vertexFlags capabilities «vertex_return» flags ⌝ }
+{
+    if (vertex_return == 0) | flags::capable(capabilities, RAY_HIT_VERTEX_POSITION) {
+        return Flagged::Flags(flags);
+    }
+    missing(RAY_HIT_VERTEX_POSITION)
+}
+
+fn leaf_flags(capabilities: u32, leaf: Leaf) -> Flagged
+    ensures { λ r. ⌜ flaggedResult r ≡ leafFlags capabilities leaf ⌝ }
+{
+    match leaf {
+        Leaf::Scalar(kind, width) => with_width(
+            width::check_width(capabilities, kind, width),
+            flags::scalar_flags(kind, flags::starting_flags(0)),
+        ),
+        Leaf::Vector(_, kind, width) => with_width(
+            width::check_width(capabilities, kind, width),
+            flags::scalar_flags(kind, flags::starting_flags(1)),
+        ),
+        Leaf::Matrix(_, _, kind, width) => {
+            if kind != FLOAT {
+                return refused(11);
+            }
+            with_width(width::check_width(capabilities, kind, width), flags::starting_flags(2))
+        }
+        Leaf::CooperativeMatrix(_, _, kind, width, _) => cooperative_flags(capabilities, kind, width),
+        Leaf::Atomic(kind, width) => with_width(
+            width::atomic_width(capabilities, kind, width),
+            flags::starting_flags(4),
+        ),
+        Leaf::RayQuery(vertex_return) => {
+            if flags::capable(capabilities, RAY_QUERY) {
+                return vertex_flags(capabilities, vertex_return, flags::starting_flags(12));
+            }
+            missing(RAY_QUERY)
+        }
+    }
+}
+
+// Number 22: a D3 image is not arrayed.
+fn is_flat(dim: u32, arrayed: u32) -> bool
+    ensures { λ r. ⌜ r ≡ isFlat dim arrayed ⌝ }
+{
+    !((arrayed == 1) & (dim == D3))
+}
+
+fn cube_allowed(capabilities: u32, dim: u32, arrayed: u32) -> bool
+    ensures { λ r. ⌜ r ≡ cubeAllowed capabilities dim arrayed ⌝ }
+{
+    let capable = flags::capable(capabilities, CUBE_ARRAY_TEXTURES);
+    !((arrayed == 1) & (dim == CUBE)) | capable
+}
+
+// Number 22: an external image is D2 and not arrayed.
+fn is_external_form(dim: u32, arrayed: u32, class: u32) -> bool
+    ensures { λ r. ⌜ r ≡ isExternalForm dim arrayed class ⌝ }
+{
+    !(class == EXTERNAL) | (dim == D2) & (arrayed == 0)
+}
+
+fn external_allowed(capabilities: u32, class: u32) -> bool
+    ensures { λ r. ⌜ r ≡ externalAllowed capabilities class ⌝ }
+{
+    let capable = flags::capable(capabilities, TEXTURE_EXTERNAL);
+    !(class == EXTERNAL) | capable
+}
+
+fn image_flags(capabilities: u32, dim: u32, arrayed: u32, class: u32) -> Flagged
+    ensures { λ r. ⌜ flaggedResult r ≡ imageFlags capabilities dim arrayed class ⌝ }
+{
+    if !is_flat(dim, arrayed) {
+        return refused(22);
+    }
+    if !cube_allowed(capabilities, dim, arrayed) {
+        return missing(CUBE_ARRAY_TEXTURES);
+    }
+    if !is_external_form(dim, arrayed, class) {
+        return refused(22);
+    }
+    if !external_allowed(capabilities, class) {
+        return missing(TEXTURE_EXTERNAL);
+    }
+    Flagged::Flags(flags::starting_flags(9))
+}
+
+// A pointer to a base with these flags.
+fn pointer_to(base: u32, space: u32) -> Flagged
+    ensures { λ r. ⌜ flaggedResult r ≡ pointerTo base space ⌝ }
+{
+    if !flags::is_data(base) {
+        return refused(13);
+    }
+    if flags::is_sized(base) | (space == STORAGE_SPACE) {
+        return Flagged::Flags(flags::pointer_flags(space, flags::starting_flags(5)));
+    }
+    refused(14)
+}
+
+fn is_struct(inner: TypeInner) -> bool
+    ensures { λ r. ⌜ r ≡ isStruct inner ⌝ }
+{
+    match inner {
+        TypeInner::Plain(_) => false,
+        TypeInner::Array { base: _, count: _, stride: _ } => false,
+        TypeInner::RuntimeArray { base: _, stride: _ } => false,
+        TypeInner::Struct { count: _, span: _ } => true,
+        TypeInner::Other(_) => false,
+    }
+}
+
+fn is_external(o: NonData) -> bool
+    ensures { λ r. ⌜ r ≡ isExternalImage (Other o) ⌝ }
+{
+    match o {
+        NonData::Pointer(_, _) => false,
+        NonData::ValuePointer(_, _, _) => false,
+        NonData::Image(_, _, class) => class == EXTERNAL,
+        NonData::Sampler => false,
+        NonData::AccelerationStructure(_) => false,
+        NonData::BindingArray(_, _, _) => false,
+    }
+}
+
+fn is_external_image(inner: TypeInner) -> bool
+    ensures { λ r. ⌜ r ≡ isExternalImage inner ⌝ }
+{
+    match inner {
+        TypeInner::Plain(_) => false,
+        TypeInner::Array { base: _, count: _, stride: _ } => false,
+        TypeInner::RuntimeArray { base: _, stride: _ } => false,
+        TypeInner::Struct { count: _, span: _ } => false,
+        TypeInner::Other(o) => is_external(o),
+    }
+}
+
+// Number 23: data in a binding array is a struct.
+fn is_binding_base(inner: TypeInner, base: u32) -> bool
+    ensures { λ r. ⌜ r ≡ isBindingBase inner base ⌝ }
+{
+    !flags::is_data(base) | is_struct(inner)
+}
+
+// A binding array over a base with these flags.
+fn binding_array_of(inner: TypeInner, base: u32, form: u32) -> Flagged
+    ensures { λ r. ⌜ flaggedResult r ≡ bindingArrayOf inner base form ⌝ }
+{
+    if !is_binding_base(inner, base) {
+        return refused(23);
+    }
+    if is_external_image(inner) {
+        return refused(24);
+    }
+    if flags::is_creation_resolved(base) {
+        return Flagged::Flags(flags::binding_array_flags(form, base));
+    }
+    refused(17)
+}
+
+fn acceleration_flags(capabilities: u32, vertex_return: u32) -> Flagged
+    ensures { λ r. ⌜ flaggedResult r ≡ accelerationFlags capabilities «vertex_return» ⌝ }
+{
+    if flags::capable(capabilities, RAY_TRACING_PIPELINE) | flags::capable(capabilities, RAY_QUERY) {
+        return vertex_flags(capabilities, vertex_return, flags::starting_flags(11));
+    }
+    missing(RAY_QUERY)
+}
+
+fn non_data_flags(capabilities: u32, types: &[u32], rows: &[u32], o: NonData) -> Flagged
+    ensures { λ r. ⌜ flaggedResult r ≡ nonDataFlags capabilities (typeInner (now (types .entry))) (rowsIn (now (rows .entry))) o ⌝ }
+{
+    match o {
+        NonData::Pointer(base, space) => pointer_to(rows::row_word(rows, base, 2), space),
+        NonData::ValuePointer(kind, width, space) => with_width(
+            width::check_width(capabilities, kind, width),
+            flags::pointer_flags(space, flags::starting_flags(6)),
+        ),
+        NonData::Image(dim, arrayed, class) => image_flags(capabilities, dim, arrayed, class),
+        NonData::Sampler => Flagged::Flags(flags::starting_flags(10)),
+        NonData::AccelerationStructure(vertex_return) => acceleration_flags(capabilities, vertex_return),
+        NonData::BindingArray(base, form, _) => binding_array_of(
+            records::type_inner(types, base),
+            rows::row_word(rows, base, 2),
+            form,
+        ),
+    }
+}
+
+fn leaf_verdict_alignment(leaf: Leaf) -> u32
+    requires { ⌜ LeafBounds leaf ⌝ }
+    ensures { λ r. ⌜ r ≡ leafVerdictAlignment leaf ⌝ }
+{
+    match leaf {
+        Leaf::Scalar(_, width) => width,
+        Leaf::Vector(size, _, width) => {
+            let product = alignment::vector_alignment(size) * width;
+            product
+        }
+        Leaf::Matrix(_, rows, _, width) => {
+            let product = alignment::vector_alignment(rows) * width;
+            product
+        }
+        Leaf::CooperativeMatrix(_, _, _, width, _) => width,
+        Leaf::Atomic(_, width) => width,
+        Leaf::RayQuery(_) => 1,
+    }
+}
+
+fn leaf_immediates(leaf: Leaf) -> u32
+    ensures { λ r. ⌜ r ≡ leafImmediates leaf ⌝ }
+{
+    match leaf {
+        Leaf::Scalar(kind, width) => width::immediates_word(kind, width),
+        Leaf::Vector(_, kind, width) => width::immediates_word(kind, width),
+        Leaf::Matrix(_, _, kind, width) => width::immediates_word(kind, width),
+        Leaf::CooperativeMatrix(_, _, _, _, _) => 0,
+        Leaf::Atomic(_, _) => 0,
+        Leaf::RayQuery(_) => 0,
+    }
+}
+
+// A row with one alignment in both verdicts.
+fn plain_row(flagged: Flagged, layout: TypeLayout, alignment: u32, immediates: u32) -> Judged
+    ensures { λ r. ⌜ judgedResult r ≡ andThen (flaggedResult flagged) (λ f. ok (plainRow layout alignment immediates f)) ⌝ }
+{
+    match flagged {
+        Flagged::Flags(flags) => {
+            let verdict = type_info::ok_verdict(alignment);
+            Judged::Made(Row {
+                size: layout.size,
+                alignment: layout.alignment,
+                flags,
+                uniform: verdict,
+                storage: verdict,
+                immediates,
+            })
+        }
+        Flagged::Refused { number, member, detail } => Judged::Refused { number, member, detail },
+    }
+}
+
+// Number 15 for a base that cannot be an element.
+fn is_array_base(flags: u32) -> bool
+    ensures { λ r. ⌜ r ≡ isArrayBase flags ⌝ }
+{
+    flags::is_data(flags) & flags::is_sized(flags) & flags::is_creation_resolved(flags)
+}
+
+// An array over this base, with the flags that its form leaves.
+fn array_row(i: u32, stride: u32, base: Row, layout: TypeLayout, flags: u32) -> Judged
+    ensures { λ r. ⌜ judgedResult r ≡ require (isArrayBase (base .flags)) 15 0 0 (ok (arrayRow i stride base layout flags)) ⌝ }
+{
+    if is_array_base(base.flags) {
+        let uniform = type_info::array_verdict(MIN_UNIFORM, i, stride, base.alignment, base.uniform);
+        let storage = type_info::array_verdict(MIN_STORAGE, i, stride, base.alignment, base.storage);
+        return Judged::Made(Row {
+            size: layout.size,
+            alignment: layout.alignment,
+            flags,
+            uniform,
+            storage,
+            immediates: base.immediates,
+        });
+    }
+    Judged::Refused { number: 15, member: 0, detail: 0 }
+}
+
+fn struct_row(types: &[u32], rows: &[u32], i: u32, layout: TypeLayout, part: &[u32], count: u32, span: u32) -> Judged
+    ensures { λ r. ⌜ judgedResult r ≡ judge 0 (typeInner (now (types .entry))) (rowsIn (now (rows .entry))) i layout (Struct count span) (now (part .entry)) ⌝ }
+{
+    if count == 0 {
+        return Judged::Refused { number: 16, member: 0, detail: 0 };
+    }
+    match members::members_of(types, rows, i, part, count, span) {
+        Members::Taken(state) => {
+            let bounds = state.bounds;
+            let uniform = type_info::span_verdict(i, span, layout.alignment, state.uniform);
+            let storage = type_info::span_verdict(i, span, layout.alignment, state.storage);
+            Judged::Made(Row {
+                size: layout.size,
+                alignment: layout.alignment,
+                flags: bounds.flags,
+                uniform,
+                storage,
+                immediates: state.immediates,
+            })
+        }
+        Members::Refused { number, member } => Judged::Refused { number, member, detail: 0 },
+    }
+}
+
+// The row of type i; rows has those of the types before it, part the struct's member rows.
+fn judge(capabilities: u32, types: &[u32], rows: &[u32], i: u32, layout: TypeLayout, inner: TypeInner, part: &[u32]) -> Judged
+    requires { ⌜ InnerBounds inner ⌝ }
+    ensures { λ r. ⌜ judgedResult r ≡ judge capabilities (typeInner (now (types .entry))) (rowsIn (now (rows .entry))) i layout inner (now (part .entry)) ⌝ }
+{
+    match inner {
+        TypeInner::Plain(leaf) => plain_row(
+            leaf_flags(capabilities, leaf),
+            layout,
+            leaf_verdict_alignment(leaf),
+            leaf_immediates(leaf),
+        ),
+        TypeInner::Array { base, count: _, stride } => {
+            let row = type_info::row_at(rows, base);
+            array_row(i, stride, row, layout, flags::array_flags(row.flags))
+        }
+        TypeInner::RuntimeArray { base, stride } => {
+            let row = type_info::row_at(rows, base);
+            array_row(i, stride, row, layout, flags::runtime_array_flags(row.flags))
+        }
+        TypeInner::Struct { count, span } => struct_row(types, rows, i, layout, part, count, span),
+        TypeInner::Other(o) => plain_row(non_data_flags(capabilities, types, rows, o), layout, 1, 0),
+    }
+}
+
+// The row of type i, written over its layout where there is one.
+fn judge_at(capabilities: u32, types: &[u32], members: &[u32], rows: &mut [u32], i: u32) -> Judged
+    requires { ⌜ i * 14 + 14 ≤ length (now rows) ⌝ }
+    requires { ⌜ InnerBounds (typeInner (now types) i) ⌝ }
+    ensures { λ r. ⌜ judgedResult r ≡ judge capabilities (typeInner (now (types .entry))) (rowsIn (take (i * 14) (now (rows .entry)))) i (layoutsIn (now (rows .entry)) i) (typeInner (now (types .entry)) i) (structMembers (now (types .entry)) (now (members .entry)) i) ⌝ }
+    ensures { λ r. ⌜ now (rows .exit) ≡ rowsWith r (i * 14) (now (rows .entry)) ⌝ }
+{
+    let at = (i as usize) * ROW_WORDS;
+    let inner = records::type_inner(types, i);
+    let part = records::struct_members(types, members, i);
+    let layout = TypeLayout {
+        size: rows::row_word(rows, i, 0),
+        alignment: rows::row_word(rows, i, 1),
+    };
+    let judged = judge(capabilities, types, &rows[..at], i, layout, inner, part);
+    match judged {
+        Judged::Made(row) => {
+            type_info::put(rows, at, row);
+            judged
+        }
+        Judged::Refused { number: _, member: _, detail: _ } => judged,
+    }
+}
+
+// Judges n laid-out types in order; their rows, or zeros.
+fn judge_all(capabilities: u32, types: &[u32], members: &[u32], rows: &mut [u32], n: u32) -> Outcome
+    requires { ⌜ n * 14 ≤ length (now rows) ⌝ }
+    requires { ⌜ ((i : ℕ) → i < n → InnerBounds (typeInner (now types) i)) ⌝ }
+    requires { ⌜ take (n * 14) (now rows) ≡ layoutRows (now types) (now members) n ⌝ }
+    ensures { λ r. ⌜ r ≡ firstRefusal (judgedAt capabilities (decoded (now (types .entry)) (now (members .entry)))) n ⌝ }
+    ensures { λ r. ⌜ now (rows .exit) ≡ rowsAfter r (arenaRows capabilities (now (types .entry)) (now (members .entry)) n) n (now (rows .entry)) ⌝ }
+{
+    let mut i: u32 = 0;
+    while i < n {
+        match judge_at(capabilities, types, members, rows, i) {
+            Judged::Made(_) => {}
+            Judged::Refused { number, member, detail } => {
+                let words = (n as usize) * ROW_WORDS;
+                rows::clear(rows, words);
+                return Outcome::Refused { number, ty: i, member, detail };
+            }
+        }
+        i += 1;
+    }
+    Outcome::Accepted
+}
+
+// The arena check: the answer, and the rows of all types in the lent words. Nothing is asked of the caller.
+pub fn check(types: &[u32], members: &[u32], capabilities: u32, rows: &mut [u32]) -> Outcome
+    ensures { λ r. ⌜ r ≡ arenaAnswer capabilities (now (types .entry)) (now (members .entry)) (now (rows .entry)) ⌝ }
+    ensures { λ _. ⌜ now (rows .exit) ≡ arenaWords capabilities (now (types .entry)) (now (members .entry)) (now (rows .entry)) ⌝ }
+{
+    if !records::capabilities_known(capabilities) {
+        return Outcome::Refused { number: 1, ty: 0, member: 0, detail: 0 };
+    }
+    let laid = layouter::layout(types, members, rows);
+    match laid {
+        Outcome::Accepted => {
+            let n = (types.len() / 6) as u32;
+            judge_all(capabilities, types, members, rows, n)
+        }
+        Outcome::Refused { number: _, ty: _, member: _, detail: _ } => laid,
+    }
+}

@@ -104,9 +104,9 @@ atomicWidth c kind width =
     (pick (eqb kind float && eqb width 4) (allowedWith (bit c shaderFloat32Atomic) shaderFloat32Atomic)
     (err 12 0 0))
 
--- ---- the immediates word: 0, or 1 plus the scalar kind, for a scalar of width 2
+-- ---- the immediates word: 0, or 1 plus the scalar kind, for an integer or float of width 2
 abbrev pub immediatesWord : (kind width : ℕ) → ℕ
-immediatesWord kind width = pick (eqb width 2) (1 + kind) 0
+immediatesWord kind width = pick (eqb width 2 && leb kind float) (1 + kind) 0
 
 -- what the code answers
 abbrev pub widthResult : Width → Result (Unit {0})
