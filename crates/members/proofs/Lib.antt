@@ -1,1 +1,1 @@
-pub mod MemberLaws
+pub mod StateLaws

@@ -1,3 +1,3 @@
-pub mod JudgeLaws
+pub mod RowParts
 pub mod JudgeRows
 pub mod CheckLaws

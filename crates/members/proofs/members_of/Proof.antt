@@ -10,7 +10,7 @@ use Rattle.records.specs.Result.{ok}
 use Rattle.records.specs.Record.{typeInner}
 use Rattle.type_info.specs.TypeInfo.{rowsIn}
 use Rattle.members.specs.Members.{stateAfter, boundsAfter, uniformAfter, storageAfter, immediatesAfter, previousOf}
-use Rattle.members.proofs.MemberLaws.{state-step, state-refused}
+use Rattle.members.proofs.StateLaws.{state-step, state-refused}
 use Rattle.members.proofs.members_of.Statement.{statement}
 use Rattle.members.proofs.members_of.Tie as tie
 

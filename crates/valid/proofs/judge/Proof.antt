@@ -4,7 +4,7 @@ use denote.Ref.{now}
 use Rattle.flags.specs.Flags.{arrayFlags, runtimeArrayFlags}
 use Rattle.type_info.specs.TypeInfo.{rowsIn}
 use Rattle.valid.specs.Valid.{judge, flagsOf, rowOf, uniformOf, storageOf, immediatesOf, isArrayBase}
-use Rattle.valid.proofs.JudgeLaws.{require-then}
+use Rattle.valid.proofs.RowParts.{require-then}
 use Rattle.valid.proofs.judge.Statement.{statement}
 use Rattle.valid.proofs.judge.Tie as tie
 

@@ -7,7 +7,7 @@ use borrow.Author.Tests.{lt-ltb}
 use Rattle.records.specs.Record.{typeInner}
 use Rattle.type_info.specs.TypeInfo.{rowsIn}
 use Rattle.valid.specs.Valid.{judge, flagsOf, rowOf, uniformOf, storageOf, immediatesOf}
-use Rattle.valid.proofs.JudgeLaws.{state-parts, state-error}
+use Rattle.valid.proofs.RowParts.{state-parts, state-error}
 use Rattle.valid.proofs.struct_row.Statement.{statement}
 use Rattle.valid.proofs.struct_row.Tie as tie
 
