@@ -1,1 +1,4 @@
 pub mod LayoutLaws
+pub mod LayoutAccepted
+pub mod LayoutPower
+pub mod TableSame
