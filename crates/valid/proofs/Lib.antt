@@ -1,0 +1,3 @@
+pub mod CapabilityLaws
+pub mod JudgeLaws
+pub mod DependLaws
