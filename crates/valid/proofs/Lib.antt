@@ -1,3 +1,4 @@
 pub mod CapabilityLaws
 pub mod JudgeLaws
 pub mod DependLaws
+pub mod AcceptedLaws
