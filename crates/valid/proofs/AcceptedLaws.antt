@@ -337,6 +337,15 @@ module _ (c : ℕ) (types : ℕ → Decoded) (n : ℕ) (acc : AcceptedTypes c ty
           rows = accepted-all (judgedAt d types) n (same-good emptyRow (judgeStep c types) (judgeStep d types) n (all-ok (judgedAt c types) n (acc .rows)) more);
         }
 
+-- fewer of the types are accepted too
+pub fewer-types : (c : ℕ) (types : ℕ → Decoded) (m n : ℕ) → m ≤ n → AcceptedTypes c types n → AcceptedTypes c types m
+fewer-types c types m n l acc =
+    record {
+      bounds = λ i h. acc .bounds i (omega arith);
+      layouts = accepted-all (layoutAt types) m (λ i h. all-ok (layoutAt types) n (acc .layouts) i (omega arith));
+      rows = accepted-all (judgedAt c types) m (λ i h. all-ok (judgedAt c types) n (acc .rows) i (omega arith));
+    }
+
 -- the rows of accepted types depend on their records alone, not on the capability word nor on later types
 pub row-capability : (c d : ℕ) (types types′ : ℕ → Decoded) (n : ℕ) → AcceptedTypes c types n → AcceptedTypes d types′ n
     → ((k : ℕ) → k < n → types k ≡ types′ k) → (i : ℕ) → i < n → row c types i ≡ row d types′ i
