@@ -1,0 +1,5 @@
+pub mod WalkLaws
+pub mod BufferLaws
+pub mod StepLaws
+pub mod KeptLaws
+pub mod Term3Proof
