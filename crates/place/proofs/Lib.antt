@@ -3,3 +3,4 @@ pub mod BufferLaws
 pub mod StepLaws
 pub mod KeptLaws
 pub mod Term3Proof
+pub mod Instance
