@@ -1,7 +1,7 @@
 -- Laws of bits: a bit of a meet of two words is a bit of both, and a bit of either is a bit of their join.
 -- Assumes nothing.
-use mathlib.Core.Path.{_≡_, refl, sym, _∙_, ap}
-use Prim.Native.Nat.{ℕ, _/_, _%_, _^_, min, max}
+use mathlib.Core.Path.{_≡_, sym, _∙_, ap}
+use Prim.Native.Nat.{ℕ, _/_, _%_, _^_}
 use native.Mathlib.Omega.{arith}
 use lib.Dec.{T, eqb, eqb→eq, eqb-refl}
 use lib.Bits.{bitAnd, bitOr, and-shr, and-step, or-shr, or-step}

@@ -16,16 +16,19 @@ value-same z (err n m d) (err n′ m′ d′) f g = refl
 
 -- both steps make the same of the values before
 module _ {ℓ} {A : Type ℓ} (z : A) (f g : (ℕ → A) → ℕ → Result A) where
+  -- two tables whose steps make the same values below n are the same up to n
   pub tables-agree : (n : ℕ) → ((i : ℕ) → i < n → valueOr z (f (table z f i) i) ≡ valueOr z (g (table z f i) i)) → table z f n ≡ table z g n
   tables-agree zero h = refl
   tables-agree (suc n) h =
       let q = tables-agree n (λ i l. h i (omega arith)) in
       fun-ext (λ k. rw (h n (omega arith)) (ap (λ (t : ℕ → A). pick (eqb k n) (valueOr z (g t n)) (t k)) q))
 
+  -- and so is the value of i, where the steps make the same values up to i
   pub values-agree : (i : ℕ) → ((k : ℕ) → k ≤ i → valueOr z (f (table z f k) k) ≡ valueOr z (g (table z f k) k)) → valueAt z f i ≡ valueAt z g i
   unfolding valueAt
   values-agree i h = h i (omega arith) ∙ ap (λ (t : ℕ → A). valueOr z (g t i)) (tables-agree i (λ k l. h k (omega arith)))
 
+  -- a result of the second step over the first table is the second table's result
   pub results-agree : (i : ℕ) → ((k : ℕ) → k < i → valueOr z (f (table z f k) k) ≡ valueOr z (g (table z f k) k))
       → (a : A) → g (table z f i) i ≡ ok a → resultAt z g i ≡ ok a
   unfolding resultAt

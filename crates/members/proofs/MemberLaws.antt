@@ -10,17 +10,17 @@ use native.Mathlib.Decide.{ℕ-discrete}
 use native.Mathlib.Omega.{arith}
 use lib.Bits.{bitAnd}
 use lib.Dec.{T, eqb, leb, leb→le, eqb→eq}
-use Rattle.records.specs.Result.{Result, ok, pick, require, andThen}
-use Rattle.records.specs.Record.{memberType, memberOffset, structKind}
+use Rattle.records.specs.Result.{ok, pick}
+use Rattle.records.specs.Record.{memberType, memberOffset}
 use Rattle.records.specs.declared.TypeInner.{TypeInner}
 use Rattle.records.proofs.ResultLaws.{required, and-then-ok, ok-inj, and-left, and-right, or-cases}
 use Rattle.alignment.specs.Alignment.{Power, most}
-use Rattle.flags.specs.Flags.{bit, dataBit, sizedBit, hostShareableBit, creationResolvedBit, startingFlags, notHostShareable}
+use Rattle.flags.specs.Flags.{bit, dataBit, sizedBit, hostShareableBit, creationResolvedBit, notHostShareable}
 use Rattle.flags.proofs.BitLaws.{bit-and, bit-and-both}
 use Rattle.type_info.specs.declared.Verdict.{Verdict}
 use Rattle.type_info.specs.declared.Previous.{Previous}
 use Rattle.type_info.specs.declared.Row.{Row}
-use Rattle.type_info.specs.Verdict.{minStorage, okVerdict, isOk, alignmentIn, shareVerdict, memberVerdict, distanceVerdict, distanceOk, unsizedVerdict}
+use Rattle.type_info.specs.Verdict.{isOk, alignmentIn, shareVerdict, memberVerdict, distanceVerdict, distanceOk, unsizedVerdict}
 use Rattle.type_info.proofs.VerdictLaws.{OkPower, ok-power, MemberOk, member-ok, share-ok, distance-ok, unsized-ok, member-power, same-power}
 use Rattle.members.specs.declared.Bounds.{Bounds}
 use Rattle.members.specs.Members.{isArray, previousOf, memberFlags, memberBounds, boundsAfter, uniformAfter, storageAfter}
@@ -37,6 +37,7 @@ pub record MemberTaken (count span : ℕ) (previous : Previous) (inner : TypeInn
   pub sizedOrTail : T (bit (r .flags) sizedBit || isArray inner && eqb (suc j) count)
   pub is : next ≡ record { end = offset + r .size; flags = memberFlags (so-far .end) offset (bitAnd (so-far .flags) (r .flags)) }
 
+-- a member that is accepted passes the six tests
 pub member-taken : (count span : ℕ) (previous : Previous) (inner : TypeInner) (offset j : ℕ) (r : Row) (so-far next : Bounds)
     → memberBounds count span previous inner offset j r so-far ≡ ok next → MemberTaken count span previous inner offset j r so-far next
 unfolding memberBounds
@@ -87,6 +88,7 @@ pub record MemberIn (inner : ℕ → TypeInner) (rows : ℕ → Row) (count span
       → memberOffset members k + rows (memberType members k) .size ≤ memberOffset members m
 
 module _ (inner : ℕ → TypeInner) (rows : ℕ → Row) (count span : ℕ) (members : List ℕ) where
+  -- member j accepted after `so-far`, leaving `next`
   abbrev Taken : ℕ → Bounds → Bounds → Type 0
   Taken j so-far next =
       MemberTaken count span (previousOf inner members j) (inner (memberType members j)) (memberOffset members j) j (rows (memberType members j)) so-far next
@@ -102,16 +104,19 @@ module _ (inner : ℕ → TypeInner) (rows : ℕ → Row) (count span : ℕ) (me
         member-taken count span (previousOf inner members j) (inner (memberType members j)) (memberOffset members j) j (rows (memberType members j)) (a .0) b (a .2),
       )
 
+  -- a flag left after member j was there before, and is one of the member's type
   taken-flag : (j k : ℕ) (so-far next : Bounds) → Taken j so-far next → T (bit (next .flags) k)
       → T (bit (so-far .flags) k) × T (bit (rows (memberType members j) .flags) k)
   taken-flag j k so-far next t h =
       flag-left (leb (so-far .end) (memberOffset members j)) (so-far .flags) (rows (memberType members j) .flags) k (rw (t .is) at h)
 
+  -- where HOST_SHAREABLE is left, member j starts at the running end or past it
   taken-host : (j : ℕ) (so-far next : Bounds) → Taken j so-far next → T (bit (next .flags) hostShareableBit) → so-far .end ≤ memberOffset members j
   taken-host j so-far next t h =
       leb→le (so-far .end) (memberOffset members j)
       (host-ordered (leb (so-far .end) (memberOffset members j)) (so-far .flags) (rows (memberType members j) .flags) (rw (t .is) at h))
 
+  -- the running end is the end of member j
   taken-end : (j : ℕ) (so-far next : Bounds) → Taken j so-far next → next .end ≡ memberOffset members j + rows (memberType members j) .size
   taken-end j so-far next t = ap (λ (x : Bounds). x .end) (t .is)
 
@@ -203,14 +208,13 @@ module _ (rows : ℕ → Row) (i : ℕ) (members : List ℕ) where
   -- the last member's part in a storage verdict
   storage-last : (j : ℕ) → T (isOk (storageAfter rows i members (suc j)))
       → T (isOk (storageAfter rows i members j))
-        × MemberOk (memberOffset members j) (storageAfter rows i members j) (rows (memberType members j) .storage) (storageAfter rows i members (suc j))
+      × MemberOk (memberOffset members j) (storageAfter rows i members j) (rows (memberType members j) .storage) (storageAfter rows i members (suc j))
   unfolding storageAfter
   storage-last j t =
       let b = bit (rows (memberType members j) .flags) hostShareableBit in
       let s = shareVerdict b (memberType members j) (storageAfter rows i members j) in
       let k = member-ok i j (memberOffset members j) s (rows (memberType members j) .storage) t in
-      let e = share-ok b (memberType members j) (storageAfter rows i members j) (k .soFarOk) in
-      (
+      let e = share-ok b (memberType members j) (storageAfter rows i members j) (k .soFarOk) in (
         subst (λ (v : Verdict). T (isOk v)) e (k .soFarOk),
         record {
           soFarOk = subst (λ (v : Verdict). T (isOk v)) e (k .soFarOk);
@@ -244,8 +248,8 @@ module _ (least : ℕ) (inner : ℕ → TypeInner) (rows : ℕ → Row) (i : ℕ
   -- the last member's part in a uniform verdict, with the member's type SIZED
   uniform-last : (j : ℕ) → T (isOk (uniformAfter least inner rows i members (suc j)))
       → T (isOk (uniformAfter least inner rows i members j))
-        × T (bit (rows (memberType members j) .flags) sizedBit)
-        × MemberOk (memberOffset members j) (uniformAfter least inner rows i members j) (rows (memberType members j) .uniform) (uniformAfter least inner rows i members (suc j))
+      × T (bit (rows (memberType members j) .flags) sizedBit)
+      × MemberOk (memberOffset members j) (uniformAfter least inner rows i members j) (rows (memberType members j) .uniform) (uniformAfter least inner rows i members (suc j))
   unfolding uniformAfter
   uniform-last j t =
       let b = bit (rows (memberType members j) .flags) hostShareableBit in
@@ -259,8 +263,7 @@ module _ (least : ℕ) (inner : ℕ → TypeInner) (rows : ℕ → Row) (i : ℕ
       let f = distance-ok least i j (memberOffset members j) (previousOf inner members j) m t₁ in
       let t₂ = subst (λ (w : Verdict). T (isOk w)) f t₁ in
       let k = member-ok i j (memberOffset members j) s (rows (memberType members j) .uniform) t₂ in
-      let e = share-ok b (memberType members j) v (k .soFarOk) in
-      (
+      let e = share-ok b (memberType members j) v (k .soFarOk) in (
         subst (λ (w : Verdict). T (isOk w)) e (k .soFarOk),
         u .0,
         record {

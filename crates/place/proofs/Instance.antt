@@ -6,17 +6,15 @@ use mathlib.Core.List.{List, [], _∷_}
 use Prim.Native.Nat.{ℕ, zero, suc, _+_, _≤_, _<_, _∣_}
 use native.Mathlib.Nat.{le-refl}
 use native.Mathlib.Omega.{arith}
-use lib.Dec.{T}
 use lib.ListN.{getElem?}
-use Rattle.records.specs.Record.{Decoded, decoded, innerOf, typeInner, structMembers, memberType}
+use Rattle.records.specs.Record.{Decoded, decoded, innerOf, typeInner, structMembers}
 use Rattle.records.specs.Fields.{tablesFit, fieldsOk, recordAt}
 use Rattle.records.specs.Table.{resultAt, valueAt}
 use Rattle.records.specs.declared.Outcome.the-variants.{Accepted}
 use Rattle.type_methods.specs.TypeMethods.{trySize}
 use Rattle.layouter.specs.Layouter.{membersAlignment, alignmentOf, layoutOf, layoutOutcome}
-use Rattle.flags.specs.Flags.{bit, hostShareableBit}
 use Rattle.width.specs.Width.{integerWidth, floatWidth, checkWidth}
-use Rattle.type_info.specs.Verdict.{isOk, alignmentIn, arrayVerdict, shareVerdict, memberVerdict, distanceVerdict, distanceOk, unsizedVerdict, spanVerdict}
+use Rattle.type_info.specs.Verdict.{alignmentIn, arrayVerdict, shareVerdict, memberVerdict, distanceVerdict, distanceOk, unsizedVerdict, spanVerdict}
 use Rattle.members.specs.Members.{previousOf, memberBounds, boundsAfter, uniformAfter, storageAfter, immediatesAfter}
 use Rattle.valid.specs.Valid.{leafFlags, flagsOf, uniformOf, storageOf, immediatesOf, rowOf, judge}
 use Rattle.valid.specs.Arena.{row, judgeOutcome, arenaOutcome, arena}
@@ -54,22 +52,26 @@ types =
     ∷ 8 ∷ 2 ∷ 3 ∷ 64 ∷ 0 ∷ 0
     ∷ []
 
+-- two rows of struct 2, three of struct 5
 abbrev pub members : List ℕ
 members = 1 ∷ 0 ∷ 0 ∷ 12 ∷ 3 ∷ 0 ∷ 2 ∷ 32 ∷ 4 ∷ 48 ∷ []
 
+-- it is accepted with no capability
 pub accepted : arena 0 types members ≡ Accepted
 unfolding arena arenaOutcome layoutOutcome judgeOutcome tablesFit recordAt fieldsOk typeInner innerOf structMembers resultAt valueAt trySize membersAlignment alignmentOf layoutOf integerWidth floatWidth checkWidth arrayVerdict shareVerdict memberVerdict distanceVerdict distanceOk unsizedVerdict spanVerdict previousOf memberBounds boundsAfter uniformAfter storageAfter immediatesAfter leafFlags flagsOf uniformOf storageOf immediatesOf rowOf judge
 accepted = refl
 
--- its sizes, the flags of the struct, and the struct's storage verdict: Ok, alignment 16
+-- the sizes of types 0, 1, 2 and 5
 pub sizes : (rowIn 0 types members 0 .size ≡ 4) × (rowIn 0 types members 1 .size ≡ 12) × (rowIn 0 types members 2 .size ≡ 16) × (rowIn 0 types members 5 .size ≡ 64)
 unfolding typeInner innerOf structMembers resultAt valueAt trySize membersAlignment alignmentOf layoutOf integerWidth floatWidth checkWidth arrayVerdict shareVerdict memberVerdict distanceVerdict distanceOk unsizedVerdict spanVerdict previousOf memberBounds boundsAfter uniformAfter storageAfter immediatesAfter leafFlags flagsOf uniformOf storageOf immediatesOf rowOf judge
 sizes = (refl, refl, refl, refl)
 
+-- the flags of the struct: DATA, COPY, HOST_SHAREABLE and CREATION_RESOLVED
 pub flags : rowIn 0 types members 5 .flags ≡ 149
 unfolding typeInner innerOf structMembers resultAt valueAt trySize membersAlignment alignmentOf layoutOf integerWidth floatWidth checkWidth arrayVerdict shareVerdict memberVerdict distanceVerdict distanceOk unsizedVerdict spanVerdict previousOf memberBounds boundsAfter uniformAfter storageAfter immediatesAfter leafFlags flagsOf uniformOf storageOf immediatesOf rowOf judge
 flags = refl
 
+-- its storage verdict: Ok with alignment 16
 pub storage : (rowIn 0 types members 5 .storage .code ≡ 0) × (rowIn 0 types members 5 .storage .ty ≡ 16)
 unfolding typeInner innerOf structMembers resultAt valueAt trySize membersAlignment alignmentOf layoutOf integerWidth floatWidth checkWidth arrayVerdict shareVerdict memberVerdict distanceVerdict distanceOk unsizedVerdict spanVerdict previousOf memberBounds boundsAfter uniformAfter storageAfter immediatesAfter leafFlags flagsOf uniformOf storageOf immediatesOf rowOf judge
 storage = (refl, refl)
@@ -95,6 +97,7 @@ each-covers (suc (suc (suc (suc zero)))) h = rw (sizes .0) (le-refl 4)
 each-covers (suc (suc (suc (suc (suc zero))))) h = tt
 each-covers (suc (suc (suc (suc (suc (suc a)))))) h = absurd (omega arith)
 
+-- so has each array that is reached from the struct
 pub covers : StridesCover (rowIn 0 types members) (decoded types members) 5
 covers = strides-cover 0 (decoded types members) 6 (accepted-types 0 types members accepted) each-covers 5 (omega arith)
 

@@ -1,14 +1,12 @@
 -- What one step says where the types are accepted, and from it what a walk says: alignment, containment, order.
 -- Assumes nothing.
 use mathlib.Core.Path.{_≡_, refl, sym, _∙_, ap, subst}
-use mathlib.Core.Bool.{Bool, true, false}
 use mathlib.Core.Logic.{_⊎_, inl, inr, _≢_}
 use mathlib.Core.List.{List, [], _∷_}
-use Prim.Native.Nat.{ℕ, suc, _+_, _*_, _^_, _≤_, _<_, _∣_, max}
+use Prim.Native.Nat.{ℕ, suc, _+_, _*_, _≤_, _<_, _∣_}
 use native.Mathlib.Nat.{dvd-zero, dvd-trans, dvd-add, dvd-mul-left-of-dvd, mul-le-mul-right, le-refl}
 use native.Mathlib.Decide.{decLt}
 use native.Mathlib.Omega.{arith}
-use lib.Bits.{bitAnd}
 use lib.Dec.{T}
 use Rattle.records.specs.Record.{Decoded, memberType, memberOffset}
 use Rattle.records.specs.declared.TypeInner.{TypeInner}
@@ -18,20 +16,18 @@ use Rattle.layouter.specs.Layouter.{layout}
 use Rattle.flags.specs.Flags.{bit, sizedBit, hostShareableBit}
 use Rattle.flags.proofs.BitLaws.{bit-and}
 use Rattle.type_info.specs.declared.Verdict.{Verdict}
-use Rattle.type_info.specs.declared.Row.{Row}
-use Rattle.type_info.specs.Verdict.{minStorage, isOk, alignmentIn, arrayVerdict, spanVerdict}
+use Rattle.type_info.specs.Verdict.{minStorage, isOk, alignmentIn}
 use Rattle.type_info.proofs.VerdictLaws.{ArrayOk, array-ok, span-ok}
 use Rattle.members.specs.Members.{isArray, storageAfter}
-use Rattle.members.proofs.MemberLaws.{MemberIn, OkMember, storage-members}
+use Rattle.members.proofs.MemberLaws.{storage-members}
 use Rattle.valid.specs.Arena.{row}
-use Rattle.valid.proofs.DependLaws.{innerIn}
-use Rattle.valid.proofs.AcceptedLaws.{AcceptedTypes, ArrayRow, base-sized, StructRow, array-row, runtime-array-row, member-earlier, struct-row, struct-member, row-power}
+use Rattle.valid.proofs.AcceptedLaws.{AcceptedTypes, ArrayRow, base-sized, array-row, runtime-array-row, member-earlier, struct-row, struct-member, row-power}
 use Rattle.place.specs.declared.Step.{Step}
 use Rattle.place.specs.declared.Step.the-variants.{To, NoStep}
 use Rattle.place.specs.declared.Place.the-variants.{At}
 use Rattle.place.specs.Place.{stepOf, stepIn, leafIn, placeIn}
-use Rattle.place.specs.Term3.{Reached, itself, element, runtimeElement, member, strideCovers, StridesCover, firstElement, after, FirstElements}
-use Rattle.place.proofs.WalkLaws.{followed, at-leaf, along, after-start, no-step, plain-step, array-step, runtime-array-step, struct-step, other-step}
+use Rattle.place.specs.Term3.{itself, element, runtimeElement, member, strideCovers, StridesCover, firstElement, after, FirstElements}
+use Rattle.place.proofs.WalkLaws.{followed, at-leaf, along, after-start, plain-step, array-step, runtime-array-step, struct-step, other-step}
 
 -- the first, where the second is not so
 unless {ℓ κ} : {A : Type ℓ} {B : Type κ} → A ⊎ B → ¬ B → A
@@ -45,8 +41,8 @@ pub record Stepped (c : ℕ) (types : ℕ → Decoded) (t ty bytes : ℕ) : Type
   pub sized : T (bit (row c types t .flags) sizedBit) → T (bit (row c types ty .flags) sizedBit)
   pub aligned : T (isOk (row c types t .storage))
       → T (isOk (row c types ty .storage))
-        × (alignmentIn (row c types ty .storage) ∣ bytes)
-        × (alignmentIn (row c types ty .storage) ∣ alignmentIn (row c types t .storage))
+      × (alignmentIn (row c types ty .storage) ∣ bytes)
+      × (alignmentIn (row c types ty .storage) ∣ alignmentIn (row c types t .storage))
   pub covers : StridesCover (row c types) types t → StridesCover (row c types) types ty
 
 -- of two steps from one type: the one to type ty, some bytes on, leads to a SIZED type that ends where the other begins, or before
@@ -56,6 +52,7 @@ record Before (c : ℕ) (types : ℕ → Decoded) (ty bytes bytes′ : ℕ) : Ty
 
 module _ (c : ℕ) (types : ℕ → Decoded) (n : ℕ) (acc : AcceptedTypes c types n) where
   -- ---- one step
+  -- a step from an array to its base
   from-array : (t base bytes stride mask s : ℕ) → t < n → base < t → ArrayRow t bytes stride mask (row c types base) (row c types t)
       → (StridesCover (row c types) types t → StridesCover (row c types) types base) → Stepped c types t base (s * stride)
   from-array t base bytes stride mask s l b a w =
@@ -65,14 +62,15 @@ module _ (c : ℕ) (types : ℕ → Decoded) (n : ℕ) (acc : AcceptedTypes c ty
         sized = λ h. base-sized a;
         aligned = λ k.
             let q : ArrayOk minStorage stride (row c types base .alignment) (row c types base .storage) (row c types t .storage) =
-                subst (λ (v : Verdict). ArrayOk minStorage stride (row c types base .alignment) (row c types base .storage) v) (sym (a .storage))
-                (array-ok minStorage t stride (row c types base .alignment) (row c types base .storage) (subst (λ (v : Verdict). T (isOk v)) (a .storage) k)) in
+            subst (λ (v : Verdict). ArrayOk minStorage stride (row c types base .alignment) (row c types base .storage) v) (sym (a .storage))
+            (array-ok minStorage t stride (row c types base .alignment) (row c types base .storage) (subst (λ (v : Verdict). T (isOk v)) (a .storage) k)) in
             let x = alignmentIn (row c types base .storage) in
             let v = power-divides x (alignmentIn (row c types t .storage)) (row-power c types n acc base (omega arith) .storage (q .baseOk)) (row-power c types n acc t l .storage k) (omega (arith, q .largest)) in
             (q .baseOk, dvd-mul-left-of-dvd x (dvd-trans x v (q .divides)) s, v);
         covers = w;
       }
 
+  -- a step from a struct to the type of a member
   from-struct : (t : ℕ) → t < n → (count span : ℕ) → types t .inner ≡ Struct count span → (j : ℕ) → j < count
       → Stepped c types t (memberType (types t .members) j) (memberOffset (types t .members) j)
   from-struct t l count span e j lj =
@@ -91,8 +89,7 @@ module _ (c : ℕ) (types : ℕ → Decoded) (n : ℕ) (acc : AcceptedTypes c ty
             let q = s .storage ∙ span-ok t span (layout types t .alignment) sto k₁ in
             let o = storage-members (row c types) t members count (subst (λ (v : Verdict). T (isOk v)) q k) j lj in
             let x = alignmentIn (row c types ty .storage) in
-            let e : alignmentIn (row c types t .storage) ≡ alignmentIn sto = ap (λ (v : Verdict). alignmentIn v) q in
-            (
+            let e : alignmentIn (row c types t .storage) ≡ alignmentIn sto = ap (λ (v : Verdict). alignmentIn v) q in (
               o .ok,
               o .divides,
               power-divides x (alignmentIn (row c types t .storage)) (row-power c types n acc ty (omega (arith, b)) .storage (o .ok)) (row-power c types n acc t l .storage k) (omega (arith, o .below, e)),
@@ -100,6 +97,7 @@ module _ (c : ℕ) (types : ℕ → Decoded) (n : ℕ) (acc : AcceptedTypes c ty
         covers = λ w a r. w a (member j e lj r);
       }
 
+  -- a step, by what the record says
   step-of : (t : ℕ) → t < n → (this : TypeInner) → types t .inner ≡ this → (s ty bytes : ℕ) → stepOf this (types t .members) s ≡ To ty bytes → Stepped c types t ty bytes
   step-of t l (Plain leaf) e s ty bytes q = plain-step (Plain leaf) (types t .members) s ty bytes tt q
   step-of t l (Array base count stride) e s ty bytes q =
@@ -115,13 +113,16 @@ module _ (c : ℕ) (types : ℕ → Decoded) (n : ℕ) (acc : AcceptedTypes c ty
       rw (← g .1, ← g .2) (from-struct t l count span e s (g .0))
   step-of t l (Other o) e s ty bytes q = other-step o (types t .members) s ty bytes q
 
+  -- a step from an accepted type
   pub stepped : (t : ℕ) → t < n → (s ty bytes : ℕ) → stepIn types t s ≡ To ty bytes → Stepped c types t ty bytes
   stepped t l s ty bytes q = step-of t l (types t .inner) refl s ty bytes q
 
   -- ---- alignment: a leaf's own alignment divides its place
+  -- the type is one of the arena, its storage verdict is Ok and its alignment divides the place
   abbrev Held : ℕ → ℕ → Type 0
   Held t p = (t < n) × T (isOk (row c types t .storage)) × (alignmentIn (row c types t .storage) ∣ p)
 
+  -- a step keeps that
   held-step : (t p s ty bytes : ℕ) → stepIn types t s ≡ To ty bytes → Held t p → Held ty (p + bytes)
   held-step t p s ty bytes q i =
       let k = stepped t (i .0) s ty bytes q in
@@ -129,6 +130,7 @@ module _ (c : ℕ) (types : ℕ → Decoded) (n : ℕ) (acc : AcceptedTypes c ty
       let x = alignmentIn (row c types ty .storage) in
       (omega (arith, k .earlier, i .0), v .0, dvd-add x (dvd-trans x (v .2) (i .2)) (v .1))
 
+  -- so a leaf stands at a multiple of its own alignment
   pub place-aligned : (t : ℕ) → t < n → T (isOk (row c types t .storage)) → (steps : List ℕ) (byte leaf : ℕ) → placeIn types t 0 steps ≡ At byte leaf
       → T (isOk (row c types leaf .storage)) × (alignmentIn (row c types leaf .storage) ∣ byte)
   place-aligned t l k steps byte leaf q =
@@ -136,6 +138,7 @@ module _ (c : ℕ) (types : ℕ → Decoded) (n : ℕ) (acc : AcceptedTypes c ty
       (r .1, r .2)
 
   -- ---- containment: a step leads to a part within the type
+  -- the part that a step leads to ends within the type
   within-of : (t : ℕ) → t < n → (this : TypeInner) → types t .inner ≡ this → strideCovers (row c types) this
       → (s ty bytes : ℕ) → stepOf this (types t .members) s ≡ To ty bytes → firstElement this s → bytes + row c types ty .size ≤ row c types t .size
   within-of t l (Plain leaf) e w s ty bytes q f = plain-step (Plain leaf) (types t .members) s ty bytes tt q
@@ -163,6 +166,7 @@ module _ (c : ℕ) (types : ℕ → Decoded) (n : ℕ) (acc : AcceptedTypes c ty
   not-runtime t l (Struct count span) e z s = tt
   not-runtime t l (Other o) e z s = tt
 
+  -- so each list of steps from a SIZED type is one of first elements
   sized-firsts : (steps : List ℕ) (t : ℕ) → t < n → T (bit (row c types t .flags) sizedBit) → FirstElements types t steps
   sized-firsts [] t l z = tt
   sized-firsts (s ∷ steps) t l z = (not-runtime t l (types t .inner) refl z s, go (stepIn types t s) refl (λ u. sized-firsts steps u))
@@ -172,6 +176,7 @@ module _ (c : ℕ) (types : ℕ → Decoded) (n : ℕ) (acc : AcceptedTypes c ty
       go NoStep e ih = tt
       go (To ty bytes) e ih = let k = stepped t l s ty bytes e in ih ty (omega (arith, k .earlier)) (k .sized z)
 
+  -- a leaf that is reached by first elements ends within the type
   pub contained : (steps : List ℕ) (t p byte leaf : ℕ) → t < n → StridesCover (row c types) types t → FirstElements types t steps
       → placeIn types t p steps ≡ At byte leaf → byte + row c types leaf .size ≤ p + row c types t .size
   contained [] t p byte leaf l v f e = let g = at-leaf (leafIn types t) p t byte leaf e in rw (← g .1, ← g .2) (le-refl _)
@@ -183,10 +188,12 @@ module _ (c : ℕ) (types : ℕ → Decoded) (n : ℕ) (acc : AcceptedTypes c ty
       omega arith
 
   -- ---- order
+  -- elements of an array whose stride covers them lie one after the other
   before-array : (base stride s s′ : ℕ) → s < s′ → row c types base .size ≤ stride → T (bit (row c types base .flags) sizedBit)
       → Before c types base (s * stride) (s′ * stride)
   before-array base stride s s′ l w z = record { sized = z; ends = omega (arith, mul-le-mul-right stride l) }
 
+  -- parts of a type that is HOST_SHAREABLE lie one after the other
   before-of : (t : ℕ) → t < n → (this : TypeInner) → types t .inner ≡ this → T (bit (row c types t .flags) hostShareableBit) → strideCovers (row c types) this
       → (s s′ ty bytes ty′ bytes′ : ℕ) → stepOf this (types t .members) s ≡ To ty bytes → stepOf this (types t .members) s′ ≡ To ty′ bytes′ → s < s′
       → Before c types ty bytes bytes′
@@ -235,6 +242,7 @@ module _ (c : ℕ) (types : ℕ → Decoded) (n : ℕ) (acc : AcceptedTypes c ty
   abbrev pub Apart : (byte leaf byte′ leaf′ : ℕ) → Type 0
   Apart byte leaf byte′ leaf′ = (byte + row c types leaf .size ≤ byte′) ⊎ (byte′ + row c types leaf′ .size ≤ byte)
 
+  -- two lists of steps from one type lead to leaves that are apart
   pub disjoint : (steps steps′ : List ℕ) (t p byte leaf byte′ leaf′ : ℕ) → t < n
       → T (bit (row c types t .flags) hostShareableBit) → StridesCover (row c types) types t
       → placeIn types t p steps ≡ At byte leaf → placeIn types t p steps′ ≡ At byte′ leaf′ → steps ≢ steps′ → Apart byte leaf byte′ leaf′
@@ -249,7 +257,7 @@ module _ (c : ℕ) (types : ℕ → Decoded) (n : ℕ) (acc : AcceptedTypes c ty
       go : (ty bytes : ℕ) → stepIn types t s ≡ To ty bytes → placeIn types ty (p + bytes) steps ≡ At byte leaf
           → (ty′ bytes′ : ℕ) → stepIn types t s′ ≡ To ty′ bytes′ → placeIn types ty′ (p + bytes′) steps′ ≡ At byte′ leaf′
           → ((u q : ℕ) → u < n → T (bit (row c types u .flags) hostShareableBit) → StridesCover (row c types) types u
-            → placeIn types u q steps ≡ At byte leaf → placeIn types u q steps′ ≡ At byte′ leaf′ → steps ≢ steps′ → Apart byte leaf byte′ leaf′)
+          → placeIn types u q steps ≡ At byte leaf → placeIn types u q steps′ ≡ At byte′ leaf′ → steps ≢ steps′ → Apart byte leaf byte′ leaf′)
           → Dec (s < s′) → Dec (s′ < s) → Apart byte leaf byte′ leaf′
       go ty bytes a b ty′ bytes′ a′ b′ ih (yes lt) d = inl (lesser t p s s′ steps steps′ byte leaf byte′ leaf′ ty bytes ty′ bytes′ l o v lt a a′ b b′)
       go ty bytes a b ty′ bytes′ a′ b′ ih (no x) (yes lt) = inr (lesser t p s′ s steps′ steps byte′ leaf′ byte leaf ty′ bytes′ ty bytes l o v lt a′ a b′ b)

@@ -1,24 +1,19 @@
 -- Term 3 of the terms of acceptance, proved.
 -- Assumes nothing.
 use mathlib.Core.Path.{_≡_, refl, sym, _∙_, ap}
-use mathlib.Core.Bool.{Bool, true, false}
 use mathlib.Core.Logic.{_⊎_, inl, inr}
 use mathlib.Core.List.{List, _++_}
 use Prim.Native.Nat.{ℕ, _+_, _≤_, _<_}
 use native.Mathlib.Omega.{arith}
-use lib.Dec.{T, ltb}
+use lib.Dec.{ltb}
 use borrow.Author.Tests.{lt-ltb}
-use Rattle.records.specs.Result.{pick}
 use Rattle.records.specs.Record.{decoded, typeCount}
-use Rattle.records.specs.declared.Outcome.the-variants.{Accepted}
 use Rattle.type_info.specs.declared.Row.{Row}
-use Rattle.valid.specs.Arena.{arena}
-use Rattle.valid.proofs.AcceptedLaws.{AcceptedTypes}
 use Rattle.valid.proofs.AppendLaws.{types-append}
 use Rattle.valid.proofs.ArenaLaws.{accepted-types, arena-more, decoded-same, arena-row-append}
-use Rattle.place.specs.declared.Place.the-variants.{At, NoPlace}
+use Rattle.place.specs.declared.Place.the-variants.{At}
 use Rattle.place.specs.Place.{placeIn, placeOf}
-use Rattle.place.specs.Term3.{rowIn, HostShareableData, Term3}
+use Rattle.place.specs.Term3.{rowIn, Term3}
 use Rattle.place.proofs.WalkLaws.{place-picked}
 use Rattle.place.proofs.BufferLaws.{rewrite-other}
 use Rattle.place.proofs.StepLaws.{place-aligned, contained, disjoint}
@@ -39,6 +34,7 @@ outside : (x m y k j : ℕ) → (x + m ≤ y) ⊎ (y + k ≤ x) → y ≤ j → 
 outside x m y k j (inl h) lo hi = inr (omega arith)
 outside x m y k j (inr h) lo hi = inl (omega arith)
 
+-- term 3
 pub term3 : Term3
 term3 =
     record {

@@ -1,6 +1,6 @@
 -- Laws of the walk along a list of steps: what a place says of the steps on the way to it.
 -- Assumes nothing.
-use mathlib.Core.Path.{_≡_, refl, sym, ap, subst}
+use mathlib.Core.Path.{_≡_, refl}
 use mathlib.Core.Bool.{Bool, true, false}
 use mathlib.Core.List.{List, [], _∷_}
 use Prim.Native.Nat.{ℕ, _+_, _*_, _^_, _≤_, _<_}
@@ -52,10 +52,12 @@ module _ (step : ℕ → ℕ → Step) (isEnd : ℕ → Bool) where
 pub no-step {ℓ} : {A : Type ℓ} (ty bytes : ℕ) → NoStep ≡ To ty bytes → A
 no-step ty bytes e = let z : _≡_ {A = ℕ} 0 1 = cc in absurd (omega arith)
 
+-- a step that hangs on a test
 step-picked : (b : Bool) (u v ty bytes : ℕ) → pick b (To u v) NoStep ≡ To ty bytes → T b × (u ≡ ty) × (v ≡ bytes)
 step-picked true u v ty bytes e = (tt, cc, cc)
 step-picked false u v ty bytes e = no-step ty bytes e
 
+-- a leaf has no step
 pub plain-step {ℓ} : {A : Type ℓ} (this : TypeInner) (members : List ℕ) (s ty bytes : ℕ) → T (isLeaf this) → stepOf this members s ≡ To ty bytes → A
 unfolding stepOf
 plain-step (Plain leaf) members s ty bytes t e = no-step ty bytes e
@@ -64,24 +66,28 @@ plain-step (RuntimeArray base stride) members s ty bytes t e = absurd t
 plain-step (Struct count span) members s ty bytes t e = absurd t
 plain-step (Other o) members s ty bytes t e = absurd t
 
+-- a step at an array is below the count, leads to the base and adds step times stride
 pub array-step : (base count stride : ℕ) (members : List ℕ) (s ty bytes : ℕ) → stepOf (Array base count stride) members s ≡ To ty bytes
     → (s < count) × (base ≡ ty) × (s * stride ≡ bytes)
 unfolding stepOf
 array-step base count stride members s ty bytes e =
     let a = step-picked (ltb s count) base (s * stride) ty bytes e in (ltb→lt s count (a .0), a .1, a .2)
 
+-- a step at a runtime array is a 32-bit number, leads to the base and adds step times stride
 pub runtime-array-step : (base stride : ℕ) (members : List ℕ) (s ty bytes : ℕ) → stepOf (RuntimeArray base stride) members s ≡ To ty bytes
     → (s < 2 ^ 32) × (base ≡ ty) × (s * stride ≡ bytes)
 unfolding stepOf
 runtime-array-step base stride members s ty bytes e =
     let a = step-picked (ltb s (2 ^ 32)) base (s * stride) ty bytes e in (ltb→lt s (2 ^ 32) (a .0), a .1, a .2)
 
+-- a step at a struct is below the member count, leads to the member's type and adds its offset
 pub struct-step : (count span : ℕ) (members : List ℕ) (s ty bytes : ℕ) → stepOf (Struct count span) members s ≡ To ty bytes
     → (s < count) × (memberType members s ≡ ty) × (memberOffset members s ≡ bytes)
 unfolding stepOf
 struct-step count span members s ty bytes e =
     let a = step-picked (ltb s count) (memberType members s) (memberOffset members s) ty bytes e in (ltb→lt s count (a .0), a .1, a .2)
 
+-- what is no data has no step
 pub other-step {ℓ} : {A : Type ℓ} (o : NonData) (members : List ℕ) (s ty bytes : ℕ) → stepOf (Other o) members s ≡ To ty bytes → A
 unfolding stepOf
 other-step o members s ty bytes e = no-step ty bytes e

@@ -2,21 +2,21 @@
 -- Assumes nothing.
 use mathlib.Core.Path.{_≡_, refl, sym, _∙_, ap, subst}
 use mathlib.Core.Bool.{Bool, true, false}
-use Prim.Native.Nat.{ℕ, _+_, _-_, _≤_, _∣_, max}
-use native.Mathlib.Omega.{arith}
-use lib.Dec.{T, eqb, leb}
+use Prim.Native.Nat.{ℕ, _-_, _∣_, max}
+use lib.Dec.{T, leb}
 use Rattle.records.specs.Result.{pick}
 use Rattle.alignment.specs.Alignment.{Power, isAligned, roundUp}
 use Rattle.alignment.proofs.PowerLaws.{aligned-divides, power-max}
 use Rattle.type_info.specs.declared.Verdict.{Verdict}
 use Rattle.type_info.specs.declared.Previous.{Previous}
 use Rattle.type_info.specs.declared.Previous.the-variants.{NoStruct, StructBefore}
-use Rattle.type_info.specs.Verdict.{okVerdict, nonHostShareable, memberOffsetAfterStruct, unsizedMember, structSpan, isOk, alignmentIn, unlessOk, strideVerdict, arrayVerdict, shareVerdict, offsetVerdict, memberVerdict, distanceVerdict, unsizedVerdict, spanVerdict}
+use Rattle.type_info.specs.Verdict.{okVerdict, nonHostShareable, unsizedMember, isOk, alignmentIn, unlessOk, strideVerdict, arrayVerdict, shareVerdict, offsetVerdict, memberVerdict, distanceVerdict, unsizedVerdict, spanVerdict}
 
 -- the alignment is a power of two, where the verdict is Ok
 abbrev pub OkPower : Verdict → Type 0
 OkPower v = T (isOk v) → Power (alignmentIn v)
 
+-- a verdict that is Ok with a power of two
 pub ok-power : (a : ℕ) → Power a → OkPower (okVerdict a)
 ok-power a p t = p
 
@@ -40,6 +40,7 @@ pub record ArrayOk (least stride alignment : ℕ) (base v : Verdict) : Type 0 wh
   pub largest : alignmentIn v ≡ max (max (alignmentIn base) alignment) least
   pub divides : alignmentIn v ∣ stride
 
+-- an array's verdict that is Ok says that
 pub array-ok : (least i stride alignment : ℕ) (base : Verdict)
     → T (isOk (arrayVerdict least i stride alignment base)) → ArrayOk least stride alignment base (arrayVerdict least i stride alignment base)
 unfolding arrayVerdict
@@ -57,6 +58,7 @@ pub record MemberOk (offset : ℕ) (so-far member v : Verdict) : Type 0 where
   pub largest : alignmentIn v ≡ max (alignmentIn so-far) (alignmentIn member)
   pub divides : alignmentIn member ∣ offset
 
+-- a verdict after a member that is Ok says that
 pub member-ok : (i j offset : ℕ) (so-far member : Verdict)
     → T (isOk (memberVerdict i j offset so-far member)) → MemberOk offset so-far member (memberVerdict i j offset so-far member)
 unfolding memberVerdict
@@ -73,33 +75,38 @@ member-ok i j offset so-far member t =
       divides = aligned-divides (alignmentIn member) offset (s .0);
     }
 
--- the other rules leave a verdict that comes out Ok as it was
+-- the other rules leave a verdict that comes out Ok as it was: the rule on members that are not host-shareable
 pub share-ok : (shareable : Bool) (t : ℕ) (v : Verdict) → T (isOk (shareVerdict shareable t v)) → shareVerdict shareable t v ≡ v
 unfolding shareVerdict
 share-ok true t v h = refl
 share-ok false t v h = let u = unless-ok v (nonHostShareable t) h in absurd (subst (λ (w : Verdict). T (isOk w)) (u .1) h)
 
+-- the distance rule
 pub distance-ok : (least i j offset : ℕ) (previous : Previous) (v : Verdict)
     → T (isOk (distanceVerdict least i j offset previous v)) → distanceVerdict least i j offset previous v ≡ v
 unfolding distanceVerdict
 distance-ok least i j offset NoStruct v t = refl
 distance-ok least i j offset (StructBefore span at) v t = pick-ok (leb (roundUp least span) (offset - at)) v _ (λ (n : ⊥). n) t .1
 
+-- the rule on unsized members; the member is SIZED
 pub unsized-ok : (sized : Bool) (i j : ℕ) (v : Verdict) → T (isOk (unsizedVerdict sized i j v)) → T sized × (unsizedVerdict sized i j v ≡ v)
 unfolding unsizedVerdict
 unsized-ok true i j v h = (tt, refl)
 unsized-ok false i j v h = let u = unless-ok v (unsizedMember i j) h in absurd (subst (λ (w : Verdict). T (isOk w)) (u .1) h)
 
+-- the span rule
 pub span-ok : (i span alignment : ℕ) (v : Verdict) → T (isOk (spanVerdict i span alignment v)) → spanVerdict i span alignment v ≡ v
 unfolding spanVerdict
 span-ok i span alignment v t = pick-ok (isAligned alignment span) v _ (λ (n : ⊥). n) t .1
 
 -- ---- powers of two
+-- the alignment in an array's verdict
 pub array-power : (least i stride alignment : ℕ) (base : Verdict) → Power least → Power alignment → OkPower base → OkPower (arrayVerdict least i stride alignment base)
 array-power least i stride alignment base pl pa pb t =
     let k = array-ok least i stride alignment base t in
     rw (k .largest) (power-max (max (alignmentIn base) alignment) least (power-max (alignmentIn base) alignment (pb (k .baseOk)) pa) pl)
 
+-- the alignment in a verdict after a member
 pub member-power : (i j offset : ℕ) (so-far member : Verdict) → OkPower so-far → OkPower member → OkPower (memberVerdict i j offset so-far member)
 member-power i j offset so-far member ps pm t =
     let k = member-ok i j offset so-far member t in

@@ -1,7 +1,7 @@
 -- What an arena whose first n types are accepted says of each of them: its row by its kind, powers of two, references, DATA.
 -- Assumes nothing.
 use mathlib.Core.Path.{_≡_, refl, sym, _∙_, ap, subst}
-use mathlib.Core.Bool.{Bool, true, false, _&&_}
+use mathlib.Core.Bool.{_&&_}
 use mathlib.Core.Logic.{_⊎_}
 use mathlib.Core.List.{List}
 use Prim.Native.Nat.{ℕ, zero, suc, _*_, _≤_, _<_}
@@ -10,10 +10,10 @@ use native.Mathlib.Decide.{ℕ-discrete}
 use native.Mathlib.Omega.{arith}
 use lib.Bits.{bitAnd, bitOr}
 use lib.Dec.{T, ltb, ltb→lt}
-use Rattle.records.specs.Result.{Result, ok, require, andThen}
+use Rattle.records.specs.Result.{ok}
 use Rattle.records.specs.Record.{Decoded, memberType}
 use Rattle.records.specs.Fields.{InnerBounds}
-use Rattle.records.specs.Table.{table, resultAt, valueAt, firstRefusal}
+use Rattle.records.specs.Table.{table, resultAt, firstRefusal}
 use Rattle.records.specs.declared.Outcome.the-variants.{Accepted}
 use Rattle.records.specs.declared.Leaf.{Leaf}
 use Rattle.records.specs.declared.Leaf.the-variants.{Scalar, Vector, Matrix, CooperativeMatrix, Atomic, RayQuery}
@@ -22,16 +22,14 @@ use Rattle.records.specs.declared.TypeInner.{TypeInner}
 use Rattle.records.specs.declared.TypeInner.the-variants.{Plain, Array, RuntimeArray, Struct, Other}
 use Rattle.records.proofs.ResultLaws.{required, and-then-ok, ok-inj, and-left, and-right}
 use Rattle.records.proofs.TableLaws.{table-value, value-ok, same-value, same-good, all-ok, accepted-all}
-use Rattle.alignment.specs.Alignment.{Power, vectorAlignment}
+use Rattle.alignment.specs.Alignment.{Power}
 use Rattle.alignment.proofs.PowerLaws.{power-of-width, power-vector}
 use Rattle.type_methods.specs.TypeMethods.{leafSize}
-use Rattle.layouter.specs.declared.TypeLayout.{TypeLayout}
 use Rattle.layouter.specs.Layouter.{leafWidth, noLayout, layoutStep, layoutAt, layout}
 use Rattle.layouter.proofs.LayoutAccepted.{plain-layout, plain-width, array-layout, runtime-array-layout, struct-layout, members-earlier}
 use Rattle.layouter.proofs.LayoutPower.{power-one, layout-power}
 use Rattle.flags.specs.Flags.{bit, dataBit, sizedBit, creationResolvedBit}
 use Rattle.flags.proofs.BitLaws.{bit-or-left, bit-or-right}
-use Rattle.type_info.specs.declared.Verdict.{Verdict}
 use Rattle.type_info.specs.declared.Row.{Row}
 use Rattle.type_info.specs.TypeInfo.{emptyRow}
 use Rattle.type_info.specs.Verdict.{minUniform, minStorage, okVerdict, arrayVerdict, spanVerdict}
@@ -70,12 +68,13 @@ pub record ArrayRow (i bytes stride mask : ℕ) (base r : Row) : Type 0 where
   pub storage : r .storage ≡ arrayVerdict minStorage i stride (base .alignment) (base .storage)
   pub immediates : r .immediates ≡ base .immediates
 
--- an array's base is DATA, SIZED and CREATION_RESOLVED
+-- an array's base is DATA
 pub base-data : {i bytes stride mask : ℕ} {base r : Row} → ArrayRow i bytes stride mask base r → T (bit (base .flags) dataBit)
 base-data {base = base} a =
     and-left (bit (base .flags) dataBit) (bit (base .flags) sizedBit)
     (and-left (bit (base .flags) dataBit && bit (base .flags) sizedBit) (bit (base .flags) creationResolvedBit) (a .isBase))
 
+-- an array's base is SIZED
 pub base-sized : {i bytes stride mask : ℕ} {base r : Row} → ArrayRow i bytes stride mask base r → T (bit (base .flags) sizedBit)
 base-sized {base = base} a =
     and-right (bit (base .flags) dataBit) (bit (base .flags) sizedBit)
@@ -97,6 +96,7 @@ pub record RowPower (r : Row) : Type 0 where
   pub uniform : OkPower (r .uniform)
   pub storage : OkPower (r .storage)
 
+-- the verdict alignment of a leaf is a power of two, where its width is
 leaf-verdict-power : (leaf : Leaf) → Power (leafWidth leaf) → Power (leafVerdictAlignment leaf)
 leaf-verdict-power (Scalar k w) p = p
 leaf-verdict-power (Vector n k w) p = power-vector n w p
@@ -118,17 +118,19 @@ module _ (c : ℕ) (types : ℕ → Decoded) (n : ℕ) (acc : AcceptedTypes c ty
   pub row-before : (i k : ℕ) → k < i → rowsBefore c types i k ≡ row c types k
   row-before i k h = table-value emptyRow (judgeStep c types) i k h
 
+  -- the parts of that judgement, by what the record says
   row-parts : (i : ℕ) → i < n → (this : TypeInner) → types i .inner ≡ this
       → Judged c (innerIn types) (rowsBefore c types i) i (layout types i) this (types i .members) (row c types i)
   row-parts i h this e =
       subst (λ (x : TypeInner). Judged c (innerIn types) (rowsBefore c types i) i (layout types i) x (types i .members) (row c types i)) e
       (judged-parts c (innerIn types) (rowsBefore c types i) i (layout types i) (types i .inner) (types i .members) (row c types i) (row-judged i h))
 
-  -- size and alignment are the layout's
+  -- the size in a row is the layout's
   pub row-size : (i : ℕ) → i < n → row c types i .size ≡ layout types i .size
   unfolding rowOf
   row-size i h = ap (λ (r : Row). r .size) (row-parts i h (types i .inner) refl .is)
 
+  -- and so is the alignment
   pub row-alignment : (i : ℕ) → i < n → row c types i .alignment ≡ layout types i .alignment
   unfolding rowOf
   row-alignment i h = ap (λ (r : Row). r .alignment) (row-parts i h (types i .inner) refl .is)
@@ -157,38 +159,37 @@ module _ (c : ℕ) (types : ℕ → Decoded) (n : ℕ) (acc : AcceptedTypes c ty
   array-row i h base count stride e =
       let p = row-parts i h (Array base count stride) e in
       let l = array-layout types n (acc .layouts) i h base count stride e in
-      let a = required (isArrayBase (rowsBefore c types i base .flags)) 15 0 0 _ (row c types i .flags) (p .flags) in
-      (
+      let a = required (isArrayBase (rowsBefore c types i base .flags)) 15 0 0 _ (row c types i .flags) (p .flags) in (
         l .1,
         subst (λ (b : Row). ArrayRow i (count * stride) stride 247 b (row c types i)) (row-before i base (l .1))
-        (record {
-          isBase = a .0;
-          flags = sym (ok-inj (a .1));
-          size = row-size i h ∙ l .0;
-          uniform = ap (λ (r : Row). r .uniform) (p .is);
-          storage = ap (λ (r : Row). r .storage) (p .is);
-          immediates = ap (λ (r : Row). r .immediates) (p .is);
-        }),
+            (record {
+              isBase = a .0;
+              flags = sym (ok-inj (a .1));
+              size = row-size i h ∙ l .0;
+              uniform = ap (λ (r : Row). r .uniform) (p .is);
+              storage = ap (λ (r : Row). r .storage) (p .is);
+              immediates = ap (λ (r : Row). r .immediates) (p .is);
+            }),
       )
 
+  -- the base of a runtime array is an earlier type; the array's row is made from the base's
   pub runtime-array-row : (i : ℕ) → i < n → (base stride : ℕ) → types i .inner ≡ RuntimeArray base stride
       → (base < i) × ArrayRow i stride stride 149 (row c types base) (row c types i)
   unfolding flagsOf uniformOf storageOf immediatesOf rowOf
   runtime-array-row i h base stride e =
       let p = row-parts i h (RuntimeArray base stride) e in
       let l = runtime-array-layout types n (acc .layouts) i h base stride e in
-      let a = required (isArrayBase (rowsBefore c types i base .flags)) 15 0 0 _ (row c types i .flags) (p .flags) in
-      (
+      let a = required (isArrayBase (rowsBefore c types i base .flags)) 15 0 0 _ (row c types i .flags) (p .flags) in (
         l .1,
         subst (λ (b : Row). ArrayRow i stride stride 149 b (row c types i)) (row-before i base (l .1))
-        (record {
-          isBase = a .0;
-          flags = sym (ok-inj (a .1));
-          size = row-size i h ∙ l .0;
-          uniform = ap (λ (r : Row). r .uniform) (p .is);
-          storage = ap (λ (r : Row). r .storage) (p .is);
-          immediates = ap (λ (r : Row). r .immediates) (p .is);
-        }),
+            (record {
+              isBase = a .0;
+              flags = sym (ok-inj (a .1));
+              size = row-size i h ∙ l .0;
+              uniform = ap (λ (r : Row). r .uniform) (p .is);
+              storage = ap (λ (r : Row). r .storage) (p .is);
+              immediates = ap (λ (r : Row). r .immediates) (p .is);
+            }),
       )
 
   -- the members of a struct are of earlier types
@@ -206,7 +207,7 @@ module _ (c : ℕ) (types : ℕ → Decoded) (n : ℕ) (acc : AcceptedTypes c ty
       let members = types i .members in
       let before = rowsBefore c types i in
       let same : (j : ℕ) → j < count → before (memberType members j) ≡ row c types (memberType members j) =
-          λ j l. row-before i (memberType members j) (member-earlier i h count span e j l) in
+      λ j l. row-before i (memberType members j) (member-earlier i h count span e j l) in
       let a = required (ltb 0 count) 16 0 0 _ (row c types i .flags) (p .flags) in
       let b = and-then-ok (boundsAfter (innerIn types) before count span members count) _ (row c types i .flags) (a .1) in
       record {
@@ -245,6 +246,7 @@ module _ (c : ℕ) (types : ℕ → Decoded) (n : ℕ) (acc : AcceptedTypes c ty
       flags-data c (innerIn types) (rowsBefore c types i) (types i .inner) (types i .members) (row c types i .flags) (row-parts i h (types i .inner) refl .flags)
 
   -- ---- verdict alignments are powers of two
+  -- those of an array are, where the base's are
   array-row-power : (i bytes stride mask : ℕ) (base r : Row) → ArrayRow i bytes stride mask base r → Power (base .alignment) → RowPower base → RowPower r
   array-row-power i bytes stride mask base r a l p =
       record {
@@ -252,6 +254,7 @@ module _ (c : ℕ) (types : ℕ → Decoded) (n : ℕ) (acc : AcceptedTypes c ty
         storage = rw (a .storage) (array-power minStorage i stride (base .alignment) (base .storage) power-one l (p .storage));
       }
 
+  -- those of type i are, where the earlier types' are
   power-step : (i : ℕ) → i < n → (this : TypeInner) → types i .inner ≡ this → ((k : ℕ) → k < i → RowPower (row c types k)) → RowPower (row c types i)
   power-step i h (Plain leaf) e ih =
       let p = plain-row i h leaf e in
@@ -288,6 +291,7 @@ module _ (c : ℕ) (types : ℕ → Decoded) (n : ℕ) (acc : AcceptedTypes c ty
       let v = other-verdicts i h o e in
       record { uniform = rw (v .0) (ok-power 1 power-one); storage = rw (v .1) (ok-power 1 power-one) }
 
+  -- those of the first m types are
   powers-below : (m : ℕ) → m ≤ n → (i : ℕ) → i < m → RowPower (row c types i)
   powers-below zero l i h = absurd (not-suc-le-zero h)
   powers-below (suc m) l i h = go (powers-below m (omega arith)) (ℕ-discrete i m)
@@ -296,17 +300,19 @@ module _ (c : ℕ) (types : ℕ → Decoded) (n : ℕ) (acc : AcceptedTypes c ty
       go ih (yes q) = rw q (power-step m l (types m .inner) refl ih)
       go ih (no q) = ih i (omega arith)
 
+  -- those of each type are
   pub row-power : (i : ℕ) → i < n → RowPower (row c types i)
   row-power = powers-below n (le-refl n)
 
   -- ---- unsized types: only the last member of a struct, and only an array
   pub member-sized : (i : ℕ) → i < n → (count span : ℕ) → types i .inner ≡ Struct count span → (j : ℕ) → j < count
       → T (bit (row c types (memberType (types i .members) j) .flags) sizedBit)
-        ⊎ (T (isArray (types (memberType (types i .members) j) .inner)) × (suc j ≡ count))
+      ⊎ (T (isArray (types (memberType (types i .members) j) .inner)) × (suc j ≡ count))
   member-sized i h count span e j l = struct-member i h count span e j l .sizedOrTail
 
   -- ---- the same records below n
   module _ (types′ : ℕ → Decoded) (same : (k : ℕ) → k < n → types k ≡ types′ k) where
+    -- the types are accepted in the other arena too
     pub accepted-depends : AcceptedTypes c types′ n
     accepted-depends =
         record {
@@ -321,6 +327,7 @@ module _ (c : ℕ) (types : ℕ → Decoded) (n : ℕ) (acc : AcceptedTypes c ty
 
   -- ---- capabilities added
   module _ (d : ℕ) (adds : HasAll c d) where
+    -- what is judged with c is judged the same with d
     more : (i : ℕ) → i < n → (r : Row) → judgeStep c types (rowsBefore c types i) i ≡ ok r → judgeStep d types (rowsBefore c types i) i ≡ ok r
     more i h r e = judge-more c d adds (innerIn types) (rowsBefore c types i) i (layout types i) (types i .inner) (types i .members) r e
 

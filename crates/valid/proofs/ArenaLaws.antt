@@ -1,6 +1,6 @@
 -- Laws of an accepted arena: its parts, and what it says of the rows of its types.
 -- Assumes nothing.
-use mathlib.Core.Path.{_≡_, refl, sym, _∙_, ap, subst}
+use mathlib.Core.Path.{_≡_, refl, _∙_}
 use mathlib.Core.Bool.{Bool, true, false, _&&_, _||_}
 use mathlib.Core.Logic.{_⊎_}
 use mathlib.Core.List.{List, _++_}
@@ -8,21 +8,20 @@ use Prim.Native.Nat.{ℕ, suc, _*_, _<_}
 use native.Mathlib.Omega.{arith}
 use lib.Dec.{T, eqb, eqb→eq}
 use lib.ListN.{length}
-use Rattle.records.specs.Result.{Result, ok, pick}
-use Rattle.records.specs.Record.{Decoded, decoded, typeCount, typeWord, innerOf, typeInner, structMembers, memberType, scalarKind, vectorKind, matrixKind, cooperativeMatrixKind, atomicKind, arrayKind, structKind, rayQueryKind}
+use Rattle.records.specs.Result.{ok, pick}
+use Rattle.records.specs.Record.{decoded, typeCount, typeWord, innerOf, typeInner, structMembers, memberType, scalarKind, vectorKind, matrixKind, cooperativeMatrixKind, atomicKind, arrayKind, structKind, rayQueryKind}
 use Rattle.records.specs.Fields.{rowWords, tablesFit, capabilitiesKnown, recordAt}
-use Rattle.records.specs.Table.{also, firstRefusal}
+use Rattle.records.specs.Table.{firstRefusal}
 use Rattle.records.specs.declared.Outcome.{Outcome}
 use Rattle.records.specs.declared.Outcome.the-variants.{Accepted, Refused}
 use Rattle.records.specs.declared.TypeInner.{TypeInner}
 use Rattle.records.specs.declared.TypeInner.the-variants.{Array, RuntimeArray, Struct}
 use Rattle.records.proofs.ResultLaws.{and-left, and-right}
-use Rattle.records.proofs.TableLaws.{also-accepted, all-ok, accepted-all}
+use Rattle.records.proofs.TableLaws.{also-accepted, all-ok}
 use Rattle.records.proofs.RecordLaws.{record-bounds}
 use Rattle.alignment.specs.Alignment.{Power}
 use Rattle.layouter.specs.Layouter.{layoutAt, layoutOutcome}
 use Rattle.flags.specs.Flags.{bit, dataBit, sizedBit}
-use Rattle.type_info.specs.declared.Row.{Row}
 use Rattle.type_info.specs.Verdict.{isOk, alignmentIn}
 use Rattle.members.specs.Members.{isArray}
 use Rattle.valid.specs.Arena.{judgedAt, row, judgeOutcome, arenaOutcome, arena}
@@ -39,18 +38,22 @@ pub record ArenaParts (c : ℕ) (ts ms : List ℕ) : Type 0 where
   pub layouts : firstRefusal (layoutAt (decoded ts ms)) (typeCount ts) ≡ Accepted
   pub rows : firstRefusal (judgedAt c (decoded ts ms)) (typeCount ts) ≡ Accepted
 
+-- where the outcome behind a test is Accepted, the test holds
 pick-accepted : (b : Bool) (o : Outcome) → pick b o (Refused 1 0 0 0) ≡ Accepted → T b × (o ≡ Accepted)
 pick-accepted true o e = (tt, e)
 pick-accepted false o e = let z : _≡_ {A = ℕ} 0 1 = cc in absurd (omega arith)
 
+-- where the test holds, the outcome behind it is the outcome
 accepted-pick : (b : Bool) (o : Outcome) → T b → o ≡ Accepted → pick b o (Refused 1 0 0 0) ≡ Accepted
 accepted-pick true o t e = e
 accepted-pick false o t e = absurd t
 
+-- two tests that hold
 and-both : (a b : Bool) → T a → T b → T (a && b)
 and-both true b t u = u
 and-both false b t u = t
 
+-- an accepted arena passes every check
 pub arena-parts : (c : ℕ) (ts ms : List ℕ) → arena c ts ms ≡ Accepted → ArenaParts c ts ms
 unfolding arena arenaOutcome layoutOutcome judgeOutcome
 arena-parts c ts ms e =
@@ -61,6 +64,7 @@ arena-parts c ts ms e =
     let d = also-accepted (firstRefusal (recordAt ts ms) (typeCount ts)) (firstRefusal (layoutAt (decoded ts ms)) (typeCount ts)) (b .0) in
     record { capabilities = and-left known fit (a .0); fits = and-right known fit (a .0); records = d .0; layouts = d .1; rows = b .1 }
 
+-- an arena that passes every check is accepted
 pub arena-whole : (c : ℕ) (ts ms : List ℕ) → ArenaParts c ts ms → arena c ts ms ≡ Accepted
 unfolding arena arenaOutcome layoutOutcome judgeOutcome
 arena-whole c ts ms p =
@@ -123,14 +127,17 @@ data-or : (b : Bool) (x y : TypeInner) (rest : Bool) → isDataInner x ≡ true 
 data-or true x y rest p q = p
 data-or false x y rest p q = q
 
+-- the last kind of data: what is left is no data
 data-only : (b : Bool) (x y : TypeInner) → isDataInner x ≡ true → isDataInner y ≡ false → isDataInner (pick b x y) ≡ b
 data-only true x y p q = p
 data-only false x y p q = q
 
+-- a kind that is no data
 data-unless : (b : Bool) (x y : TypeInner) (rest : Bool) → (T b → isDataInner x ≡ rest) → isDataInner y ≡ rest → isDataInner (pick b x y) ≡ rest
 data-unless true x y rest p q = p tt
 data-unless false x y rest p q = q
 
+-- an array of either form is data
 either-array : (b : Bool) (base count stride : ℕ) → isDataInner (pick b (Array base count stride) (RuntimeArray base stride)) ≡ true
 either-array true base count stride = refl
 either-array false base count stride = refl
@@ -154,21 +161,24 @@ inner-data kind a b c d e =
     (data-only (eqb kind 12) _ _ refl refl))))))))))))
 
 module _ (c : ℕ) (ts ms : List ℕ) (accepted : arena c ts ms ≡ Accepted) (i : ℕ) (within : i < typeCount ts) where
-  -- DATA is a matter of what the record says, and so of its kind
+  -- DATA is a matter of what the record says
   pub arena-data : bit (row c (decoded ts ms) i .flags) dataBit ≡ isDataInner (typeInner ts i)
   arena-data = data-kind c (decoded ts ms) (typeCount ts) (accepted-types c ts ms accepted) i within
 
+  -- DATA by the kind: true for 0 to 4, 7, 8 and 12, false for the others
   pub arena-data-kind : bit (row c (decoded ts ms) i .flags) dataBit ≡ isDataKind (typeWord ts i 0)
   unfolding typeInner
   arena-data-kind = arena-data ∙ inner-data (typeWord ts i 0) (typeWord ts i 1) (typeWord ts i 2) (typeWord ts i 3) (typeWord ts i 4) (typeWord ts i 5)
 
-  -- the layout alignment is a power of two, and so are the verdict alignments where the verdicts are Ok
+  -- the layout alignment is a power of two
   pub arena-alignment-power : Power (row c (decoded ts ms) i .alignment)
   arena-alignment-power = row-alignment-power c (decoded ts ms) (typeCount ts) (accepted-types c ts ms accepted) i within
 
+  -- so is the alignment in a storage verdict that is Ok
   pub arena-storage-power : T (isOk (row c (decoded ts ms) i .storage)) → Power (alignmentIn (row c (decoded ts ms) i .storage))
   arena-storage-power = row-power c (decoded ts ms) (typeCount ts) (accepted-types c ts ms accepted) i within .storage
 
+  -- so is the alignment in a uniform verdict that is Ok
   pub arena-uniform-power : T (isOk (row c (decoded ts ms) i .uniform)) → Power (alignmentIn (row c (decoded ts ms) i .uniform))
   arena-uniform-power = row-power c (decoded ts ms) (typeCount ts) (accepted-types c ts ms accepted) i within .uniform
 
@@ -179,6 +189,7 @@ module _ (c : ℕ) (ts ms : List ℕ) (accepted : arena c ts ms ≡ Accepted) (i
       let a = array-row c (decoded ts ms) (typeCount ts) (accepted-types c ts ms accepted) i within base count stride e in
       (a .0, base-sized (a .1))
 
+  -- a runtime array's base is an earlier type, and SIZED
   pub arena-runtime-array-base : (base stride : ℕ) → typeInner ts i ≡ RuntimeArray base stride
       → (base < i) × T (bit (row c (decoded ts ms) base .flags) sizedBit)
   arena-runtime-array-base base stride e =
@@ -188,8 +199,8 @@ module _ (c : ℕ) (ts ms : List ℕ) (accepted : arena c ts ms ≡ Accepted) (i
   -- a struct's member is of an earlier type, and SIZED unless it is the last member and an array
   pub arena-member : (count span : ℕ) → typeInner ts i ≡ Struct count span → (j : ℕ) → j < count
       → (memberType (structMembers ts ms i) j < i)
-        × (T (bit (row c (decoded ts ms) (memberType (structMembers ts ms i) j) .flags) sizedBit)
-          ⊎ (T (isArray (typeInner ts (memberType (structMembers ts ms i) j))) × (suc j ≡ count)))
+      × (T (bit (row c (decoded ts ms) (memberType (structMembers ts ms i) j) .flags) sizedBit)
+      ⊎ (T (isArray (typeInner ts (memberType (structMembers ts ms i) j))) × (suc j ≡ count)))
   arena-member count span e j l =
       let acc = accepted-types c ts ms accepted in (
         member-earlier c (decoded ts ms) (typeCount ts) acc i within count span e j l,

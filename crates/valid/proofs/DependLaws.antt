@@ -1,13 +1,13 @@
 -- The layout and the row of a type depend on the records up to that type alone.
 -- Assumes nothing.
-use mathlib.Core.Path.{_≡_, refl, sym, _∙_, ap, subst}
-use Prim.Native.Nat.{ℕ, _≤_, _<_}
+use mathlib.Core.Path.{_≡_, sym, _∙_, ap}
+use Prim.Native.Nat.{ℕ, _<_}
 use native.Mathlib.Decide.{decLt}
 use native.Mathlib.Omega.{arith}
 use lib.Dec.{T}
-use Rattle.records.specs.Result.{Result, ok, valueOr}
+use Rattle.records.specs.Result.{ok, valueOr}
 use Rattle.records.specs.Record.{Decoded}
-use Rattle.records.specs.Table.{table, resultAt, valueAt}
+use Rattle.records.specs.Table.{table, resultAt}
 use Rattle.records.specs.declared.TypeInner.{TypeInner}
 use Rattle.records.proofs.TableLaws.{table-above}
 use Rattle.layouter.specs.declared.TypeLayout.{TypeLayout}
@@ -38,9 +38,11 @@ resolved-earlier c types i k t = go (decLt k i)
 
 -- ---- two arenas whose records below n are the same
 module _ (types types′ : ℕ → Decoded) (n : ℕ) (same : (k : ℕ) → k < n → types k ≡ types′ k) where
+  -- one layout, from the same layouts before it
   layout-step-same : (g : ℕ → TypeLayout) (i : ℕ) → i < n → layoutStep types g i ≡ layoutStep types′ g i
   layout-step-same g i h = ap (λ (d : Decoded). layoutOf g i (d .inner) (d .members)) (same i h)
 
+  -- and its value
   layout-value-same : (i : ℕ) → i < n
       → valueOr noLayout (layoutStep types (table noLayout (layoutStep types) i) i) ≡ valueOr noLayout (layoutStep types′ (table noLayout (layoutStep types) i) i)
   layout-value-same i h = ap (valueOr noLayout) (layout-step-same (table noLayout (layoutStep types) i) i h)
@@ -55,7 +57,7 @@ module _ (types types′ : ℕ → Decoded) (n : ℕ) (same : (k : ℕ) → k < 
   layout-at-depends i h =
       layout-step-same (table noLayout (layoutStep types) i) i h
       ∙ ap (λ (t : ℕ → TypeLayout). layoutStep types′ t i)
-        (tables-agree noLayout (layoutStep types) (layoutStep types′) i (λ k l. layout-value-same k (omega arith)))
+      (tables-agree noLayout (layoutStep types) (layoutStep types′) i (λ k l. layout-value-same k (omega arith)))
 
   module _ (c : ℕ) where
     -- the judgement of type i, with the second arena's record and layout put for the first's
@@ -65,19 +67,22 @@ module _ (types types′ : ℕ → Decoded) (n : ℕ) (same : (k : ℕ) → k < 
         ap (λ (l : TypeLayout). judge c inner rows i l (types i .inner) (types i .members)) (layout-depends i h)
         ∙ ap (λ (d : Decoded). judge c inner rows i (layout types′ i) (d .inner) (d .members)) (same i h)
 
+    -- what the first arena accepts the second accepts, over the same rows
     forth : (i : ℕ) → i < n → (r : Row) → judgeStep c types (rowsBefore c types i) i ≡ ok r → judgeStep c types′ (rowsBefore c types i) i ≡ ok r
     forth i h r e =
         sym (record-same (innerIn types′) (rowsBefore c types i) i h)
         ∙ judge-inner c (innerIn types) (innerIn types′) (rowsBefore c types i)
-          (λ k t. let l = resolved-earlier c types i k t in ap (λ (d : Decoded). d .inner) (same k (omega arith)))
-          i (layout types i) (types i .inner) (types i .members) r e
+        (λ k t. let l = resolved-earlier c types i k t in ap (λ (d : Decoded). d .inner) (same k (omega arith)))
+        i (layout types i) (types i .inner) (types i .members) r e
 
+    -- and the other way round
     back : (i : ℕ) → i < n → (r : Row) → judgeStep c types′ (rowsBefore c types i) i ≡ ok r → judgeStep c types (rowsBefore c types i) i ≡ ok r
     back i h r e =
         judge-inner c (innerIn types′) (innerIn types) (rowsBefore c types i)
         (λ k t. let l = resolved-earlier c types i k t in ap (λ (d : Decoded). d .inner) (sym (same k (omega arith))))
         i (layout types i) (types i .inner) (types i .members) r (record-same (innerIn types′) (rowsBefore c types i) i h ∙ e)
 
+    -- so the rows made are the same
     value-step-same : (i : ℕ) → i < n
         → valueOr emptyRow (judgeStep c types (rowsBefore c types i) i) ≡ valueOr emptyRow (judgeStep c types′ (rowsBefore c types i) i)
     value-step-same i h =
