@@ -1,1 +1,3 @@
 pub mod StateLaws
+pub mod MemberLaws
+pub mod MemberSame

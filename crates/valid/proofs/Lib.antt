@@ -1,3 +1,9 @@
 pub mod RowParts
 pub mod JudgeRows
 pub mod CheckLaws
+pub mod CapabilityLaws
+pub mod JudgeLaws
+pub mod DependLaws
+pub mod AcceptedLaws
+pub mod AppendLaws
+pub mod ArenaLaws

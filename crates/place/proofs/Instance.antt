@@ -1,0 +1,135 @@
+-- The hypotheses of term 3 can be met: a struct with an array of structs, a struct and a runtime array, its places computed.
+-- Assumes nothing.
+use mathlib.Core.Path.{_≡_, refl}
+use mathlib.Core.Logic.{_≢_}
+use mathlib.Core.List.{List, [], _∷_}
+use Prim.Native.Nat.{ℕ, zero, suc, _+_, _≤_, _<_, _∣_}
+use native.Mathlib.Nat.{le-refl}
+use native.Mathlib.Omega.{arith}
+use lib.ListN.{getElem?}
+use Rattle.records.specs.Record.{Decoded, decoded, innerOf, typeInner, structMembers}
+use Rattle.records.specs.Fields.{tablesFit, fieldsOk, recordAt}
+use Rattle.records.specs.Table.{resultAt, valueAt}
+use Rattle.records.specs.declared.Outcome.the-variants.{Accepted}
+use Rattle.type_methods.specs.TypeMethods.{trySize}
+use Rattle.layouter.specs.Layouter.{membersAlignment, alignmentOf, layoutOf, layoutOutcome}
+use Rattle.width.specs.Width.{integerWidth, floatWidth, checkWidth}
+use Rattle.type_info.specs.Verdict.{alignmentIn, arrayVerdict, shareVerdict, memberVerdict, distanceVerdict, distanceOk, unsizedVerdict, spanVerdict}
+use Rattle.members.specs.Members.{previousOf, memberBounds, boundsAfter, uniformAfter, storageAfter, immediatesAfter}
+use Rattle.valid.specs.Valid.{leafFlags, flagsOf, uniformOf, storageOf, immediatesOf, rowOf, judge}
+use Rattle.valid.specs.Arena.{row, judgeOutcome, arenaOutcome, arena}
+use Rattle.valid.proofs.AcceptedLaws.{AcceptedTypes, array-row, runtime-array-row, member-earlier}
+use Rattle.valid.proofs.ArenaLaws.{accepted-types}
+use Rattle.place.specs.declared.Place.the-variants.{At}
+use Rattle.place.specs.Place.{stepOf, placeOf}
+use Rattle.place.specs.Term3.{rowIn, HostShareableData, Reached, itself, element, runtimeElement, member, strideCovers, StridesCover, rewrite}
+use Rattle.place.proofs.Term3Proof.{term3}
+
+-- ---- what is reached from an accepted type is an accepted type
+pub reached-within : (c : ℕ) (types : ℕ → Decoded) (n : ℕ) → AcceptedTypes c types n → {t a : ℕ} → Reached types t a → t < n → a < n
+reached-within c types n acc itself h = h
+reached-within c types n acc (element {t = t} {base = base} {count = count} {stride = stride} e r) h =
+    let b = array-row c types n acc t h base count stride e .0 in reached-within c types n acc r (omega arith)
+reached-within c types n acc (runtimeElement {t = t} {base = base} {stride = stride} e r) h =
+    let b = runtime-array-row c types n acc t h base stride e .0 in reached-within c types n acc r (omega arith)
+reached-within c types n acc (member {t = t} {count = count} {span = span} j e l r) h =
+    let b = member-earlier c types n acc t h count span e j l in reached-within c types n acc r (omega arith)
+
+-- where each array of the arena has a stride of at least its element's size, so has each that is reached
+pub strides-cover : (c : ℕ) (types : ℕ → Decoded) (n : ℕ) → AcceptedTypes c types n → ((a : ℕ) → a < n → strideCovers (row c types) (types a .inner))
+    → (t : ℕ) → t < n → StridesCover (row c types) types t
+strides-cover c types n acc each t h a r = each a (reached-within c types n acc r h)
+
+-- ---- the arena: 0 is f32, 1 is vec3<f32>, 2 is struct { vec3<f32> at 0, f32 at 12 }, 3 is array<2, 2>, 4 is array<f32>,
+-- 5 is struct { 3 at 0, 2 at 32, 4 at 48 }
+abbrev pub types : List ℕ
+types =
+    0 ∷ 2 ∷ 4 ∷ 0 ∷ 0 ∷ 0
+    ∷ 1 ∷ 3 ∷ 2 ∷ 4 ∷ 0 ∷ 0
+    ∷ 8 ∷ 0 ∷ 2 ∷ 16 ∷ 0 ∷ 0
+    ∷ 7 ∷ 2 ∷ 0 ∷ 2 ∷ 16 ∷ 0
+    ∷ 7 ∷ 0 ∷ 1 ∷ 0 ∷ 4 ∷ 0
+    ∷ 8 ∷ 2 ∷ 3 ∷ 64 ∷ 0 ∷ 0
+    ∷ []
+
+-- two rows of struct 2, three of struct 5
+abbrev pub members : List ℕ
+members = 1 ∷ 0 ∷ 0 ∷ 12 ∷ 3 ∷ 0 ∷ 2 ∷ 32 ∷ 4 ∷ 48 ∷ []
+
+-- it is accepted with no capability
+pub accepted : arena 0 types members ≡ Accepted
+unfolding arena arenaOutcome layoutOutcome judgeOutcome tablesFit recordAt fieldsOk typeInner innerOf structMembers resultAt valueAt trySize membersAlignment alignmentOf layoutOf integerWidth floatWidth checkWidth arrayVerdict shareVerdict memberVerdict distanceVerdict distanceOk unsizedVerdict spanVerdict previousOf memberBounds boundsAfter uniformAfter storageAfter immediatesAfter leafFlags flagsOf uniformOf storageOf immediatesOf rowOf judge
+accepted = refl
+
+-- the sizes of types 0, 1, 2 and 5
+pub sizes : (rowIn 0 types members 0 .size ≡ 4) × (rowIn 0 types members 1 .size ≡ 12) × (rowIn 0 types members 2 .size ≡ 16) × (rowIn 0 types members 5 .size ≡ 64)
+unfolding typeInner innerOf structMembers resultAt valueAt trySize membersAlignment alignmentOf layoutOf integerWidth floatWidth checkWidth arrayVerdict shareVerdict memberVerdict distanceVerdict distanceOk unsizedVerdict spanVerdict previousOf memberBounds boundsAfter uniformAfter storageAfter immediatesAfter leafFlags flagsOf uniformOf storageOf immediatesOf rowOf judge
+sizes = (refl, refl, refl, refl)
+
+-- the flags of the struct: DATA, COPY, HOST_SHAREABLE and CREATION_RESOLVED
+pub flags : rowIn 0 types members 5 .flags ≡ 149
+unfolding typeInner innerOf structMembers resultAt valueAt trySize membersAlignment alignmentOf layoutOf integerWidth floatWidth checkWidth arrayVerdict shareVerdict memberVerdict distanceVerdict distanceOk unsizedVerdict spanVerdict previousOf memberBounds boundsAfter uniformAfter storageAfter immediatesAfter leafFlags flagsOf uniformOf storageOf immediatesOf rowOf judge
+flags = refl
+
+-- its storage verdict: Ok with alignment 16
+pub storage : (rowIn 0 types members 5 .storage .code ≡ 0) × (rowIn 0 types members 5 .storage .ty ≡ 16)
+unfolding typeInner innerOf structMembers resultAt valueAt trySize membersAlignment alignmentOf layoutOf integerWidth floatWidth checkWidth arrayVerdict shareVerdict memberVerdict distanceVerdict distanceOk unsizedVerdict spanVerdict previousOf memberBounds boundsAfter uniformAfter storageAfter immediatesAfter leafFlags flagsOf uniformOf storageOf immediatesOf rowOf judge
+storage = (refl, refl)
+
+-- the struct is a host-shareable data type of an accepted arena
+pub shareable : HostShareableData 0 types members 5
+shareable =
+    record {
+      accepted = accepted;
+      within = omega arith;
+      isData = rw flags tt;
+      hostShareable = rw flags tt;
+    }
+
+-- each array of the arena has a stride of at least its element's size
+each-covers : (a : ℕ) → a < 6 → strideCovers (rowIn 0 types members) (decoded types members a .inner)
+unfolding typeInner innerOf
+each-covers zero h = tt
+each-covers (suc zero) h = tt
+each-covers (suc (suc zero)) h = tt
+each-covers (suc (suc (suc zero))) h = rw (sizes .2) (le-refl 16)
+each-covers (suc (suc (suc (suc zero)))) h = rw (sizes .0) (le-refl 4)
+each-covers (suc (suc (suc (suc (suc zero))))) h = tt
+each-covers (suc (suc (suc (suc (suc (suc a)))))) h = absurd (omega arith)
+
+-- so has each array that is reached from the struct
+pub covers : StridesCover (rowIn 0 types members) (decoded types members) 5
+covers = strides-cover 0 (decoded types members) 6 (accepted-types 0 types members accepted) each-covers 5 (omega arith)
+
+-- ---- places
+-- the f32 of the second struct of the array; the vec3<f32> of the struct after it; the fourth element of the runtime array
+pub in-array : placeOf types members 5 (0 ∷ 1 ∷ 1 ∷ []) ≡ At 28 0
+unfolding placeOf stepOf typeInner innerOf structMembers
+in-array = refl
+
+pub in-struct : placeOf types members 5 (1 ∷ 0 ∷ []) ≡ At 32 1
+unfolding placeOf stepOf typeInner innerOf structMembers
+in-struct = refl
+
+pub in-tail : placeOf types members 5 (2 ∷ 3 ∷ []) ≡ At 60 0
+unfolding placeOf stepOf typeInner innerOf structMembers
+in-tail = refl
+
+-- the steps of the first two differ
+pub different : _≢_ {A = List ℕ} (0 ∷ 1 ∷ 1 ∷ []) (1 ∷ 0 ∷ [])
+different e = let z : _≡_ {A = ℕ} 0 1 = cc in omega arith
+
+-- ---- what term 3 says of them
+-- whatever is written to the f32, the twelve bytes of the vec3<f32> stay
+pub stays : (buffer bytes : List ℕ) (k : ℕ) → 32 ≤ k → k < 44 → getElem? (rewrite buffer 28 4 bytes) k ≡ getElem? buffer k
+stays buffer bytes k low high =
+    rw (sizes .0) at
+    (term3 .others 0 types members 5 shareable covers (0 ∷ 1 ∷ 1 ∷ []) (1 ∷ 0 ∷ []) 28 0 32 1 in-array in-struct different buffer bytes k low (rw (sizes .1) high))
+
+-- the vec3<f32> lies within the struct's size, and at a multiple of its own storage alignment
+pub inside : 32 + rowIn 0 types members 1 .size ≤ rowIn 0 types members 5 .size
+unfolding stepOf typeInner innerOf structMembers
+inside = term3 .within 0 types members 5 shareable covers (1 ∷ 0 ∷ []) 32 1 in-struct (tt, (tt, tt))
+
+pub multiple : alignmentIn (rowIn 0 types members 1 .storage) ∣ 32
+multiple = term3 .aligned 0 types members 5 shareable (rw (storage .0) tt) (1 ∷ 0 ∷ []) 32 1 in-struct .1
