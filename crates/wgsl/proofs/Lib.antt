@@ -2,3 +2,5 @@ pub mod RoundLaws
 pub mod TypeLaws
 pub mod Agreement
 pub mod Example
+pub mod TreeLaws
+pub mod VerdictLaws
