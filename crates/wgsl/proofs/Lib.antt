@@ -4,3 +4,5 @@ pub mod Agreement
 pub mod Example
 pub mod TreeLaws
 pub mod VerdictLaws
+pub mod BoundsLaws
+pub mod RowLaws

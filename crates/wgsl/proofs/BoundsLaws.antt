@@ -1,0 +1,153 @@
+-- What an accepted struct says of its members: their flags, the running end, and which of them are sized. Laws of bits.
+-- Assumes nothing.
+use mathlib.Core.Path.{_≡_, refl, sym, _∙_, ap}
+use mathlib.Core.Bool.{Bool, true, false, _&&_, _||_}
+use mathlib.Core.List.{List}
+use Prim.Native.Nat.{ℕ, zero, suc, _+_, _/_, _%_, _^_, _≤_, _<_, min}
+use native.Mathlib.Nat.{not-suc-le-zero}
+use native.Mathlib.Decide.{ℕ-discrete}
+use native.Mathlib.Omega.{arith}
+use lib.Bits.{bitAnd, and-shr, and-step}
+use lib.Dec.{T, eqb, leb, eqb→eq, eqb-refl}
+use borrow.Author.Tests.{le-leb}
+use Rattle.records.specs.Result.{Result, ok, pick, require, andThen}
+use Rattle.records.specs.Record.{memberType, memberOffset, structKind}
+use Rattle.records.specs.declared.TypeInner.{TypeInner}
+use Rattle.records.proofs.ResultLaws.{required, and-then-ok, ok-inj}
+use Rattle.alignment.specs.Alignment.{most}
+use Rattle.flags.specs.Flags.{bit, dataBit, sizedBit, hostShareableBit, creationResolvedBit, startingFlags, notHostShareable}
+use Rattle.type_info.specs.declared.Row.{Row}
+use Rattle.type_info.specs.declared.Previous.{Previous}
+use Rattle.type_info.specs.Verdict.{distanceOk}
+use Rattle.members.specs.declared.Bounds.{Bounds}
+use Rattle.members.specs.Members.{previousOf, isArray, memberFlags, memberBounds, boundsAfter}
+
+-- ---- bits
+-- equal numbers are equal to the test
+equal-test : (m n : ℕ) → m ≡ n → T (eqb m n)
+equal-test m n e = rw e (eqb-refl n)
+
+-- a bit of a meet is a bit of both words
+pub bit-and : (x y k : ℕ) → T (bit (bitAnd x y) k) → T (bit x k) × T (bit y k)
+bit-and x y k t =
+    let e : bitAnd x y / 2 ^ k % 2 ≡ 1 = eqb→eq (bitAnd x y / 2 ^ k % 2) 1 t in
+    let a = x / 2 ^ k in
+    let b = y / 2 ^ k in
+    let f : bitAnd a b % 2 ≡ 1 = sym (ap (λ (z : ℕ). z % 2) (and-shr x y k)) ∙ e in
+    let g = and-step a b in
+    (equal-test (a % 2) 1 (omega arith), equal-test (b % 2) 1 (omega arith))
+
+-- a bit of both words is a bit of their meet
+pub bit-and-both : (x y k : ℕ) → T (bit x k) → T (bit y k) → T (bit (bitAnd x y) k)
+bit-and-both x y k t u =
+    let a = x / 2 ^ k in
+    let b = y / 2 ^ k in
+    let e : a % 2 ≡ 1 = eqb→eq (a % 2) 1 t in
+    let f : b % 2 ≡ 1 = eqb→eq (b % 2) 1 u in
+    let g = and-step a b in
+    let h : bitAnd a b % 2 ≡ 1 = omega arith in
+    equal-test (bitAnd x y / 2 ^ k % 2) 1 (ap (λ (z : ℕ). z % 2) (and-shr x y k) ∙ h)
+
+-- ---- one member
+-- a flag that is still set after a member was set before it, and in the member's type
+kept : (end offset x y : ℕ) → T (bit (memberFlags end offset (bitAnd x y)) hostShareableBit) → T (bit x hostShareableBit) × T (bit y hostShareableBit)
+kept end offset x y = go (leb end offset)
+  where
+    go : (b : Bool) → T (bit (pick b (bitAnd x y) (notHostShareable (bitAnd x y))) hostShareableBit) → T (bit x hostShareableBit) × T (bit y hostShareableBit)
+    go true t = bit-and x y hostShareableBit t
+    go false t = bit-and x y hostShareableBit (bit-and (bitAnd x y) 239 hostShareableBit t .0)
+
+-- and it stays set after a member that starts at the running end or later, where both have it
+stays : (end offset x y : ℕ) → end ≤ offset → T (bit x hostShareableBit) → T (bit y hostShareableBit)
+    → T (bit (memberFlags end offset (bitAnd x y)) hostShareableBit)
+stays end offset x y h t u = rw (le-leb end offset h) (bit-and-both x y hostShareableBit t u)
+
+-- sized, or an array at the end
+abbrev pub SizedOrLast : (sized array final : Bool) → Type 0
+SizedOrLast sized array final = T (sized || array && final)
+
+-- the members of a struct of `count` members: after j + 1 of them, from what is after j
+module _ (inner : ℕ → TypeInner) (rows : ℕ → Row) (count span : ℕ) (members : List ℕ) where
+  -- the row of the type of member j
+  abbrev pub rowOfMember : ℕ → Row
+  rowOfMember j = rows (memberType members j)
+
+  pub record After (j : ℕ) (b : Bounds) : Type 0 where
+    pub before : Bounds
+    pub is-before : boundsAfter inner rows count span members j ≡ ok before
+    pub sized : SizedOrLast (bit (rowOfMember j .flags) sizedBit) (isArray (inner (memberType members j))) (eqb (suc j) count)
+    pub is-end : b .end ≡ memberOffset members j + rowOfMember j .size
+    pub is-flags : b .flags ≡ memberFlags (before .end) (memberOffset members j) (bitAnd (before .flags) (rowOfMember j .flags))
+
+  after : (j : ℕ) (b : Bounds) → boundsAfter inner rows count span members (suc j) ≡ ok b → After j b
+  unfolding boundsAfter memberBounds
+  after j b e =
+      let previous = previousOf inner members j in
+      let this = inner (memberType members j) in
+      let offset = memberOffset members j in
+      let r = rowOfMember j in
+      let s = and-then-ok (boundsAfter inner rows count span members j) (memberBounds count span previous this offset j r) b e in
+      let data-given = required (bit (r .flags) dataBit && bit (r .flags) creationResolvedBit) 17 j 0 _ b (s .2) in
+      let no-overlap = required (leb (s .0 .end) offset || eqb offset 0) 18 j 0 _ b (data-given .1) in
+      let small = required (leb (offset + r .size) most) 21 j 0 _ b (no-overlap .1) in
+      let within = required (leb (offset + r .size) span) 19 j 0 _ b (small .1) in
+      let distance = required (distanceOk previous offset) 21 j 0 _ b (within .1) in
+      let sized = required (bit (r .flags) sizedBit || isArray this && eqb (suc j) count) 20 j 0 _ b (distance .1) in
+      let is = ok-inj (sized .1) in
+      record {
+        before = s .0;
+        is-before = s .1;
+        sized = sized .0;
+        is-end = sym (ap (λ (x : Bounds). x .end) is);
+        is-flags = sym (ap (λ (x : Bounds). x .flags) is);
+      }
+
+  -- ---- all members
+  -- the running end before member j
+  abbrev pub endBefore : ℕ → ℕ
+  endBefore zero = 0
+  endBefore (suc j) = memberOffset members j + rowOfMember j .size
+
+  end-is : (j : ℕ) (b : Bounds) → boundsAfter inner rows count span members j ≡ ok b → b .end ≡ endBefore j
+  unfolding boundsAfter
+  end-is zero b e = sym (ap (λ (x : Bounds). x .end) (ok-inj e))
+  end-is (suc j) b e = after j b e .is-end
+
+  -- each of the first j members is sized, or an array at the end
+  pub sized-each : (j : ℕ) (b : Bounds) → boundsAfter inner rows count span members j ≡ ok b → (i : ℕ) → i < j
+      → SizedOrLast (bit (rowOfMember i .flags) sizedBit) (isArray (inner (memberType members i))) (eqb (suc i) count)
+  sized-each zero b e i h = absurd (not-suc-le-zero h)
+  sized-each (suc j) b e i h = let a = after j b e in go (sized-each j (a .before) (a .is-before)) (a .sized) (ℕ-discrete i j)
+    where
+      go : ((k : ℕ) → k < j → SizedOrLast (bit (rowOfMember k .flags) sizedBit) (isArray (inner (memberType members k))) (eqb (suc k) count))
+          → SizedOrLast (bit (rowOfMember j .flags) sizedBit) (isArray (inner (memberType members j))) (eqb (suc j) count)
+          → Dec (i ≡ j) → SizedOrLast (bit (rowOfMember i .flags) sizedBit) (isArray (inner (memberType members i))) (eqb (suc i) count)
+      go ih this (yes q) = rw q this
+      go ih this (no q) = ih i (omega arith)
+
+  -- where HOST_SHAREABLE is set after j members, it is set in the type of each
+  pub shareable-each : (j : ℕ) (b : Bounds) → boundsAfter inner rows count span members j ≡ ok b → T (bit (b .flags) hostShareableBit)
+      → (i : ℕ) → i < j → T (bit (rowOfMember i .flags) hostShareableBit)
+  shareable-each zero b e t i h = absurd (not-suc-le-zero h)
+  shareable-each (suc j) b e t i h =
+      let a = after j b e in
+      let k = kept (a .before .end) (memberOffset members j) (a .before .flags) (rowOfMember j .flags) (rw (a .is-flags) at t) in
+      go (shareable-each j (a .before) (a .is-before) (k .0)) (k .1) (ℕ-discrete i j)
+    where
+      go : ((k : ℕ) → k < j → T (bit (rowOfMember k .flags) hostShareableBit)) → T (bit (rowOfMember j .flags) hostShareableBit)
+          → Dec (i ≡ j) → T (bit (rowOfMember i .flags) hostShareableBit)
+      go ih this (yes q) = rw q this
+      go ih this (no q) = ih i (omega arith)
+
+  -- and it is set after j members where it is set in the type of each and no member starts before the running end
+  pub shareable-all : (j : ℕ) (b : Bounds) → boundsAfter inner rows count span members j ≡ ok b
+      → ((i : ℕ) → i < j → (endBefore i ≤ memberOffset members i) × T (bit (rowOfMember i .flags) hostShareableBit)) → T (bit (b .flags) hostShareableBit)
+  unfolding boundsAfter
+  shareable-all zero b e each = rw (sym (ok-inj e)) tt
+  shareable-all (suc j) b e each =
+      let a = after j b e in
+      let this = each j (omega arith) in
+      let ended = end-is j (a .before) (a .is-before) in
+      rw (a .is-flags)
+      (stays (a .before .end) (memberOffset members j) (a .before .flags) (rowOfMember j .flags) (omega arith)
+      (shareable-all j (a .before) (a .is-before) (λ i h. each i (omega arith))) (this .1))
