@@ -6,3 +6,4 @@ pub mod TreeLaws
 pub mod VerdictLaws
 pub mod BoundsLaws
 pub mod RowLaws
+pub mod MemberLaws
