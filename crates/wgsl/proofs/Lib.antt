@@ -7,3 +7,4 @@ pub mod VerdictLaws
 pub mod BoundsLaws
 pub mod RowLaws
 pub mod MemberLaws
+pub mod StructLaws

@@ -38,6 +38,12 @@ member-shareable (last type size) all i = all
 member-shareable (member type size rest) all zero = all .0
 member-shareable (member type size rest) all (suc i) = member-shareable rest (all .1) i
 
+-- a struct is host-shareable where each of its members is
+pub shareable-members : (members : Members) → ((i : ℕ) → i < memberTotal members → HostShareable (typeOfMember members i)) → AllHostShareable members
+unfolding HostShareable typeOfMember lastMember
+shareable-members (last type size) each = each 0 (omega arith)
+shareable-members (member type size rest) each = (each 0 (omega arith), shareable-members rest (λ i h. each (suc i) (omega arith)))
+
 -- the constraints of all members, to those of each
 constraints-each : (members : Members) (space : Space) → AllConstraints members space → (i : ℕ) → Constraints (typeOfMember members i) space
 unfolding Constraints typeOfMember
