@@ -18,7 +18,7 @@ use Rattle.records.specs.declared.Outcome.the-variants.{Accepted}
 use Rattle.records.specs.declared.Leaf.{Leaf}
 use Rattle.records.specs.declared.Leaf.the-variants.{Scalar as ScalarLeaf, Vector as VectorLeaf, Matrix as MatrixLeaf, Atomic as AtomicLeaf}
 use Rattle.records.specs.declared.TypeInner.{TypeInner}
-use Rattle.records.specs.declared.TypeInner.the-variants.{Plain}
+use Rattle.records.specs.declared.TypeInner.the-variants.{Plain, Struct}
 use Rattle.records.proofs.ResultLaws.{required, and-then-ok, ok-inj, and-left, and-right}
 use Rattle.layouter.specs.Layouter.{membersAlignment, noLayout, layoutStep, layoutAt, layout}
 use Rattle.layouter.proofs.AcceptedLaws.{array-layout, runtime-array-layout, struct-layout, member-layout}
@@ -36,7 +36,7 @@ use Rattle.wgsl.specs.Constraints.{Space, storage, uniform, requiredAlig
 use Rattle.wgsl.proofs.RoundLaws.{round-up-multiple}
 use Rattle.wgsl.proofs.TypeLaws.{align-positive}
 use Rattle.wgsl.proofs.Agreement.{agreement}
-use Rattle.wgsl.proofs.TreeLaws.{member-is, member-shareable, shareable-members, offset-after, offsets-grow, leastIn, required-least, required-array, required-runtime-array, stride-fits, NextDistance}
+use Rattle.wgsl.proofs.TreeLaws.{member-is, member-shareable, size-multiple, shareable-members, offset-after, offsets-grow, leastIn, required-least, required-array, required-runtime-array, stride-fits, NextDistance}
 use Rattle.wgsl.proofs.VerdictLaws.{Judged, judged-ok, judged-same, judged-array, judged-span, DistanceKept}
 use Rattle.wgsl.proofs.BoundsLaws.{bit-and, bit-and-both, SizedOrLast, endBefore, sized-each, shareable-each, shareable-all}
 use Rattle.wgsl.proofs.RowLaws.{verdictIn, afterIn, row-layout, leaf-flags, leaf-verdict, earlier-row, array-flags, runtime-array-flags, array-verdict, runtime-array-verdict, struct-bounds, struct-verdict}
@@ -66,6 +66,17 @@ numeric-marked bool = (λ n. n, λ t. t)
 numeric-marked (integer i32) = (λ n. tt, λ t. tt)
 numeric-marked (integer u32) = (λ n. tt, λ t. tt)
 numeric-marked (float f) = (λ n. tt, λ t. tt)
+
+-- ---- sized members
+-- what is no array is sized
+sized-alone : (sized final : Bool) → SizedOrLast sized false final → T sized
+sized-alone true final s = tt
+sized-alone false final s = s
+
+-- the base of an array is sized
+base-sized : (flags : ℕ) → T (isArrayBase flags) → T (bit flags sizedBit)
+base-sized flags b =
+    and-right (bit flags dataBit) (bit flags sizedBit) (and-left (bit flags dataBit && bit flags sizedBit) (bit flags creationResolvedBit) b)
 
 -- ---- verdicts of arrays
 -- the alignment in an array's verdict
@@ -188,6 +199,33 @@ module _ (c : ℕ) (types : ℕ → Decoded) (n : ℕ) (laid : firstRefusal (lay
         (stride-agrees element space t (row c types (is .0) .alignment) (verdictIn (row c types (is .0)) space) (row-align (is .0) below element shareable (is .2))
         (agrees (is .0) below (is .2)))
 
+  module _ (t : ℕ) (h : t < n) where
+    -- what is no array is sized where it is a member
+    plain-sized : (inner : TypeInner) → types t .inner ≡ inner → isArray inner ≡ false → (final : Bool)
+        → SizedOrLast (bit (row c types t .flags) sizedBit) (isArray (types t .inner)) final → T (bit (row c types t .flags) sizedBit) ↔ Unit {0}
+    plain-sized inner e no-array final placed =
+        (λ s. tt, λ u. sized-alone (bit (row c types t .flags) sizedBit) final (rw (e, no-array) at placed))
+
+    -- a member is sized exactly where it is no runtime-sized array
+    sized-same : (type : WgslType) → IsType type types t → (final : Bool)
+        → SizedOrLast (bit (row c types t .flags) sizedBit) (isArray (types t .inner)) final → T (bit (row c types t .flags) sizedBit) ↔ FixedSize type
+    unfolding IsType
+    sized-same (scalar s) is final placed = plain-sized (Plain (ScalarLeaf (kindOf s) (widthOf s))) is refl final placed
+    sized-same (vector d s) is final placed = plain-sized (Plain (VectorLeaf (number d) (kindOf s) (widthOf s))) is refl final placed
+    sized-same (matrix columns rows f) is final placed =
+        plain-sized (Plain (MatrixLeaf (number columns) (number rows) (kindOf (float f)) (widthOf (float f)))) is refl final placed
+    sized-same (atomic i) is final placed = plain-sized (Plain (AtomicLeaf (kindOf (integer i)) (widthOf (integer i)))) is refl final placed
+    sized-same (array element count) is final placed =
+        let earlier = array-layout types n laid t h (is .0) count (strideOf element) (is .1) .1 in
+        let f = array-flags c types n accepted t h (is .0) count (strideOf element) (is .1) earlier in
+        let base = row c types (is .0) .flags in
+        rw (f .1) (λ s. tt, λ u. bit-and-both base 247 sizedBit (base-sized base (f .0)) tt)
+    sized-same (runtimeArray element) is final placed =
+        let earlier = runtime-array-layout types n laid t h (is .0) (strideOf element) (is .1) .1 in
+        let f = runtime-array-flags c types n accepted t h (is .0) (strideOf element) (is .1) earlier in
+        rw (f .1) (λ s. bit-and (row c types (is .0) .flags) 149 sizedBit s .1, λ u. absurd u)
+    sized-same (struct members) is final placed = plain-sized (Struct (memberTotal members) (sizeOf (struct members))) (is .0) refl final placed
+
   -- ---- structs
   module _ (t : ℕ) (h : t < n) (members : Members) (is : IsType (struct members) types t) where
     -- the member rows, the rows before type t, what each record says, and the type of member i
@@ -248,3 +286,45 @@ module _ (c : ℕ) (types : ℕ → Decoded) (n : ℕ) (laid : firstRefusal (lay
           λ m. shareable-members members
               (λ i l. marked i l .1 (rw (member-row i l) at (shareable-each innerAt rowsBefore count span part count (b .0) (b .1) m i l))),
         )
+
+    -- the distance from the member right before is the standard's
+    member-distance : (i : ℕ) → i < memberTotal members → DistanceKept minUniform (memberOffset part i) (previousOf innerAt part i) ↔ NextDistance members i
+    unfolding previousOf
+    member-distance zero l = (λ d. tt, λ d. tt)
+    member-distance (suc i) l =
+        let below : i < memberTotal members = omega arith in
+        let grow : offsetOfMember members i ≤ offsetOfMember members (suc i) = offsets-grow members i (suc i) (omega arith) in
+        rw (member-offset i below, member-offset (suc i) l)
+        (distance-same (typeOfMember members i) types (typeAt i) (member-type i below) (offsetOfMember members i) (offsetOfMember members (suc i)) grow)
+
+    -- a member is sized exactly where it is no runtime-sized array
+    member-sized : (i : ℕ) → i < memberTotal members → T (bit (rowsBefore (typeAt i) .flags) sizedBit) ↔ FixedSize (typeOfMember members i)
+    unfolding IsType
+    member-sized i l =
+        let b = struct-bounds c types n accepted t h (memberTotal members) (sizeOf (struct members)) (is .0) in
+        let sized = sized-each innerAt rowsBefore (memberTotal members) (sizeOf (struct members)) part (memberTotal members) (b .0) (b .1) i l in
+        let below : typeAt i < n = omega (arith, member-earlier i l) in
+        rw (member-row i l) (sized-same (typeAt i) below (typeOfMember members i) (member-type i l) (eqb (suc i) (memberTotal members)) (rw (member-row i l) at sized))
+
+    -- a struct agrees where its members' types do
+    pub struct-agrees : HostShareable (struct members) → ((i : ℕ) → i < memberTotal members → Marked (typeAt i))
+        → (space : Space) → ((i : ℕ) → i < memberTotal members → Agrees (typeOfMember members i) space (typeAt i)) → Agrees (struct members) space t
+    unfolding IsType
+    struct-agrees shareable marked space agrees =
+        let count = memberTotal members in
+        let span = sizeOf (struct members) in
+        rw (struct-verdict c types n accepted t h count span (is .0) space)
+        (judged-span (Constraints (struct members) space) t span (layout types t .alignment) (requiredAlignOf (struct members) space)
+        (afterIn innerAt rowsBefore t part count space)
+        (rw (agreement types n laid (struct members) shareable t h is .1) (size-multiple members))
+        (members-judged innerAt rowsBefore t part members space known))
+      where
+        known : (i : ℕ) → i < memberTotal members → Known innerAt rowsBefore part members space i
+        known i l =
+            record {
+              offset = member-offset i l;
+              shareable = rw (member-row i l) (marked i l);
+              judged = rw (member-row i l) (agrees i l);
+              sized = member-sized i l;
+              distance = member-distance i l;
+            }

@@ -90,6 +90,12 @@ offsets-grow members i (suc j) h = go (λ l. offsets-grow members i j l) (ℕ-di
     go ih (yes e) = rw e (omega arith)
     go ih (no e) = let l = ih (omega arith) in omega (arith, offset-next members j)
 
+-- SizeOf of a struct is a multiple of its AlignOf
+pub size-multiple : (members : Members) → alignOf (struct members) ∣ sizeOf (struct members)
+unfolding sizeOf
+size-multiple members =
+    round-up-multiple (alignOf (struct members)) (offsetOfMember members (lastMember members) + sizeOfMember members (lastMember members)) (align-positive (struct members))
+
 -- ---- alignments are powers of two
 -- a line of the table is a power of two where its two numbers are
 by-scalar-power : (s : Scalar) (a b : ℕ) → Power a → Power b → Power (byScalar s a b)
