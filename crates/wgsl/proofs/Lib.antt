@@ -8,3 +8,4 @@ pub mod BoundsLaws
 pub mod RowLaws
 pub mod MemberLaws
 pub mod StructLaws
+pub mod ConstraintAgreement

@@ -242,7 +242,7 @@ module _ (c : ℕ) (types : ℕ → Decoded) (n : ℕ) (laid : firstRefusal (lay
     typeAt i = memberType part i
 
     -- it is an earlier type
-    member-earlier : (i : ℕ) → i < memberTotal members → typeAt i < t
+    pub member-earlier : (i : ℕ) → i < memberTotal members → typeAt i < t
     unfolding IsType
     member-earlier =
         members-earlier types t part (memberTotal members) (layout types t .alignment)
