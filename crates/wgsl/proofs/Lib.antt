@@ -9,3 +9,4 @@ pub mod RowLaws
 pub mod MemberLaws
 pub mod StructLaws
 pub mod ConstraintAgreement
+pub mod ConstraintExample
