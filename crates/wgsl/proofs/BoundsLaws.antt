@@ -1,23 +1,22 @@
 -- What an accepted struct says of its members: their flags, the running end, and which of them are sized. Laws of bits.
 -- Assumes nothing.
-use mathlib.Core.Path.{_≡_, refl, sym, _∙_, ap}
+use mathlib.Core.Path.{_≡_, sym, _∙_, ap}
 use mathlib.Core.Bool.{Bool, true, false, _&&_, _||_}
 use mathlib.Core.List.{List}
-use Prim.Native.Nat.{ℕ, zero, suc, _+_, _/_, _%_, _^_, _≤_, _<_, min}
+use Prim.Native.Nat.{ℕ, zero, suc, _+_, _/_, _%_, _^_, _≤_, _<_}
 use native.Mathlib.Nat.{not-suc-le-zero}
 use native.Mathlib.Decide.{ℕ-discrete}
 use native.Mathlib.Omega.{arith}
 use lib.Bits.{bitAnd, and-shr, and-step}
 use lib.Dec.{T, eqb, leb, eqb→eq, eqb-refl}
 use borrow.Author.Tests.{le-leb}
-use Rattle.records.specs.Result.{Result, ok, pick, require, andThen}
-use Rattle.records.specs.Record.{memberType, memberOffset, structKind}
+use Rattle.records.specs.Result.{ok, pick}
+use Rattle.records.specs.Record.{memberType, memberOffset}
 use Rattle.records.specs.declared.TypeInner.{TypeInner}
 use Rattle.records.proofs.ResultLaws.{required, and-then-ok, ok-inj}
 use Rattle.alignment.specs.Alignment.{most}
-use Rattle.flags.specs.Flags.{bit, dataBit, sizedBit, hostShareableBit, creationResolvedBit, startingFlags, notHostShareable}
+use Rattle.flags.specs.Flags.{bit, dataBit, sizedBit, hostShareableBit, creationResolvedBit, notHostShareable}
 use Rattle.type_info.specs.declared.Row.{Row}
-use Rattle.type_info.specs.declared.Previous.{Previous}
 use Rattle.type_info.specs.Verdict.{distanceOk}
 use Rattle.members.specs.declared.Bounds.{Bounds}
 use Rattle.members.specs.Members.{previousOf, isArray, memberFlags, memberBounds, boundsAfter}
@@ -66,18 +65,24 @@ stays end offset x y h t u = rw (le-leb end offset h) (bit-and-both x y hostShar
 abbrev pub SizedOrLast : (sized array final : Bool) → Type 0
 SizedOrLast sized array final = T (sized || array && final)
 
--- the members of a struct of `count` members: after j + 1 of them, from what is after j
+-- the running end before member j
+abbrev pub endBefore : (rows : ℕ → Row) (members : List ℕ) → ℕ → ℕ
+endBefore rows members zero = 0
+endBefore rows members (suc j) = memberOffset members j + rows (memberType members j) .size
+
+-- the members of a struct of `count` members
 module _ (inner : ℕ → TypeInner) (rows : ℕ → Row) (count span : ℕ) (members : List ℕ) where
   -- the row of the type of member j
-  abbrev pub rowOfMember : ℕ → Row
+  abbrev rowOfMember : ℕ → Row
   rowOfMember j = rows (memberType members j)
 
-  pub record After (j : ℕ) (b : Bounds) : Type 0 where
-    pub before : Bounds
-    pub is-before : boundsAfter inner rows count span members j ≡ ok before
-    pub sized : SizedOrLast (bit (rowOfMember j .flags) sizedBit) (isArray (inner (memberType members j))) (eqb (suc j) count)
-    pub is-end : b .end ≡ memberOffset members j + rowOfMember j .size
-    pub is-flags : b .flags ≡ memberFlags (before .end) (memberOffset members j) (bitAnd (before .flags) (rowOfMember j .flags))
+  -- what is after j + 1 members, from what is after j
+  record After (j : ℕ) (b : Bounds) : Type 0 where
+    before : Bounds
+    is-before : boundsAfter inner rows count span members j ≡ ok before
+    sized : SizedOrLast (bit (rowOfMember j .flags) sizedBit) (isArray (inner (memberType members j))) (eqb (suc j) count)
+    is-end : b .end ≡ memberOffset members j + rowOfMember j .size
+    is-flags : b .flags ≡ memberFlags (before .end) (memberOffset members j) (bitAnd (before .flags) (rowOfMember j .flags))
 
   after : (j : ℕ) (b : Bounds) → boundsAfter inner rows count span members (suc j) ≡ ok b → After j b
   unfolding boundsAfter memberBounds
@@ -103,12 +108,8 @@ module _ (inner : ℕ → TypeInner) (rows : ℕ → Row) (count span : ℕ) (me
       }
 
   -- ---- all members
-  -- the running end before member j
-  abbrev pub endBefore : ℕ → ℕ
-  endBefore zero = 0
-  endBefore (suc j) = memberOffset members j + rowOfMember j .size
-
-  end-is : (j : ℕ) (b : Bounds) → boundsAfter inner rows count span members j ≡ ok b → b .end ≡ endBefore j
+  -- the running end is that of the member before
+  end-is : (j : ℕ) (b : Bounds) → boundsAfter inner rows count span members j ≡ ok b → b .end ≡ endBefore rows members j
   unfolding boundsAfter
   end-is zero b e = sym (ap (λ (x : Bounds). x .end) (ok-inj e))
   end-is (suc j) b e = after j b e .is-end
@@ -141,7 +142,7 @@ module _ (inner : ℕ → TypeInner) (rows : ℕ → Row) (count span : ℕ) (me
 
   -- and it is set after j members where it is set in the type of each and no member starts before the running end
   pub shareable-all : (j : ℕ) (b : Bounds) → boundsAfter inner rows count span members j ≡ ok b
-      → ((i : ℕ) → i < j → (endBefore i ≤ memberOffset members i) × T (bit (rowOfMember i .flags) hostShareableBit)) → T (bit (b .flags) hostShareableBit)
+      → ((i : ℕ) → i < j → (endBefore rows members i ≤ memberOffset members i) × T (bit (rowOfMember i .flags) hostShareableBit)) → T (bit (b .flags) hostShareableBit)
   unfolding boundsAfter
   shareable-all zero b e each = rw (sym (ok-inj e)) tt
   shareable-all (suc j) b e each =

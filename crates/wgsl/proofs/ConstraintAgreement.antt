@@ -21,11 +21,10 @@ use Rattle.layouter.specs.Layouter.{layoutAt, layoutOutcome}
 use Rattle.flags.specs.Flags.{bit, hostShareableBit}
 use Rattle.type_info.specs.Verdict.{isOk, alignmentIn}
 use Rattle.valid.specs.Arena.{judgedAt, row, judgeOutcome, arenaOutcome, arena}
-use Rattle.wgsl.specs.Wgsl.{Scalar, Integer, integer, Float, float, Dimension, WgslType, scalar, vector, matrix, atomic, array, runtimeArray, struct, Members, last, member, lastMember, memberTotal, number, alignOf, kindOf, widthOf, HostShareable, AllHostShareable, IsType, IsMember}
+use Rattle.wgsl.specs.Wgsl.{Scalar, Integer, integer, Float, float, Dimension, WgslType, scalar, vector, matrix, atomic, array, runtimeArray, struct, Members, last, member, number, alignOf, kindOf, widthOf, HostShareable, AllHostShareable, IsType, IsMember}
 use Rattle.wgsl.specs.Constraints.{Space, storage, uniform, requiredAlignOf, typeOfMember, Constraints, WellFormed, AllWellFormed}
 use Rattle.wgsl.proofs.TypeLaws.{scalar-size, vector-align}
 use Rattle.wgsl.proofs.TreeLaws.{member-shareable}
-use Rattle.wgsl.proofs.VerdictLaws.{Judged}
 use Rattle.wgsl.proofs.StructLaws.{Marked, Agrees, scalar-marked, vector-marked, matrix-marked, atomic-marked, leaf-agrees, array-marked, runtime-array-marked, array-agrees, runtime-array-agrees, member-earlier, struct-marked, struct-agrees}
 
 -- ---- RequiredAlignOf of leaves
@@ -55,7 +54,7 @@ module _ (c : ℕ) (types : ℕ → Decoded) (n : ℕ) (laid : firstRefusal (lay
     unfolding WellFormed IsType HostShareable typeOfMember
 
     -- HOST_SHAREABLE is set exactly where the type is host-shareable
-    pub marked : (type : WgslType) → WellFormed type → (t : ℕ) → t < n → IsType type types t → HostShareable type ↔ Marked c types n laid accepted t
+    pub marked : (type : WgslType) → WellFormed type → (t : ℕ) → t < n → IsType type types t → HostShareable type ↔ Marked c types t
     marked (scalar s) formed t h is = scalar-marked c types n laid accepted t h s is
     marked (vector d s) formed t h is = vector-marked c types n laid accepted t h d s is
     marked (matrix columns rows f) formed t h is = (λ s. matrix-marked c types n laid accepted t h columns rows f is, λ m. tt)
@@ -70,7 +69,7 @@ module _ (c : ℕ) (types : ℕ → Decoded) (n : ℕ) (laid : firstRefusal (lay
 
     -- and so it is for the types of a struct's members
     marked-member : (members : Members) → AllWellFormed members → (i m : ℕ) → m < n → IsMember members types i m
-        → HostShareable (typeOfMember members i) ↔ Marked c types n laid accepted m
+        → HostShareable (typeOfMember members i) ↔ Marked c types m
     marked-member (last type size) formed i m h is = marked type (formed .1) m h is
     marked-member (member type size rest) formed zero m h is = marked type (formed .1) m h is
     marked-member (member type size rest) formed (suc i) m h is = marked-member rest (formed .2) i m h is
@@ -80,7 +79,7 @@ module _ (c : ℕ) (types : ℕ → Decoded) (n : ℕ) (laid : firstRefusal (lay
 
     -- the verdict of a host-shareable type is Ok exactly where the constraints hold
     pub agrees : (type : WgslType) → WellFormed type → HostShareable type → (space : Space) → (t : ℕ) → t < n → IsType type types t
-        → Agrees c types n laid accepted type space t
+        → Agrees c types type space t
     agrees (scalar s) formed shareable space t h is =
         leaf-agrees c types n laid accepted t h (scalar s) (ScalarLeaf (kindOf s) (widthOf s)) is space tt
         (scalar-size s shareable ∙ sym (required-scalar s space))
@@ -105,7 +104,7 @@ module _ (c : ℕ) (types : ℕ → Decoded) (n : ℕ) (laid : firstRefusal (lay
 
     -- and so are those of the types of a struct's members
     agrees-member : (members : Members) → AllWellFormed members → AllHostShareable members → (space : Space) → (i m : ℕ) → m < n → IsMember members types i m
-        → Agrees c types n laid accepted (typeOfMember members i) space m
+        → Agrees c types (typeOfMember members i) space m
     agrees-member (last type size) formed shareable space i m h is = agrees type (formed .1) shareable space m h is
     agrees-member (member type size rest) formed shareable space zero m h is = agrees type (formed .1) (shareable .0) space m h is
     agrees-member (member type size rest) formed shareable space (suc i) m h is = agrees-member rest (formed .2) (shareable .1) space i m h is

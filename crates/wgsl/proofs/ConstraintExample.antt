@@ -4,7 +4,7 @@
 use mathlib.Core.Path.{_≡_, refl, _∙_}
 use mathlib.Core.Option.{none, some}
 use mathlib.Core.List.{List, [], _∷_}
-use mathlib.Core.Bool.{Bool, true, false}
+use mathlib.Core.Bool.{false}
 use Prim.Native.Nat.{ℕ, zero, suc, _<_}
 use native.Mathlib.Nat.{mod-eq-zero-of-dvd, dvd-of-mod-eq-zero}
 use native.Mathlib.Omega.{arith}
@@ -17,15 +17,15 @@ use Rattle.records.specs.declared.Outcome.the-variants.{Accepted}
 use Rattle.type_methods.specs.TypeMethods.{trySize}
 use Rattle.layouter.specs.Layouter.{membersAlignment, alignmentOf, layoutOf, layoutOutcome}
 use Rattle.flags.specs.Flags.{bit, hostShareableBit}
-use Rattle.width.specs.Width.{integerWidth, floatWidth, checkWidth, integerAtomic, atomicWidth}
+use Rattle.width.specs.Width.{integerWidth, floatWidth, checkWidth}
 use Rattle.type_info.specs.Verdict.{okVerdict, arrayStride, memberOffsetAfterStruct, unsizedMember, isOk, alignmentIn, arrayVerdict, shareVerdict, memberVerdict, distanceVerdict, distanceOk, unsizedVerdict, spanVerdict}
 use Rattle.members.specs.Members.{previousOf, memberBounds, boundsAfter, uniformAfter, storageAfter, immediatesAfter}
-use Rattle.valid.specs.Valid.{leafFlags, nonDataFlags, flagsOf, uniformOf, storageOf, immediatesOf, rowOf, judge}
+use Rattle.valid.specs.Valid.{leafFlags, flagsOf, uniformOf, storageOf, immediatesOf, rowOf, judge}
 use Rattle.valid.specs.Arena.{row, judgeOutcome, arenaOutcome, arena}
 use Rattle.wgsl.specs.Wgsl.{f32, float, bool, three, four, WgslType, scalar, vector, array, runtimeArray, struct, Members, last, member, lastMember, roundUp, maxOver, offsetBy, alignOf, sizeOf, offsetOfMember, HostShareable, IsType, IsMember}
-use Rattle.wgsl.specs.Constraints.{Space, storage, uniform, requiredAlignOf, typeOfMember, Constraints, WellFormed}
+use Rattle.wgsl.specs.Constraints.{storage, uniform, requiredAlignOf, typeOfMember, Constraints, WellFormed}
 use Rattle.wgsl.proofs.TreeLaws.{struct-fits, MemberFits}
-use Rattle.wgsl.proofs.ConstraintAgreement.{host-shareable-agreement, storage-agreement, uniform-agreement}
+use Rattle.wgsl.proofs.ConstraintAgreement.{uniform-agreement}
 
 -- unfolding this name unfolds all that an arena check computes with
 check : ℕ → List ℕ → List ℕ → Outcome

@@ -1,10 +1,9 @@
 -- The verdicts of a struct after its members, one by one, where the records are those of a tree.
 -- Assumes nothing.
-use mathlib.Core.Path.{_≡_, refl, sym, _∙_, ap}
-use mathlib.Core.Bool.{Bool, true, false, _&&_, _||_}
+use mathlib.Core.Path.{_≡_, refl, sym, _∙_}
 use mathlib.Core.Logic.{_↔_}
 use mathlib.Core.List.{List}
-use Prim.Native.Nat.{ℕ, zero, suc, _+_, _≤_, _<_, _∣_, max}
+use Prim.Native.Nat.{ℕ, zero, suc, _≤_, _<_, _∣_, max}
 use native.Mathlib.Nat.{not-suc-le-zero}
 use native.Mathlib.Decide.{ℕ-discrete}
 use native.Mathlib.Omega.{arith}
@@ -13,13 +12,13 @@ use Rattle.records.specs.Record.{Decoded, memberType, memberOffset}
 use Rattle.records.specs.declared.TypeInner.{TypeInner}
 use Rattle.flags.specs.Flags.{bit, sizedBit, hostShareableBit}
 use Rattle.type_info.specs.declared.Row.{Row}
-use Rattle.type_info.specs.Verdict.{minUniform, okVerdict, shareVerdict, memberVerdict, distanceVerdict, unsizedVerdict}
+use Rattle.type_info.specs.Verdict.{minUniform, shareVerdict, memberVerdict}
 use Rattle.members.specs.Members.{structAt, previousOf, uniformAfter, storageAfter}
-use Rattle.wgsl.specs.Wgsl.{WgslType, scalar, vector, matrix, atomic, array, runtimeArray, struct, Members, lastMember, memberTotal, roundUp, maxOver, alignOf, alignOfMember, sizeOf, offsetOfMember, IsType}
+use Rattle.wgsl.specs.Wgsl.{WgslType, scalar, vector, matrix, atomic, array, runtimeArray, struct, Members, lastMember, memberTotal, maxOver, alignOf, alignOfMember, sizeOf, offsetOfMember, IsType}
 use Rattle.wgsl.specs.Constraints.{Space, storage, uniform, requiredAlignOf, typeOfMember, StructDistance, FixedSize, Constraints}
 use Rattle.wgsl.proofs.RoundLaws.{round-up-same}
-use Rattle.wgsl.proofs.TreeLaws.{member-align, offsets-grow, leastIn, required-struct, required-least, struct-fits, NextDistance, MemberFits}
-use Rattle.wgsl.proofs.VerdictLaws.{Judged, judged-ok, judged-same, judged-share, judged-member, DistanceKept, judged-distance, judged-unsized}
+use Rattle.wgsl.proofs.TreeLaws.{member-align, leastIn, required-struct, required-least, struct-fits, NextDistance, MemberFits}
+use Rattle.wgsl.proofs.VerdictLaws.{Judged, judged-same, judged-share, judged-member, DistanceKept, judged-distance, judged-unsized}
 use Rattle.wgsl.proofs.RowLaws.{verdictIn, afterIn}
 
 -- ---- the distance rule

@@ -1,13 +1,11 @@
 -- The rows of an accepted arena, by what the record says: flags, and the verdicts of both address spaces.
 -- Assumes nothing.
 use mathlib.Core.Path.{_≡_, refl, sym, _∙_, ap}
-use mathlib.Core.Bool.{Bool, _&&_, _||_}
 use mathlib.Core.List.{List}
-use Prim.Native.Nat.{ℕ, zero, suc, _<_}
-use native.Mathlib.Omega.{arith}
+use Prim.Native.Nat.{ℕ, _<_}
 use lib.Dec.{T, ltb}
-use Rattle.records.specs.Result.{Result, ok, require, andThen}
-use Rattle.records.specs.Record.{Decoded, memberType}
+use Rattle.records.specs.Result.{ok, andThen}
+use Rattle.records.specs.Record.{Decoded}
 use Rattle.records.specs.Table.{table, resultAt, firstRefusal}
 use Rattle.records.specs.declared.Outcome.the-variants.{Accepted}
 use Rattle.records.specs.declared.Leaf.{Leaf}
@@ -16,7 +14,7 @@ use Rattle.records.specs.declared.TypeInner.the-variants.{Plain, Array, Runtime
 use Rattle.records.proofs.ResultLaws.{required, and-then-ok, ok-inj}
 use Rattle.records.proofs.TableLaws.{all-ok, value-ok, table-value}
 use Rattle.layouter.specs.Layouter.{layout}
-use Rattle.flags.specs.Flags.{bit, arrayFlags, runtimeArrayFlags}
+use Rattle.flags.specs.Flags.{arrayFlags, runtimeArrayFlags}
 use Rattle.type_info.specs.declared.Verdict.{Verdict}
 use Rattle.type_info.specs.declared.Row.{Row}
 use Rattle.type_info.specs.TypeInfo.{emptyRow}
@@ -38,13 +36,20 @@ abbrev pub afterIn : (inner : ℕ → TypeInner) (rows : ℕ → Row) (i : ℕ) 
 afterIn inner rows i members j storage = storageAfter rows i members j
 afterIn inner rows i members j uniform = uniformAfter minUniform inner rows i members j
 
+-- what each record says
+abbrev pub innerIn : (ℕ → Decoded) → ℕ → TypeInner
+innerIn types k = types k .inner
+
+-- the rows of the types before type t
+abbrev pub rowsUntil : (c : ℕ) (types : ℕ → Decoded) (t : ℕ) → ℕ → Row
+rowsUntil c types t = table emptyRow (judgeStep c types) t
+
 module _ (c : ℕ) (types : ℕ → Decoded) (n : ℕ) (accepted : firstRefusal (judgedAt c types) n ≡ Accepted) (t : ℕ) (h : t < n) where
-  -- what each record says, and the rows of the types before type t
   abbrev innerAt : ℕ → TypeInner
-  innerAt k = types k .inner
+  innerAt = innerIn types
 
   abbrev rowsBefore : ℕ → Row
-  rowsBefore = table emptyRow (judgeStep c types) t
+  rowsBefore = rowsUntil c types t
 
   -- the row of type t is made from the rows of the types before it
   judged-step : judgeStep c types rowsBefore t ≡ ok (row c types t)

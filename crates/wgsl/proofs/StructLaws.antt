@@ -2,44 +2,40 @@
 -- the types that it contains.
 -- Assumes nothing.
 use mathlib.Core.Path.{_≡_, refl, sym, _∙_, ap}
-use mathlib.Core.Bool.{Bool, true, false, _&&_, _||_}
+use mathlib.Core.Bool.{Bool, true, false, _&&_}
 use mathlib.Core.Logic.{_↔_}
 use mathlib.Core.List.{List}
-use Prim.Native.Nat.{ℕ, zero, suc, _+_, _*_, _≤_, _<_, _∣_, max}
+use Prim.Native.Nat.{ℕ, zero, suc, _≤_, _<_, _∣_, max}
 use native.Mathlib.Nat.{not-suc-le-zero}
 use native.Mathlib.Decide.{ℕ-discrete}
 use native.Mathlib.Omega.{arith}
 use lib.Dec.{T, eqb}
-use lib.Bits.{bitAnd}
-use Rattle.records.specs.Result.{Result, ok, require, andThen}
-use Rattle.records.specs.Record.{Decoded, memberType, memberOffset, scalarKind, vectorKind, matrixKind, atomicKind}
+use Rattle.records.specs.Result.{Result, ok, andThen}
+use Rattle.records.specs.Record.{Decoded, memberType, memberOffset, matrixKind, atomicKind}
 use Rattle.records.specs.Table.{table, firstRefusal}
 use Rattle.records.specs.declared.Outcome.the-variants.{Accepted}
 use Rattle.records.specs.declared.Leaf.{Leaf}
 use Rattle.records.specs.declared.Leaf.the-variants.{Scalar as ScalarLeaf, Vector as VectorLeaf, Matrix as MatrixLeaf, Atomic as AtomicLeaf}
 use Rattle.records.specs.declared.TypeInner.{TypeInner}
 use Rattle.records.specs.declared.TypeInner.the-variants.{Plain, Struct}
-use Rattle.records.proofs.ResultLaws.{required, and-then-ok, ok-inj, and-left, and-right}
+use Rattle.records.proofs.ResultLaws.{and-then-ok, ok-inj, and-left, and-right}
 use Rattle.layouter.specs.Layouter.{membersAlignment, noLayout, layoutStep, layoutAt, layout}
 use Rattle.layouter.proofs.AcceptedLaws.{array-layout, runtime-array-layout, struct-layout, member-layout}
 use Rattle.flags.specs.Flags.{bit, dataBit, sizedBit, hostShareableBit, creationResolvedBit, startingFlags, scalarFlags}
 use Rattle.width.specs.Width.{checkWidth, atomicWidth}
 use Rattle.type_info.specs.declared.Verdict.{Verdict}
 use Rattle.type_info.specs.declared.Row.{Row}
-use Rattle.type_info.specs.Verdict.{minUniform, arrayVerdict, spanVerdict}
+use Rattle.type_info.specs.Verdict.{minUniform, arrayVerdict}
 use Rattle.members.specs.Members.{isArray, previousOf}
 use Rattle.valid.specs.Valid.{leafFlags, leafVerdictAlignment, isArrayBase}
-use Rattle.valid.specs.Arena.{judgeStep, judgedAt, row}
-use Rattle.type_info.specs.TypeInfo.{emptyRow}
-use Rattle.wgsl.specs.Wgsl.{Scalar, bool, Integer, integer, Float, float, i32, u32, Dimension, WgslType, scalar, vector, matrix, atomic, array, runtimeArray, struct, Members, last, member, lastMember, memberTotal, number, roundUp, alignOf, alignOfMember, sizeOf, strideOf, offsetOfMember, kindOf, widthOf, Numeric, HostShareable, AllHostShareable, IsType, IsMember}
-use Rattle.wgsl.specs.Constraints.{Space, storage, uniform, requiredAlignOf, StrideFits, typeOfMember, FixedSize, Constraints, WellFormed, AllWellFormed}
-use Rattle.wgsl.proofs.RoundLaws.{round-up-multiple}
-use Rattle.wgsl.proofs.TypeLaws.{align-positive}
+use Rattle.valid.specs.Arena.{judgedAt, row}
+use Rattle.wgsl.specs.Wgsl.{Scalar, bool, Integer, integer, Float, float, i32, u32, Dimension, WgslType, scalar, vector, matrix, atomic, array, runtimeArray, struct, Members, memberTotal, number, alignOf, sizeOf, strideOf, offsetOfMember, kindOf, widthOf, Numeric, HostShareable, AllHostShareable, IsType}
+use Rattle.wgsl.specs.Constraints.{Space, requiredAlignOf, StrideFits, typeOfMember, FixedSize, Constraints, AllWellFormed}
 use Rattle.wgsl.proofs.Agreement.{agreement}
 use Rattle.wgsl.proofs.TreeLaws.{member-is, member-shareable, size-multiple, shareable-members, offset-after, offsets-grow, leastIn, required-least, required-array, required-runtime-array, stride-fits, NextDistance}
-use Rattle.wgsl.proofs.VerdictLaws.{Judged, judged-ok, judged-same, judged-array, judged-span, DistanceKept}
+use Rattle.wgsl.proofs.VerdictLaws.{Judged, judged-same, judged-array, judged-span, DistanceKept}
 use Rattle.wgsl.proofs.BoundsLaws.{bit-and, bit-and-both, SizedOrLast, endBefore, sized-each, shareable-each, shareable-all}
-use Rattle.wgsl.proofs.RowLaws.{verdictIn, afterIn, row-layout, leaf-flags, leaf-verdict, earlier-row, array-flags, runtime-array-flags, array-verdict, runtime-array-verdict, struct-bounds, struct-verdict}
+use Rattle.wgsl.proofs.RowLaws.{verdictIn, afterIn, innerIn, rowsUntil, row-layout, leaf-flags, leaf-verdict, earlier-row, array-flags, runtime-array-flags, array-verdict, runtime-array-verdict, struct-bounds, struct-verdict}
 use Rattle.wgsl.proofs.MemberLaws.{Known, distance-same, members-judged}
 
 -- ---- members are earlier types
@@ -99,40 +95,41 @@ stride-agrees element space t alignment v aligned agrees =
     (λ p. (fits .1 (rw largest at (p .1)), p .0), λ p. (p .1, rw largest (fits .0 (p .0)))) largest
     (judged-array (Constraints element space) (leastIn space) t (strideOf element) (alignOf element) (requiredAlignOf element space) v agrees))
 
+-- ---- what is to be proved
+-- HOST_SHAREABLE is set in the row of type t
+abbrev pub Marked : (c : ℕ) (types : ℕ → Decoded) → ℕ → Type 0
+Marked c types t = T (bit (row c types t .flags) hostShareableBit)
+
+-- the verdict of type t in a space is Ok exactly where the type's constraints hold, and has then RequiredAlignOf
+abbrev pub Agrees : (c : ℕ) (types : ℕ → Decoded) → WgslType → Space → ℕ → Type 0
+Agrees c types type space t = Judged (Constraints type space) (requiredAlignOf type space) (verdictIn (row c types t) space)
+
 module _ (c : ℕ) (types : ℕ → Decoded) (n : ℕ) (laid : firstRefusal (layoutAt types) n ≡ Accepted) (accepted : firstRefusal (judgedAt c types) n ≡ Accepted) where
-  -- HOST_SHAREABLE is set in the row of type t
-  abbrev pub Marked : ℕ → Type 0
-  Marked t = T (bit (row c types t .flags) hostShareableBit)
-
-  -- what is to be proved of the verdict of type t in a space
-  abbrev pub Agrees : WgslType → Space → ℕ → Type 0
-  Agrees type space t = Judged (Constraints type space) (requiredAlignOf type space) (verdictIn (row c types t) space)
-
   module _ (t : ℕ) (h : t < n) where
     -- ---- leaves
     -- a scalar is marked exactly where it is numeric
-    pub scalar-marked : (s : Scalar) → IsType (scalar s) types t → HostShareable (scalar s) ↔ Marked t
+    pub scalar-marked : (s : Scalar) → IsType (scalar s) types t → HostShareable (scalar s) ↔ Marked c types t
     unfolding IsType HostShareable leafFlags
     scalar-marked s is =
         let e = leaf-flags c types n accepted t h (ScalarLeaf (kindOf s) (widthOf s)) is in
         rw (checked-value (checkWidth c (kindOf s) (widthOf s)) (scalarFlags (kindOf s) 255) (row c types t .flags) e) (numeric-marked s)
 
     -- so is a vector
-    pub vector-marked : (d : Dimension) (s : Scalar) → IsType (vector d s) types t → HostShareable (vector d s) ↔ Marked t
+    pub vector-marked : (d : Dimension) (s : Scalar) → IsType (vector d s) types t → HostShareable (vector d s) ↔ Marked c types t
     unfolding IsType HostShareable leafFlags
     vector-marked d s is =
         let e = leaf-flags c types n accepted t h (VectorLeaf (number d) (kindOf s) (widthOf s)) is in
         rw (checked-value (checkWidth c (kindOf s) (widthOf s)) (scalarFlags (kindOf s) 255) (row c types t .flags) e) (numeric-marked s)
 
     -- matrices are marked
-    pub matrix-marked : (columns rows : Dimension) (f : Float) → IsType (matrix columns rows f) types t → Marked t
+    pub matrix-marked : (columns rows : Dimension) (f : Float) → IsType (matrix columns rows f) types t → Marked c types t
     unfolding IsType leafFlags
     matrix-marked columns rows f is =
         let e = leaf-flags c types n accepted t h (MatrixLeaf (number columns) (number rows) (kindOf (float f)) (widthOf (float f))) is in
         rw (checked-value (checkWidth c (kindOf (float f)) (widthOf (float f))) (startingFlags matrixKind) (row c types t .flags) e) tt
 
     -- atomics are marked
-    pub atomic-marked : (i : Integer) → IsType (atomic i) types t → Marked t
+    pub atomic-marked : (i : Integer) → IsType (atomic i) types t → Marked c types t
     unfolding IsType leafFlags
     atomic-marked i is =
         let e = leaf-flags c types n accepted t h (AtomicLeaf (kindOf (integer i)) (widthOf (integer i))) is in
@@ -140,7 +137,7 @@ module _ (c : ℕ) (types : ℕ → Decoded) (n : ℕ) (laid : firstRefusal (lay
 
     -- both verdicts of a leaf are Ok, with the alignment of its record
     pub leaf-agrees : (type : WgslType) (leaf : Leaf) → types t .inner ≡ Plain leaf → (space : Space) → Constraints type space
-        → leafVerdictAlignment leaf ≡ requiredAlignOf type space → Agrees type space t
+        → leafVerdictAlignment leaf ≡ requiredAlignOf type space → Agrees c types type space t
     leaf-agrees type leaf is space constraints e =
         rw (leaf-verdict c types n accepted t h leaf is space)
         (record { passes = λ p. tt; holds = λ ok. constraints; align = λ ok. e })
@@ -148,7 +145,7 @@ module _ (c : ℕ) (types : ℕ → Decoded) (n : ℕ) (laid : firstRefusal (lay
     -- ---- arrays
     -- an array is marked exactly where it is host-shareable, where that is so of its element
     pub array-marked : (element : WgslType) (count : ℕ) → IsType (array element count) types t
-        → ((base : ℕ) → base < n → IsType element types base → HostShareable element ↔ Marked base) → HostShareable (array element count) ↔ Marked t
+        → ((base : ℕ) → base < n → IsType element types base → HostShareable element ↔ Marked c types base) → HostShareable (array element count) ↔ Marked c types t
     unfolding IsType HostShareable
     array-marked element count is marked =
         let earlier = array-layout types n laid t h (is .0) count (strideOf element) (is .1) .1 in
@@ -159,7 +156,7 @@ module _ (c : ℕ) (types : ℕ → Decoded) (n : ℕ) (laid : firstRefusal (lay
 
     -- so is a runtime-sized array
     pub runtime-array-marked : (element : WgslType) → IsType (runtimeArray element) types t
-        → ((base : ℕ) → base < n → IsType element types base → HostShareable element ↔ Marked base) → HostShareable (runtimeArray element) ↔ Marked t
+        → ((base : ℕ) → base < n → IsType element types base → HostShareable element ↔ Marked c types base) → HostShareable (runtimeArray element) ↔ Marked c types t
     unfolding IsType HostShareable
     runtime-array-marked element is marked =
         let earlier = runtime-array-layout types n laid t h (is .0) (strideOf element) (is .1) .1 in
@@ -179,7 +176,7 @@ module _ (c : ℕ) (types : ℕ → Decoded) (n : ℕ) (laid : firstRefusal (lay
   module _ (t : ℕ) (h : t < n) where
     -- an array agrees where its element does
     pub array-agrees : (element : WgslType) (count : ℕ) → HostShareable element → (is : IsType (array element count) types t) → (space : Space)
-        → ((base : ℕ) → base < n → IsType element types base → Agrees element space base) → Agrees (array element count) space t
+        → ((base : ℕ) → base < n → IsType element types base → Agrees c types element space base) → Agrees c types (array element count) space t
     unfolding IsType Constraints
     array-agrees element count shareable is space agrees =
         let earlier = array-layout types n laid t h (is .0) count (strideOf element) (is .1) .1 in
@@ -190,7 +187,7 @@ module _ (c : ℕ) (types : ℕ → Decoded) (n : ℕ) (laid : firstRefusal (lay
 
     -- so does a runtime-sized array
     pub runtime-array-agrees : (element : WgslType) → HostShareable element → (is : IsType (runtimeArray element) types t) → (space : Space)
-        → ((base : ℕ) → base < n → IsType element types base → Agrees element space base) → Agrees (runtimeArray element) space t
+        → ((base : ℕ) → base < n → IsType element types base → Agrees c types element space base) → Agrees c types (runtimeArray element) space t
     unfolding IsType Constraints
     runtime-array-agrees element shareable is space agrees =
         let earlier = runtime-array-layout types n laid t h (is .0) (strideOf element) (is .1) .1 in
@@ -233,10 +230,10 @@ module _ (c : ℕ) (types : ℕ → Decoded) (n : ℕ) (laid : firstRefusal (lay
     part = types t .members
 
     abbrev rowsBefore : ℕ → Row
-    rowsBefore = table emptyRow (judgeStep c types) t
+    rowsBefore = rowsUntil c types t
 
     abbrev innerAt : ℕ → TypeInner
-    innerAt k = types k .inner
+    innerAt = innerIn types
 
     abbrev typeAt : ℕ → ℕ
     typeAt i = memberType part i
@@ -264,7 +261,7 @@ module _ (c : ℕ) (types : ℕ → Decoded) (n : ℕ) (laid : firstRefusal (lay
 
     -- no member starts before the running end
     not-before-end : AllWellFormed members → AllHostShareable members → (i : ℕ) → i < memberTotal members
-        → endBefore innerAt rowsBefore (memberTotal members) (sizeOf (struct members)) part i ≤ memberOffset part i
+        → endBefore rowsBefore part i ≤ memberOffset part i
     not-before-end formed shareable zero l = omega arith
     not-before-end formed shareable (suc i) l =
         let below : i < memberTotal members = omega arith in
@@ -273,8 +270,8 @@ module _ (c : ℕ) (types : ℕ → Decoded) (n : ℕ) (laid : firstRefusal (lay
         omega (arith, offset-after members formed i, member-offset i below, member-offset (suc i) l)
 
     -- a struct is marked exactly where it is host-shareable, where that is so of its members' types
-    pub struct-marked : AllWellFormed members → ((i : ℕ) → i < memberTotal members → HostShareable (typeOfMember members i) ↔ Marked (typeAt i))
-        → HostShareable (struct members) ↔ Marked t
+    pub struct-marked : AllWellFormed members → ((i : ℕ) → i < memberTotal members → HostShareable (typeOfMember members i) ↔ Marked c types (typeAt i))
+        → HostShareable (struct members) ↔ Marked c types t
     unfolding IsType HostShareable
     struct-marked formed marked =
         let count = memberTotal members in
@@ -307,8 +304,8 @@ module _ (c : ℕ) (types : ℕ → Decoded) (n : ℕ) (laid : firstRefusal (lay
         rw (member-row i l) (sized-same (typeAt i) below (typeOfMember members i) (member-type i l) (eqb (suc i) (memberTotal members)) (rw (member-row i l) at sized))
 
     -- a struct agrees where its members' types do
-    pub struct-agrees : HostShareable (struct members) → ((i : ℕ) → i < memberTotal members → Marked (typeAt i))
-        → (space : Space) → ((i : ℕ) → i < memberTotal members → Agrees (typeOfMember members i) space (typeAt i)) → Agrees (struct members) space t
+    pub struct-agrees : HostShareable (struct members) → ((i : ℕ) → i < memberTotal members → Marked c types (typeAt i))
+        → (space : Space) → ((i : ℕ) → i < memberTotal members → Agrees c types (typeOfMember members i) space (typeAt i)) → Agrees c types (struct members) space t
     unfolding IsType
     struct-agrees shareable marked space agrees =
         let count = memberTotal members in

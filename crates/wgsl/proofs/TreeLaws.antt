@@ -1,18 +1,18 @@
 -- Laws of the tree of WGSL types and of its constraints: members by their number, alignments are powers of two, offsets grow, and the
 -- constraints of a space in the form in which verdicts judge them.
 -- Assumes nothing.
-use mathlib.Core.Path.{_≡_, refl, sym, _∙_, ap, subst}
+use mathlib.Core.Path.{_≡_, refl}
 use mathlib.Core.Logic.{_↔_, _⊎_, inl, inr}
 use mathlib.Core.Option.{Option, none, some}
-use Prim.Native.Nat.{ℕ, zero, suc, _+_, _*_, _%_, _≤_, _<_, _∣_, max}
-use native.Mathlib.Nat.{dvd-trans, mod-eq-zero-of-dvd}
+use Prim.Native.Nat.{ℕ, zero, suc, _+_, _≤_, _<_, _∣_, max}
+use native.Mathlib.Nat.{dvd-zero, dvd-trans, mod-eq-zero-of-dvd}
 use native.Mathlib.Decide.{ℕ-discrete}
 use native.Mathlib.Omega.{arith}
 use Rattle.records.specs.Record.{Decoded}
 use Rattle.alignment.specs.Alignment.{Power}
 use Rattle.alignment.proofs.PowerLaws.{le-cases, power-max, power-divides, power-positive}
 use Rattle.wgsl.specs.Wgsl.{Scalar, bool, integer, float, f32, f16, Dimension, two, three, four, WgslType, scalar, vector, matrix, atomic, array, runtimeArray, struct, Members, last, member, lastMember, memberTotal, roundUp, maxOver, byScalar, alignOfVector, alignOf, alignOfMember, sizeOf, sizeOr, sizeOfMember, offsetBy, offsetOfMember, strideOf, HostShareable, AllHostShareable, IsType, IsMember}
-use Rattle.wgsl.specs.Constraints.{Space, storage, uniform, requiredAlignOf, StrideFits, typeOfMember, OffsetsFit, StructDistance, DistancesFit, FixedSize, FixedMembers, MembersFit, Constraints, AllConstraints, SizeFits, WellFormed, AllWellFormed}
+use Rattle.wgsl.specs.Constraints.{Space, storage, uniform, requiredAlignOf, StrideFits, typeOfMember, StructDistance, DistancesFit, FixedSize, Constraints, AllConstraints, SizeFits, WellFormed, AllWellFormed}
 use Rattle.wgsl.proofs.RoundLaws.{round-up-multiple, round-up-next}
 use Rattle.wgsl.proofs.TypeLaws.{align-positive, align-member-positive}
 
@@ -284,3 +284,33 @@ struct-fits members uniform = (
   λ fits i h. (constraints-each members uniform (fits .1) i, fits .0 .0 i h, any-suffices members (fits .0 .1) i h, fits .0 .2 i h),
   λ each. ((λ i h. each i h .1, next-suffices members (λ i h. each i h .2), λ i h. each i h .3), constraints-all members uniform (λ i h. each i h .0)),
 )
+
+-- ---- storage
+-- offsets are multiples of AlignOf of the member's type, as no member has @align here
+offset-multiple : (members : Members) (i : ℕ) → alignOf (typeOfMember members i) ∣ offsetOfMember members i
+unfolding offsetBy
+offset-multiple members zero = dvd-zero (alignOf (typeOfMember members 0))
+offset-multiple members (suc i) =
+    rw (← member-align members (suc i))
+    (round-up-multiple (alignOfMember members (suc i)) (offsetOfMember members i + sizeOfMember members i) (align-member-positive members (suc i)))
+
+-- strides are multiples of AlignOf of the element
+stride-multiple : (element : WgslType) → alignOf element ∣ strideOf element
+stride-multiple element = round-up-multiple (alignOf element) (sizeOf element) (align-positive element)
+
+mutual
+  unfolding Constraints requiredAlignOf
+
+  -- so the constraints of storage hold of every tree
+  pub storage-always : (type : WgslType) → Constraints type storage
+  storage-always (scalar s) = tt
+  storage-always (vector n s) = tt
+  storage-always (matrix columns rows f) = tt
+  storage-always (atomic i) = tt
+  storage-always (array element count) = (stride-multiple element, storage-always element)
+  storage-always (runtimeArray element) = (stride-multiple element, storage-always element)
+  storage-always (struct members) = (λ i h. offset-multiple members i, storage-all members)
+
+  storage-all : (members : Members) → AllConstraints members storage
+  storage-all (last type size) = storage-always type
+  storage-all (member type size rest) = (storage-always type, storage-all rest)

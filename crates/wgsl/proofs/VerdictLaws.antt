@@ -1,12 +1,11 @@
 -- What the rules that make verdicts say of a verdict: where it is Ok, and with what alignment.
 -- Assumes nothing.
-use mathlib.Core.Path.{_≡_, refl, sym, _∙_, ap, subst}
+use mathlib.Core.Path.{_≡_, refl, _∙_}
 use mathlib.Core.Bool.{Bool, true, false}
 use mathlib.Core.Logic.{_↔_}
 use Prim.Native.Nat.{ℕ, _+_, _-_, _%_, _≤_, _∣_, max}
 use native.Mathlib.Nat.{mod-eq-zero-of-dvd}
-use native.Mathlib.Omega.{arith}
-use lib.Dec.{T, eqb, leb, leb→le}
+use lib.Dec.{T, leb, leb→le}
 use borrow.Author.Tests.{eq-eqb, le-leb}
 use Rattle.records.specs.Result.{pick}
 use Rattle.records.proofs.ResultLaws.{true-T, T-true}
@@ -15,17 +14,13 @@ use Rattle.alignment.proofs.PowerLaws.{aligned-divides}
 use Rattle.type_info.specs.declared.Verdict.{Verdict}
 use Rattle.type_info.specs.declared.Previous.{Previous}
 use Rattle.type_info.specs.declared.Previous.the-variants.{NoStruct, StructBefore}
-use Rattle.type_info.specs.Verdict.{okVerdict, arrayStride, structSpan, memberOffsetOff, memberOffsetAfterStruct, unsizedMember, nonHostShareable, isOk, alignmentIn, unlessOk, strideVerdict, arrayVerdict, shareVerdict, offsetVerdict, memberVerdict, distanceVerdict, unsizedVerdict, spanVerdict}
+use Rattle.type_info.specs.Verdict.{okVerdict, arrayStride, memberOffsetOff, memberOffsetAfterStruct, unsizedMember, isOk, alignmentIn, unlessOk, strideVerdict, arrayVerdict, shareVerdict, offsetVerdict, memberVerdict, distanceVerdict, unsizedVerdict, spanVerdict}
 
 -- v is Ok exactly where P holds, and its alignment is then a
 pub record Judged (P : Type 0) (a : ℕ) (v : Verdict) : Type 0 where
   pub passes : P → T (isOk v)
   pub holds : T (isOk v) → P
   pub align : T (isOk v) → alignmentIn v ≡ a
-
--- a verdict that is made Ok
-pub judged-ok : (a : ℕ) → Judged (Unit {0}) a (okVerdict a)
-judged-ok a = record { passes = λ p. tt; holds = λ t. tt; align = λ t. refl }
 
 -- the same of a statement that says the same, and of an equal alignment
 pub judged-same : (P Q : Type 0) (a b : ℕ) (v : Verdict) → P ↔ Q → a ≡ b → Judged P a v → Judged Q b v

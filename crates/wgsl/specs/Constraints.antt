@@ -65,8 +65,8 @@ FixedSize (array element count) = Unit {0}
 FixedSize (runtimeArray element) = ⊥
 FixedSize (struct members) = Unit {0}
 
--- no member is a runtime-sized array. This is said of members and not of a type by itself: naga's verdict on array<E> alone is Ok where its
--- stride fits, and naga refuses a uniform variable of it elsewhere. A struct that has a runtime-sized array is no member in the standard.
+-- no member is a runtime-sized array. This is said of members and not of a type by itself: the verdict of array<E> alone is Ok where its
+-- stride fits, and that of a struct with such a member is not. A struct that has a runtime-sized array is itself no member in the standard.
 abbrev pub FixedMembers : Members → Type 0
 FixedMembers members = (i : ℕ) → i < memberTotal members → FixedSize (typeOfMember members i)
 
@@ -96,8 +96,9 @@ abbrev pub SizeFits : Option ℕ → WgslType → Type 0
 SizeFits none type = Unit {0}
 SizeFits (some k) type = sizeOf type ≤ k
 
--- Of the type and all that it contains. The standard's other demands (N positive; a runtime-sized array only as the last member of a struct
--- that is neither element nor member) are met by the records of every accepted arena.
+-- Of the type and all that it contains. The standard's other demands are not needed: that N is positive, and that a runtime-sized array is
+-- only the last member of a struct that is neither element nor member, holds of all records of an accepted arena; that a type with @size(k)
+-- is no runtime-sized array changes nothing that is judged.
 unfoldable mutual
   pub WellFormed : WgslType → Type 0
   WellFormed (scalar s) = Unit {0}
