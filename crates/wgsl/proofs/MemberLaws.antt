@@ -62,8 +62,12 @@ align-after : (members : Members) (space : Space) (j : ℕ) → alignAfter membe
 unfolding maxOver
 align-after members space zero = omega (arith, required-least (typeOfMember members 0) space, member-align members 0)
 align-after members space (suc j) =
-    rw (align-after members space j, least-apart (maxOver (alignOfMember members) j) (requiredAlignOf (typeOfMember members (suc j)) space) (leastIn space),
-      required-least (typeOfMember members (suc j)) space, ← member-align members (suc j))
+    rw (
+      align-after members space j,
+      least-apart (maxOver (alignOfMember members) j) (requiredAlignOf (typeOfMember members (suc j)) space) (leastIn space),
+      required-least (typeOfMember members (suc j)) space,
+      ← member-align members (suc j),
+    )
     (least-joined (maxOver (alignOfMember members) j) (alignOfMember members (suc j)) (leastIn space))
 
 -- the first j members fit
@@ -114,6 +118,7 @@ module _ (inner : ℕ → TypeInner) (rows : ℕ → Row) (t : ℕ) (part : List
     where
       to : FirstFit members storage j × (Constraints typeOf storage × (requiredAlignOf typeOf storage ∣ memberOffset part j)) → FirstFit members storage (suc j)
       to p = below-more (MemberFits members storage) j (p .0) (p .1 .0, rw (k .offset) at (p .1 .1))
+
       from : FirstFit members storage (suc j) → FirstFit members storage j × (Constraints typeOf storage × (requiredAlignOf typeOf storage ∣ memberOffset part j))
       from each = let this = each j (omega arith) in (λ i h. each i (omega arith), (this .0, rw (k .offset) (this .1)))
 
@@ -132,10 +137,12 @@ module _ (inner : ℕ → TypeInner) (rows : ℕ → Row) (t : ℕ) (part : List
           ((FirstFit members uniform j × (Constraints typeOf uniform × (requiredAlignOf typeOf uniform ∣ memberOffset part j)))
           × DistanceKept minUniform (memberOffset part j) (previousOf inner part j))
           × T (bit (rows (memberType part j) .flags) sizedBit)
+
       to : Parts → FirstFit members uniform (suc j)
       to p =
           below-more (MemberFits members uniform) j (p .0 .0 .0)
           (p .0 .0 .1 .0, rw (k .offset) at (p .0 .0 .1 .1), k .distance .0 (p .0 .1), k .sized .0 (p .1))
+
       from : FirstFit members uniform (suc j) → Parts
       from each =
           let this = each j (omega arith) in

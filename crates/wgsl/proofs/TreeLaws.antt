@@ -214,8 +214,7 @@ required-power (struct members) uniform = rounded-power (alignOf (struct members
 stride-both : (element : WgslType) → max (alignOf element) 16 ∣ strideOf element → StrideFits element uniform
 stride-both element d =
     let largest = power-max (alignOf element) 16 (align-power element) power-sixteen in
-    let same = required-least element uniform in
-    (
+    let same = required-least element uniform in (
       dvd-trans (requiredAlignOf element uniform) (power-divides (requiredAlignOf element uniform) (max (alignOf element) 16) (required-power element uniform) largest (omega arith)) d,
       dvd-trans 16 (power-divides 16 (max (alignOf element) 16) power-sixteen largest (omega arith)) d,
     )
