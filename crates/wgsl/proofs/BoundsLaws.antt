@@ -84,6 +84,7 @@ module _ (inner : ℕ → TypeInner) (rows : ℕ → Row) (count span : ℕ) (me
     is-end : b .end ≡ memberOffset members j + rowOfMember j .size
     is-flags : b .flags ≡ memberFlags (before .end) (memberOffset members j) (bitAnd (before .flags) (rowOfMember j .flags))
 
+  -- an accepted member says this
   after : (j : ℕ) (b : Bounds) → boundsAfter inner rows count span members (suc j) ≡ ok b → After j b
   unfolding boundsAfter memberBounds
   after j b e =

@@ -27,22 +27,26 @@ use Rattle.wgsl.proofs.TypeLaws.{scalar-size, vector-align}
 use Rattle.wgsl.proofs.TreeLaws.{member-shareable}
 use Rattle.wgsl.proofs.StructLaws.{Marked, Agrees, scalar-marked, vector-marked, matrix-marked, atomic-marked, leaf-agrees, array-marked, runtime-array-marked, array-agrees, runtime-array-agrees, member-earlier, struct-marked, struct-agrees}
 
--- ---- RequiredAlignOf of leaves
+-- ---- RequiredAlignOf of leaves is AlignOf in both spaces
+-- of a scalar
 required-scalar : (s : Scalar) (space : Space) → requiredAlignOf (scalar s) space ≡ alignOf (scalar s)
 unfolding requiredAlignOf
 required-scalar s storage = refl
 required-scalar s uniform = refl
 
+-- of a vector
 required-vector : (d : Dimension) (s : Scalar) (space : Space) → requiredAlignOf (vector d s) space ≡ alignOf (vector d s)
 unfolding requiredAlignOf
 required-vector d s storage = refl
 required-vector d s uniform = refl
 
+-- of a matrix
 required-matrix : (columns rows : Dimension) (f : Float) (space : Space) → requiredAlignOf (matrix columns rows f) space ≡ alignOf (matrix columns rows f)
 unfolding requiredAlignOf
 required-matrix columns rows f storage = refl
 required-matrix columns rows f uniform = refl
 
+-- of an atomic
 required-atomic : (i : Integer) (space : Space) → requiredAlignOf (atomic i) space ≡ alignOf (atomic i)
 unfolding requiredAlignOf
 required-atomic i storage = refl

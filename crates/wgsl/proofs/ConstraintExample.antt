@@ -37,16 +37,18 @@ measure : WgslType → ℕ
 unfolding IsType typeInner innerOf structMembers offsetBy alignOf sizeOf roundUp lastMember maxOver
 measure type = sizeOf type
 
--- a statement about the numbers below 1, 2, 3
+-- a statement about the numbers below 1
 below-one : (P : ℕ → Type 0) → P 0 → (i : ℕ) → i < 1 → P i
 below-one P p zero h = p
 below-one P p (suc i) h = absurd (omega arith)
 
+-- below 2
 below-two : (P : ℕ → Type 0) → P 0 → P 1 → (i : ℕ) → i < 2 → P i
 below-two P p q zero h = p
 below-two P p q (suc zero) h = q
 below-two P p q (suc (suc i)) h = absurd (omega arith)
 
+-- below 3
 below-three : (P : ℕ → Type 0) → P 0 → P 1 → P 2 → (i : ℕ) → i < 3 → P i
 below-three P p q r zero h = p
 below-three P p q r (suc zero) h = q
@@ -54,9 +56,11 @@ below-three P p q r (suc (suc zero)) h = r
 below-three P p q r (suc (suc (suc i))) h = absurd (omega arith)
 
 -- ---- struct { a: struct { p: vec3<f32>, q: f32 }, b: array<vec4<f32>, 2>, c: f32 }: the uniform constraints hold
+-- the inner struct
 abbrev lampMembers : Members
 lampMembers = member (vector three (float f32)) none (last (scalar (float f32)) none)
 
+-- the struct
 abbrev sceneMembers : Members
 sceneMembers = member (struct lampMembers) none (member (array (vector four (float f32)) 2) none (last (scalar (float f32)) none))
 
@@ -76,10 +80,12 @@ sceneTypes =
 abbrev sceneRows : List ℕ
 sceneRows = 1 ∷ 0 ∷ 0 ∷ 12 ∷ 3 ∷ 0 ∷ 4 ∷ 16 ∷ 0 ∷ 48 ∷ []
 
+-- the arena is accepted
 scene-accepted : arena 0 sceneTypes sceneRows ≡ Accepted
 unfolding check
 scene-accepted = refl
 
+-- record 3 is the inner struct, record 5 the struct
 lamp-is : IsType (struct lampMembers) (decoded sceneTypes sceneRows) 3
 unfolding measure
 lamp-is = (
@@ -96,6 +102,7 @@ scene-is = (
   below-three (λ i. IsMember sceneMembers (decoded sceneTypes sceneRows) i (memberType (3 ∷ 0 ∷ 4 ∷ 16 ∷ 0 ∷ 48 ∷ []) i)) lamp-is (2, refl, refl) refl,
 )
 
+-- the struct is host-shareable and well-formed
 scene-shareable : HostShareable scene
 unfolding HostShareable
 scene-shareable = ((tt, tt), (tt, tt))
@@ -121,17 +128,19 @@ scene-uniform =
     (((dvd-of-mod-eq-zero 16 refl, dvd-of-mod-eq-zero 16 refl), tt), dvd-of-mod-eq-zero 16 refl, lit≤ tt, tt)
     (tt, dvd-of-mod-eq-zero 4 refl, tt, tt))
 
--- so by the theorem its uniform verdict is Ok with alignment RequiredAlignOf, which is 16; and so says the row
+-- RequiredAlignOf(T, uniform) is 16
 scene-required : requiredAlignOf scene uniform ≡ 16
 unfolding requiredAlignOf measure
 scene-required = refl
 
+-- so by the theorem its uniform verdict is Ok, with alignment 16
 scene-verdict : T (isOk (row 0 (decoded sceneTypes sceneRows) 5 .uniform)) × (alignmentIn (row 0 (decoded sceneTypes sceneRows) 5 .uniform) ≡ 16)
 scene-verdict =
     let a = uniform-agreement 0 sceneTypes sceneRows scene-accepted scene scene-formed 5 (omega arith) scene-is scene-shareable in
     let ok = a .0 .0 scene-uniform in
     (ok, a .1 ok ∙ scene-required)
 
+-- and so says the row, as it is computed
 scene-row : T (bit (row 0 (decoded sceneTypes sceneRows) 5 .flags) hostShareableBit)
     × T (isOk (row 0 (decoded sceneTypes sceneRows) 5 .storage)) × (alignmentIn (row 0 (decoded sceneTypes sceneRows) 5 .storage) ≡ 16)
     × T (isOk (row 0 (decoded sceneTypes sceneRows) 5 .uniform)) × (alignmentIn (row 0 (decoded sceneTypes sceneRows) 5 .uniform) ≡ 16)
@@ -152,6 +161,7 @@ floatsTypes = 0 ∷ 2 ∷ 4 ∷ 0 ∷ 0 ∷ 0 ∷ 7 ∷ 0 ∷ 0 ∷ 4 ∷ 4 ∷ 
 abbrev floatsRows : List ℕ
 floatsRows = 1 ∷ 0 ∷ []
 
+-- the arena is accepted, record 2 is the struct, and it is host-shareable and well-formed
 floats-accepted : arena 0 floatsTypes floatsRows ≡ Accepted
 unfolding check
 floats-accepted = refl
@@ -192,12 +202,14 @@ floats-row = (tt, refl, refl)
 abbrev pairMembers : Members
 pairMembers = member (struct (last (scalar (float f32)) none)) none (last (scalar (float f32)) none)
 
+-- its records: f32, the inner struct, the struct
 abbrev pairTypes : List ℕ
 pairTypes = 0 ∷ 2 ∷ 4 ∷ 0 ∷ 0 ∷ 0 ∷ 8 ∷ 2 ∷ 1 ∷ 4 ∷ 0 ∷ 0 ∷ 8 ∷ 0 ∷ 2 ∷ 8 ∷ 0 ∷ 0 ∷ []
 
 abbrev pairRows : List ℕ
 pairRows = 1 ∷ 0 ∷ 0 ∷ 4 ∷ 0 ∷ 0 ∷ []
 
+-- 0 + 16 is not at most 4
 pair-not-uniform : Constraints (struct pairMembers) uniform → ⊥
 unfolding Constraints measure typeOfMember
 pair-not-uniform constraints = let d = constraints .0 .1 0 1 (omega arith) (omega arith) in omega arith
@@ -212,9 +224,11 @@ pair-row = (refl, refl, refl)
 abbrev tailMembers : Members
 tailMembers = last (runtimeArray (vector four (float f32))) none
 
+-- its records: vec4<f32>, array<vec4<f32>>, the struct
 abbrev tailTypes : List ℕ
 tailTypes = 1 ∷ 4 ∷ 2 ∷ 4 ∷ 0 ∷ 0 ∷ 7 ∷ 0 ∷ 1 ∷ 0 ∷ 16 ∷ 0 ∷ 8 ∷ 0 ∷ 1 ∷ 16 ∷ 0 ∷ 0 ∷ []
 
+-- member 0 is a runtime-sized array
 tail-not-uniform : Constraints (struct tailMembers) uniform → ⊥
 unfolding Constraints measure typeOfMember
 tail-not-uniform constraints = constraints .0 .2 0 (omega arith)
@@ -229,12 +243,14 @@ tail-row = (refl, refl, refl, refl)
 abbrev overlapMembers : Members
 overlapMembers = member (scalar (float f32)) (some 0) (last (scalar (float f32)) none)
 
+-- its records: f32, the struct with both members at offset 0 and span 4
 abbrev overlapTypes : List ℕ
 overlapTypes = 0 ∷ 2 ∷ 4 ∷ 0 ∷ 0 ∷ 0 ∷ 8 ∷ 0 ∷ 2 ∷ 4 ∷ 0 ∷ 0 ∷ []
 
 abbrev overlapRows : List ℕ
 overlapRows = 0 ∷ 0 ∷ 0 ∷ 0 ∷ []
 
+-- record 1 is the struct
 overlap-is : IsType (struct overlapMembers) (decoded overlapTypes overlapRows) 1
 unfolding measure
 overlap-is = (
@@ -243,10 +259,12 @@ overlap-is = (
   below-two (λ i. IsMember overlapMembers (decoded overlapTypes overlapRows) i (memberType overlapRows i)) refl refl,
 )
 
+-- it is host-shareable
 overlap-shareable : HostShareable (struct overlapMembers)
 unfolding HostShareable
 overlap-shareable = (tt, tt)
 
+-- its record is accepted without HOST_SHAREABLE
 overlap-row : (arena 0 overlapTypes overlapRows ≡ Accepted) × (bit (row 0 (decoded overlapTypes overlapRows) 1 .flags) hostShareableBit ≡ false)
 unfolding check
 overlap-row = (refl, refl)

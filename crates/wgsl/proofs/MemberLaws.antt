@@ -50,10 +50,11 @@ abbrev alignAfter : Members → Space → ℕ → ℕ
 alignAfter members space zero = leastIn space
 alignAfter members space (suc j) = max (alignAfter members space j) (requiredAlignOf (typeOfMember members j) space)
 
--- the least of the space is taken into the larger of two numbers from either of them
+-- the least of the space may be taken into the second of two numbers
 least-apart : (m r l : ℕ) → max (max m l) r ≡ max m (max r l)
 least-apart m r l = omega arith
 
+-- and into both
 least-joined : (m x l : ℕ) → max m (max x l) ≡ max (max m x) l
 least-joined m x l = omega arith
 
@@ -83,6 +84,7 @@ pub record Known (inner : ℕ → TypeInner) (rows : ℕ → Row) (part : List �
   pub distance : DistanceKept minUniform (memberOffset part i) (previousOf inner part i) ↔ NextDistance members i
 
 module _ (inner : ℕ → TypeInner) (rows : ℕ → Row) (t : ℕ) (part : List ℕ) (members : Members) (j : ℕ) where
+  -- the type of member j in the tree
   abbrev typeOf : WgslType
   typeOf = typeOfMember members j
 
@@ -90,7 +92,7 @@ module _ (inner : ℕ → TypeInner) (rows : ℕ → Row) (t : ℕ) (part : List
   abbrev VerdictBefore : Space → Type 0
   VerdictBefore space = Judged (FirstFit members space j) (alignAfter members space j) (afterIn inner rows t part j space)
 
-  -- with the member's own verdict and its offset
+  -- the struct's verdict after the member's own verdict and offset are judged
   abbrev MemberJudged : Space → Type 0
   MemberJudged space =
       Judged (FirstFit members space j × (Constraints typeOf space × (requiredAlignOf typeOf space ∣ memberOffset part j))) (alignAfter members space (suc j))
@@ -98,6 +100,7 @@ module _ (inner : ℕ → TypeInner) (rows : ℕ → Row) (t : ℕ) (part : List
       (shareVerdict (bit (rows (memberType part j) .flags) hostShareableBit) (memberType part j) (afterIn inner rows t part j space))
       (verdictIn (rows (memberType part j)) space))
 
+  -- it is Ok exactly where the first j members fit, the member's constraints hold, and its offset is a multiple of RequiredAlignOf
   member-judged : (space : Space) → Known inner rows part members space j → VerdictBefore space → MemberJudged space
   member-judged space k so-far =
       judged-member (FirstFit members space j) (Constraints typeOf space) t j (memberOffset part j) (alignAfter members space j) (requiredAlignOf typeOf space)

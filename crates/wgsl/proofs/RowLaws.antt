@@ -45,6 +45,7 @@ abbrev pub rowsUntil : (c : ℕ) (types : ℕ → Decoded) (t : ℕ) → ℕ →
 rowsUntil c types t = table emptyRow (judgeStep c types) t
 
 module _ (c : ℕ) (types : ℕ → Decoded) (n : ℕ) (accepted : firstRefusal (judgedAt c types) n ≡ Accepted) (t : ℕ) (h : t < n) where
+  -- both, of this arena and type
   abbrev innerAt : ℕ → TypeInner
   innerAt = innerIn types
 
@@ -104,6 +105,7 @@ module _ (c : ℕ) (types : ℕ → Decoded) (n : ℕ) (accepted : firstRefusal 
       let r = required (isArrayBase (rowsBefore base .flags)) 15 0 0 (ok (arrayFlags (rowsBefore base .flags))) (row c types t .flags) (row-parts (Array base count stride) e .0) in
       (rw (earlier-row base l) at (r .0), rw (earlier-row base l) at (sym (ok-inj (r .1))))
 
+  -- so it is of a runtime-sized array
   pub runtime-array-flags : (base stride : ℕ) → types t .inner ≡ RuntimeArray base stride → base < t
       → T (isArrayBase (row c types base .flags)) × (row c types t .flags ≡ runtimeArrayFlags (row c types base .flags))
   unfolding flagsOf
@@ -122,6 +124,7 @@ module _ (c : ℕ) (types : ℕ → Decoded) (n : ℕ) (accepted : firstRefusal 
       ap (λ (r : Row). r .uniform) (row-parts (Array base count stride) e .1)
       ∙ ap (λ (r : Row). arrayVerdict 16 t stride (r .alignment) (r .uniform)) (earlier-row base l)
 
+  -- and so those of a runtime-sized array
   pub runtime-array-verdict : (base stride : ℕ) → types t .inner ≡ RuntimeArray base stride → base < t → (space : Space)
       → verdictIn (row c types t) space ≡ arrayVerdict (leastIn space) t stride (row c types base .alignment) (verdictIn (row c types base) space)
   unfolding rowOf uniformOf storageOf

@@ -225,16 +225,19 @@ module _ (c : ℕ) (types : ℕ → Decoded) (n : ℕ) (laid : firstRefusal (lay
 
   -- ---- structs
   module _ (t : ℕ) (h : t < n) (members : Members) (is : IsType (struct members) types t) where
-    -- the member rows, the rows before type t, what each record says, and the type of member i
+    -- the member rows
     abbrev part : List ℕ
     part = types t .members
 
+    -- the rows before type t
     abbrev rowsBefore : ℕ → Row
     rowsBefore = rowsUntil c types t
 
+    -- what each record says
     abbrev innerAt : ℕ → TypeInner
     innerAt = innerIn types
 
+    -- the type of member i
     abbrev typeAt : ℕ → ℕ
     typeAt i = memberType part i
 

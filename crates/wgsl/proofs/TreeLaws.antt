@@ -58,11 +58,12 @@ unfolding Constraints typeOfMember lastMember
 constraints-all (last type size) space each = each 0 (omega arith)
 constraints-all (member type size rest) space each = (each 0 (omega arith), constraints-all rest space (λ i h. each (suc i) (omega arith)))
 
--- SizeOfMember is at least SizeOf of the member's type
+-- k of @size(k), or SizeOf where there is none, is at least SizeOf
 size-or : (size : Option ℕ) (type : WgslType) → SizeFits size type → sizeOf type ≤ sizeOr size (sizeOf type)
 size-or none type fits = omega arith
 size-or (some k) type fits = fits
 
+-- SizeOfMember is at least SizeOf of the member's type
 pub member-size : (members : Members) → AllWellFormed members → (i : ℕ) → sizeOf (typeOfMember members i) ≤ sizeOfMember members i
 unfolding WellFormed typeOfMember sizeOf
 member-size (last type size) formed i = size-or size type (formed .0)
@@ -310,6 +311,7 @@ mutual
   storage-always (runtimeArray element) = (stride-multiple element, storage-always element)
   storage-always (struct members) = (λ i h. offset-multiple members i, storage-all members)
 
+  -- and of all members
   storage-all : (members : Members) → AllConstraints members storage
   storage-all (last type size) = storage-always type
   storage-all (member type size rest) = (storage-always type, storage-all rest)
