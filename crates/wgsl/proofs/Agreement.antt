@@ -15,7 +15,7 @@ use Rattle.records.proofs.ResultLaws.{ok-inj}
 use Rattle.records.proofs.TableLaws.{also-accepted}
 use Rattle.layouter.specs.Layouter.{membersAlignment, noLayout, layoutStep, layoutAt, layout, layoutOutcome}
 use Rattle.wgsl.specs.Wgsl.{integer, float, WgslType, scalar, vector, matrix, atomic, array, runtimeArray, struct, Members, last, member, lastMember, memberTotal, number, kindOf, widthOf, maxOver, alignOf, alignOfMember, sizeOf, strideOf, HostShareable, AllHostShareable, IsType, IsMember}
-use Rattle.layouter.proofs.AcceptedLaws.{plain-layout, array-layout, runtime-array-layout, struct-layout, member-layout}
+use Rattle.layouter.proofs.LayoutAccepted.{plain-layout, array-layout, runtime-array-layout, struct-layout, member-layout}
 use Rattle.wgsl.proofs.TypeLaws.{align-positive, scalar-size, vector-size, vector-align, matrix-size}
 
 -- the largest alignment of the first j + 1 members, where f says what the layouts of their types have

@@ -2,3 +2,11 @@ pub mod RoundLaws
 pub mod TypeLaws
 pub mod Agreement
 pub mod Example
+pub mod TreeLaws
+pub mod VerdictLaws
+pub mod BoundsLaws
+pub mod RowLaws
+pub mod MemberLaws
+pub mod StructLaws
+pub mod ConstraintAgreement
+pub mod ConstraintExample

@@ -1,1 +1,2 @@
 pub mod Wgsl
+pub mod Constraints
