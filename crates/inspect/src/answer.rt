@@ -1,0 +1,143 @@
+// What a line does to the arena, and its answer.
+use crate::output;
+use records::Outcome;
+use text::Line;
+ghost use Prim.Native.Nat.{_≤_};
+ghost use lib.ListN.{length};
+
+pub struct Session {
+    pub capabilities: u32,
+    // How many words of the tables are in use.
+    pub types: usize,
+    pub members: usize,
+    // The number of the line.
+    pub line: u64,
+    // How many bytes of answers wait to be written.
+    pub waiting: usize,
+    // How many bytes of the input wait for the end of their line.
+    pub held: usize,
+    pub stopped: bool,
+}
+
+const TYPE_WORDS: usize = 6;
+const MEMBER_WORDS: usize = 2;
+
+pub fn start() -> Session {
+    Session { capabilities: 0, types: 0, members: 0, line: 1, waiting: 0, held: 0, stopped: false }
+}
+
+fn cleared(session: Session) -> Session {
+    let mut s = session;
+    s.capabilities = 0;
+    s.types = 0;
+    s.members = 0;
+    s
+}
+
+fn with_capabilities(session: Session, word: u32) -> Session {
+    let mut s = session;
+    s.capabilities = word;
+    s
+}
+
+fn with_waiting(session: Session, waiting: usize) -> Session {
+    let mut s = session;
+    s.waiting = waiting;
+    s
+}
+
+// A line that cannot be read is the last.
+pub fn stop(session: Session, out: &mut [u8], why: &[u8]) -> Session {
+    let mut s = session;
+    let at = output::put_line(out, s.waiting, s.line);
+    s.waiting = output::put_text(out, at, why);
+    s.stopped = true;
+    s
+}
+
+fn stop_by(session: Session, out: &mut [u8], reason: text::Reason) -> Session {
+    let mut s = session;
+    let at = output::put_line(out, s.waiting, s.line);
+    s.waiting = output::put_reason(out, at, reason);
+    s.stopped = true;
+    s
+}
+
+// The first n words of a table.
+fn first_words(words: &[u32], n: usize) -> &[u32] {
+    if n <= words.len() { &words[..n] } else { words }
+}
+
+// Whether n more words fit after the first `used`.
+fn has_room(words: &[u32], used: usize, n: usize) -> bool {
+    if used <= words.len() { n <= words.len() - used } else { false }
+}
+
+fn add_type(session: Session, types: &mut [u32], out: &mut [u8], record: [u32; 6]) -> Session {
+    let at = session.types;
+    if !has_room(types, at, TYPE_WORDS) {
+        return stop(session, out, b"the arena is full, with 1024 types\n");
+    }
+    types[at] = record[0];
+    types[at + 1] = record[1];
+    types[at + 2] = record[2];
+    types[at + 3] = record[3];
+    types[at + 4] = record[4];
+    types[at + 5] = record[5];
+    let mut s = session;
+    s.types = at + TYPE_WORDS;
+    s
+}
+
+fn add_member(session: Session, members: &mut [u32], out: &mut [u8], ty: u32, offset: u32) -> Session {
+    let at = session.members;
+    if !has_room(members, at, MEMBER_WORDS) {
+        return stop(session, out, b"the member table is full, with 4096 members\n");
+    }
+    members[at] = ty;
+    members[at + 1] = offset;
+    let mut s = session;
+    s.members = at + MEMBER_WORDS;
+    s
+}
+
+fn check(session: Session, types: &[u32], members: &[u32], rows: &mut [u32], out: &mut [u8]) -> Session {
+    let at = session.waiting;
+    let t = first_words(types, session.types);
+    let m = first_words(members, session.members);
+    match valid::check(t, m, session.capabilities, rows) {
+        Outcome::Accepted => {
+            let n = records::type_count(t) as u32;
+            with_waiting(session, output::put_rows(out, at, rows, n))
+        }
+        Outcome::Refused { number, ty, member, detail } => {
+            with_waiting(session, output::put_refusal(out, at, number, ty, member, detail))
+        }
+    }
+}
+
+fn members_of(session: Session, types: &[u32], members: &[u32], out: &mut [u8], ty: u32) -> Session {
+    let t = first_words(types, session.types);
+    let m = first_words(members, session.members);
+    let part = records::struct_members(t, m, ty);
+    with_waiting(session, output::put_members(out, session.waiting, part))
+}
+
+// Answers a line.
+pub fn answer(line: &[u8], session: Session, types: &mut [u32], members: &mut [u32], rows: &mut [u32], numbers: &mut [u32], out: &mut [u8]) -> Session
+    requires { ⌜ 1025 ≤ length (now numbers) ⌝ }
+{
+    match text::read_line(line, numbers) {
+        Line::Nothing => session,
+        Line::Capabilities(word) => with_capabilities(session, word),
+        Line::TypeRecord { kind, a, b, c, d, e } => add_type(session, types, out, [kind, a, b, c, d, e]),
+        Line::MemberRecord { ty, offset } => add_member(session, members, out, ty, offset),
+        Line::Check => check(session, types, members, rows, out),
+        Line::Members(ty) => members_of(session, types, members, out, ty),
+        Line::Slots { ty: _, offset: _ } => session,
+        Line::Range { offset: _, size: _ } => session,
+        Line::Place { start: _, steps: _ } => session,
+        Line::Clear => cleared(session),
+        Line::Wrong(reason) => stop_by(session, out, reason),
+    }
+}
