@@ -135,11 +135,12 @@ fn text_of(line: &[u8]) -> &[u8]
     ensures { λ r. ⌜ now r ≡ textOf (now (line .entry)) ⌝ }
 {
     let n = line.len();
-    if 0 < n {
-        let last = n - 1;
-        if line[last] == RETURN {
-            return before_comment(&line[..last]);
-        }
+    if n == 0 {
+        return before_comment(line);
+    }
+    let last = n - 1;
+    if line[last] == RETURN {
+        return before_comment(&line[..last]);
     }
     before_comment(line)
 }

@@ -1,46 +1,37 @@
+-- `text::all_digits` meets its contract. The invariant: what is left from i on decides. Assumes nothing.
+use borrow.Author.Needs.{needs}
+use mathlib.Core.Path.{_≡_, refl, sym, _∙_}
+use Prim.Native.Nat.{_-_, _≤_}
+use lib.ListN.{length, drop}
+use borrow.Author.Tests.{not-true, not-false}
+use Rattle.text.specs.Number.{allDigits}
+use Rattle.text.proofs.NumberLaws.{digits-more, digits-stop, digits-done}
 use Rattle.text.proofs.all_digits.Statement.{statement}
 use Rattle.text.proofs.all_digits.Tie as tie
-use Rattle.text.proofs.all_digits.Reads as reads
-use Rattle.text.proofs.all_digits.Lts as lts
-use Rattle.text.proofs.is_digit.Reads as is-digit-reads
 
 abbrev Inv-loop : tie.InvT-loop
-Inv-loop word i₀ i = ?
+Inv-loop word i₀ i = (i ≤ length word) × (allDigits (drop i word) ≡ allDigits word)
 
 abbrev μ-loop : tie.MeasureT-loop
-μ-loop word i₀ i = ?
+μ-loop word i₀ i = length word - i
 
--- src/lib.rt:170:5
 loop-holds : tie.Need-loop-holds Inv-loop μ-loop
-loop-holds c = ?
+loop-holds c = (search needs, refl)
 
--- src/lib.rt:171:22
-shared-slice-read-is-digit : tie.Need-shared-slice-read-is-digit Inv-loop μ-loop
-shared-slice-read-is-digit c = ?
-
--- src/lib.rt:171:13
-is-digit-requires : tie.Need-is-digit-requires Inv-loop μ-loop
-is-digit-requires c κs = ?
-
--- src/lib.rt:172:13
 returns : tie.Need-returns Inv-loop μ-loop
-returns c = ?
+returns c = 
+    let l = c .before .before .before .before .loop in
+    sym (digits-stop _ (l .i) (c .before .before .before .loop-test .taken) (sym (c .before .is-digit .ensures) ∙ not-true _ (c .if1 .taken))) ∙ l .inv .1
 
--- src/lib.rt:174:9
-add-i : tie.Need-add-i Inv-loop μ-loop
-add-i c = ?
-
--- src/lib.rt:170:5
-loop-less : tie.Need-loop-less Inv-loop μ-loop
-loop-less c = ?
-
--- src/lib.rt:170:5
 loop-again : tie.Need-loop-again Inv-loop μ-loop
-loop-again c = ?
+loop-again c = 
+    let l = c .before .before .before .before .loop in
+    (search needs, sym (digits-more _ (l .i) (c .before .before .before .loop-test .taken) (sym (c .before .is-digit .ensures) ∙ not-false _ (c .if1 .left))) ∙ l .inv .1)
 
--- src/lib.rt:166:1
 returns-2 : tie.Need-returns-2 Inv-loop μ-loop
-returns-2 c = ?
+returns-2 c = 
+    let l = c .before .loop in
+    sym (digits-done _ (l .i) (c .loop-test .left)) ∙ l .inv .1
 
 pub all-digits-spec : {M : Type 1} → statement M
 all-digits-spec =
@@ -49,10 +40,10 @@ all-digits-spec =
     Inv-loop
     μ-loop
     loop-holds
-    shared-slice-read-is-digit
-    is-digit-requires
+    (λ c. search needs)
+    (λ c κs. search needs)
     returns
-    add-i
-    loop-less
+    (λ c. search needs)
+    (λ c. search needs)
     loop-again
     returns-2)

@@ -1,55 +1,46 @@
+-- `text::capped` meets its contract. The invariant: n followed by what is left gives the whole, cut down. Assumes nothing.
+use borrow.Author.Needs.{needs}
+use mathlib.Core.Path.{_≡_, refl, sym, _∙_}
+use Prim.Native.Nat.{_+_, _-_, _*_, _≤_, min}
+use native.Mathlib.Omega.{arith}
+use lib.ListN.{length, getD, drop}
+use denote.Ref.{now}
+use Rattle.text.specs.Number.{decimal}
+use Rattle.text.proofs.NumberLaws.{decimal-more, decimal-done, decimal-capped}
 use Rattle.text.proofs.capped.Statement.{statement}
 use Rattle.text.proofs.capped.Tie as tie
-use Rattle.text.proofs.capped.Reads as reads
-use Rattle.text.proofs.capped.Lts as lts
-use Rattle.text.proofs.digit_of.Reads as digit-of-reads
-use Rattle.text.proofs.least.Reads as least-reads
 
 abbrev Inv-loop : tie.InvT-loop
-Inv-loop word n₀ i₀ n i = ?
+Inv-loop word n₀ i₀ n i = (i ≤ length word) × (n ≤ 4294967296) × (min (decimal n (drop i word)) 4294967296 ≡ min (decimal 0 word) 4294967296)
 
 abbrev μ-loop : tie.MeasureT-loop
-μ-loop word n₀ i₀ n i = ?
+μ-loop word n₀ i₀ n i = length word - i
 
--- src/lib.rt:191:5
 loop-holds : tie.Need-loop-holds Inv-loop μ-loop
-loop-holds c = ?
+loop-holds c = (search needs, search needs, refl)
 
--- src/lib.rt:192:20
 mul-next : tie.Need-mul-next Inv-loop μ-loop
-mul-next c = ?
+mul-next c = omega (arith, c .before .loop .inv .1)
 
--- src/lib.rt:192:38
-shared-slice-read-digit-of : tie.Need-shared-slice-read-digit-of Inv-loop μ-loop
-shared-slice-read-digit-of c = ?
-
--- src/lib.rt:192:29
-digit-of-requires : tie.Need-digit-of-requires Inv-loop μ-loop
-digit-of-requires c κs = ?
-
--- src/lib.rt:192:20
 add-next : tie.Need-add-next Inv-loop μ-loop
-add-next c = ?
+add-next c = omega (arith, c .before .before .before .loop .inv .1, c .digit-of .ensures .1)
 
--- src/lib.rt:193:9
-least-requires : tie.Need-least-requires Inv-loop μ-loop
-least-requires c κs = ?
-
--- src/lib.rt:194:9
-add-i : tie.Need-add-i Inv-loop μ-loop
-add-i c = ?
-
--- src/lib.rt:191:5
-loop-less : tie.Need-loop-less Inv-loop μ-loop
-loop-less c = ?
-
--- src/lib.rt:191:5
 loop-again : tie.Need-loop-again Inv-loop μ-loop
-loop-again c = ?
+loop-again c = 
+    let a = c .before .before .before .before .before .before .args in
+    let l = c .before .before .before .before .loop in
+    let m = decimal-more (now (a .word)) (l .i) (l .n) (c .before .before .before .loop-test .taken) in
+    let next = l .n * 10 + (getD (now (a .word)) (l .i) 0 - 48) in
+    (search needs,
+    omega (arith, c .least .ensures),
+    rw (c .least .ensures, c .before .digit-of .ensures .0)
+    (decimal-capped next 4294967296 (drop (l .i + 1) (now (a .word))) ∙ rw m at (l .inv .2)))
 
--- src/lib.rt:186:1
 returns : tie.Need-returns Inv-loop μ-loop
-returns c = ?
+returns c = 
+    let l = c .before .loop in
+    let d = decimal-done (now (c .before .before .before .args .word)) (l .i) (l .n) (c .loop-test .left) in
+    omega (arith, rw d at (l .inv .2))
 
 pub capped-spec : {M : Type 1} → statement M
 capped-spec =
@@ -59,11 +50,11 @@ capped-spec =
     μ-loop
     loop-holds
     mul-next
-    shared-slice-read-digit-of
-    digit-of-requires
+    (λ c. search needs)
+    (λ c κs. search needs)
     add-next
-    least-requires
-    add-i
-    loop-less
+    (λ c κs. search needs)
+    (λ c. search needs)
+    (λ c. search needs)
     loop-again
     returns)

@@ -1,46 +1,42 @@
+-- `text::run_end` meets its contract. The invariant: the run from `at` on ends where the run from i on does. Assumes nothing.
+use borrow.Author.Needs.{needs}
+use mathlib.Core.Path.{_≡_, refl, sym, _∙_}
+use Prim.Native.Nat.{_+_, _-_, _≤_, min}
+use native.Mathlib.Omega.{arith}
+use lib.ListN.{length, drop}
+use denote.Ref.{now}
+use borrow.Author.Tests.{not-true, not-false}
+use Rattle.text.specs.Words.{isIn, runOf}
+use Rattle.text.proofs.WordLaws.{run-more, run-stop, run-done}
 use Rattle.text.proofs.run_end.Statement.{statement}
 use Rattle.text.proofs.run_end.Tie as tie
-use Rattle.text.proofs.run_end.Reads as reads
-use Rattle.text.proofs.run_end.Lts as lts
-use Rattle.text.proofs.is_in.Reads as is-in-reads
 
 abbrev Inv-loop : tie.InvT-loop
-Inv-loop s at class i₀ i = ?
+Inv-loop s at class i₀ i = (at ≤ i) × (i ≤ length s) × (i + runOf (isIn class) (drop i s) ≡ at + runOf (isIn class) (drop at s))
 
 abbrev μ-loop : tie.MeasureT-loop
-μ-loop s at class i₀ i = ?
+μ-loop s at class i₀ i = length s - i
 
--- src/lib.rt:111:5
-loop-holds : tie.Need-loop-holds Inv-loop μ-loop
-loop-holds c = ?
-
--- src/lib.rt:112:26
-shared-slice-read-is-in : tie.Need-shared-slice-read-is-in Inv-loop μ-loop
-shared-slice-read-is-in c = ?
-
--- src/lib.rt:112:13
-is-in-requires : tie.Need-is-in-requires Inv-loop μ-loop
-is-in-requires c κs = ?
-
--- src/lib.rt:113:13
 returns : tie.Need-returns Inv-loop μ-loop
-returns c = ?
+returns c = 
+    let a = c .before .before .before .before .before .before .args in
+    let l = c .before .before .before .before .loop in
+    let z = run-stop (isIn (a .class)) (now (a .s)) (l .i) (c .before .before .before .loop-test .taken) (sym (c .before .is-in .ensures) ∙ not-true _ (c .if1 .taken)) in
+    (omega arith, omega arith)
 
--- src/lib.rt:115:9
-add-i : tie.Need-add-i Inv-loop μ-loop
-add-i c = ?
-
--- src/lib.rt:111:5
-loop-less : tie.Need-loop-less Inv-loop μ-loop
-loop-less c = ?
-
--- src/lib.rt:111:5
 loop-again : tie.Need-loop-again Inv-loop μ-loop
-loop-again c = ?
+loop-again c = 
+    let a = c .before .before .before .before .before .before .args in
+    let l = c .before .before .before .before .loop in
+    let z = run-more (isIn (a .class)) (now (a .s)) (l .i) (c .before .before .before .loop-test .taken) (sym (c .before .is-in .ensures) ∙ not-false _ (c .if1 .left)) in
+    omega arith
 
--- src/lib.rt:105:1
 returns-2 : tie.Need-returns-2 Inv-loop μ-loop
-returns-2 c = ?
+returns-2 c = 
+    let a = c .before .before .before .args in
+    let l = c .before .loop in
+    let z = run-done (isIn (a .class)) (now (a .s)) (l .i) (c .loop-test .left) in
+    (omega arith, omega arith)
 
 pub run-end-spec : {M : Type 1} → statement M
 run-end-spec =
@@ -48,11 +44,11 @@ run-end-spec =
     (tie.spec
     Inv-loop
     μ-loop
-    loop-holds
-    shared-slice-read-is-in
-    is-in-requires
+    (λ c. search needs)
+    (λ c. search needs)
+    (λ c κs. search needs)
     returns
-    add-i
-    loop-less
+    (λ c. search needs)
+    (λ c. search needs)
     loop-again
     returns-2)
