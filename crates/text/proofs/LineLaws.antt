@@ -10,8 +10,8 @@ use native.Mathlib.Omega.{arith}
 use lib.Dec.{eqb}
 use lib.ListN.{length, getD, take, drop, set, drop-of-length-le}
 use lib.Seq.{drop-cons, append-snoc, take-suc-set, length-take-le}
-use borrow.Author.Tests.{eq-eqb, ne-eqb}
-use Rattle.text.specs.Line.{same, Arguments, read, wrong, before, numbersOf, Holds}
+use borrow.Author.Tests.{eq-eqb, ne-eqb, le-leb, lt-leb}
+use Rattle.text.specs.Line.{same, Arguments, read, wrong, before, leastOf, mostOf, numbersOf, argumentsOf, Holds}
 use Rattle.text.specs.declared.Command.{Command}
 use Rattle.text.specs.declared.Reason.{Reason}
 use Rattle.text.specs.declared.Reason.the-variants.{Usage}
@@ -82,6 +82,21 @@ module _ (c : Command) (most k : ℕ) (xs : List ℕ) (u : List (List ℕ)) wher
   pub numbers-many : (w : List ℕ) (ws : List (List ℕ)) → most ≤ k → u ≡ w ∷ ws → left ≡ wrong (Usage c)
   unfolding numbersOf
   numbers-many w ws h e = let z : most - k ≡ 0 = omega arith in rw (e, z)
+
+-- ---- a command's numbers, of which k were read
+module _ (c : Command) (ws : List (List ℕ)) where
+  module _ (k : ℕ) (xs : List ℕ) (all : read (take k xs) ≡ numbersOf c (mostOf c) 2 ws) (within : k ≤ length xs) where
+    pub arguments-few : k < leastOf c → argumentsOf c ws ≡ wrong (Usage c)
+    unfolding argumentsOf
+    arguments-few h = rw (← all, length-take-le k xs within, lt-leb (leastOf c) k h) refl
+
+    pub arguments-read : leastOf c ≤ k → argumentsOf c ws ≡ read (take k xs)
+    unfolding argumentsOf
+    arguments-read h = rw (← all, length-take-le k xs within, le-leb (leastOf c) k h) refl
+
+  pub arguments-wrong : (r : Reason) → wrong r ≡ numbersOf c (mostOf c) 2 ws → argumentsOf c ws ≡ wrong r
+  unfolding argumentsOf
+  arguments-wrong r e = rw (← e) refl
 
 pub holds-take : (k : ℕ) (xs : List ℕ) → k ≤ length xs → Holds xs (take k xs)
 holds-take k xs h = rw (length-take-le k xs h)

@@ -4,7 +4,7 @@ use mathlib.Core.Path.{_≡_, refl, sym, _∙_}
 use Prim.Native.Nat.{_-_}
 use native.Mathlib.Omega.{arith}
 use denote.Ref.{now}
-use lib.ListN.{length, List·getD-eq-default}
+use lib.ListN.{length, getD, List·getD-eq-default}
 use lib.Seq.{length-take-le}
 use borrow.Author.Tests.{ne-eqb}
 use Rattle.text.specs.Words.{withoutReturn}
@@ -15,7 +15,8 @@ returns : tie.Need-returns
 unfolding withoutReturn
 returns c = 
     let a = now (c .before .before .before .args .line) in
-    rw (c .before-comment .ensures, List·getD-eq-default a 0 (omega (arith, c .before .if1 .taken))) refl
+    let none : getD a (length a - 1) 0 ≡ 0 = List·getD-eq-default a 0 (omega (arith, c .before .if1 .taken)) in
+    rw (c .before-comment .ensures, none) refl
 
 slice-aggregate-before-comment : tie.Need-slice-aggregate-before-comment
 slice-aggregate-before-comment c = omega (arith, length-take-le (length (now (c .before .before .before .before .before .args .line)) - 1) (now (c .before .before .before .before .before .args .line)) (omega arith))
