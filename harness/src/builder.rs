@@ -10,8 +10,6 @@ pub const FLOAT: u32 = 2;
 pub const BOOL: u32 = 3;
 pub const STORAGE_SPACE: u32 = 4;
 pub const EXTERNAL_CLASS: u32 = 2;
-pub const CONSTANT: u32 = 0;
-pub const DYNAMIC: u32 = 1;
 pub const MAX_TYPE_SIZE: u32 = i32::MAX as u32;
 
 /// What later types want to know of an earlier one.
@@ -36,6 +34,8 @@ pub struct Builder<'r> {
     pub needed: u32,
     /// How many members a struct usually has at most.
     pub usual_members: u32,
+    /// How large a member is at most.
+    pub largest_member: u32,
     /// Member rows of earlier structs: first, count.
     runs: Vec<(u32, u32)>,
 }
@@ -53,8 +53,20 @@ impl<'r> Builder<'r> {
             facts: Vec::new(),
             needed: 0,
             usual_members: 6,
+            largest_member: (1 << 24) - 1,
             runs: Vec::new(),
         }
+    }
+
+    /// The tables, with the capabilities that they need.
+    pub fn into_arena(self) -> (Arena, &'r mut Random) {
+        let arena = Arena {
+            types: self.types,
+            members: self.members,
+            capabilities: self.needed,
+            rows_len: 0,
+        };
+        (arena, self.random)
     }
 
     pub fn count(&self) -> u32 {
@@ -368,10 +380,11 @@ impl<'r> Builder<'r> {
             }
         }
         let mode = self.random.weighted(&[7, 6, 3, 3, 1, 2]) as u32;
+        let largest = self.largest_member;
         let mut rows = Vec::new();
         let mut layout = Layout::default();
         for _ in 0..self.random.between(1, self.usual_members) {
-            let Some(ty) = self.find(|f| f.data && f.sized && f.size < 1 << 24) else {
+            let Some(ty) = self.find(|f| f.data && f.sized && f.size <= largest) else {
                 break;
             };
             self.place(mode, ty, &mut layout, &mut rows);
@@ -382,7 +395,7 @@ impl<'r> Builder<'r> {
         }
         let mut sized = true;
         if self.random.one_in(4) {
-            let runtime = |f: &Fact| !f.sized && f.kind == kind::ARRAY && f.size < 1 << 24;
+            let runtime = |f: &Fact| !f.sized && f.kind == kind::ARRAY && f.size <= largest;
             if let Some(ty) = self.find(runtime) {
                 self.place(mode, ty, &mut layout, &mut rows);
                 sized = false;

@@ -3,6 +3,7 @@ ghost use Prim.Native.Nat.{_+_, _*_, _≤_};
 ghost use lib.ListN.{length};
 
 const STDOUT: i32 = 1;
+
 const ROW_WORDS: usize = 14;
 
 fn wide(x: u32) -> u64 {

@@ -27,13 +27,23 @@ fn put_answer(answer: &mut [u32], outcome: Outcome)
     }
     match outcome {
         Outcome::Accepted => put_four(answer, 0, 0, 0, 0),
-        Outcome::Refused { number, ty, member, detail } => put_four(answer, number, ty, member, detail),
+        Outcome::Refused {
+            number,
+            ty,
+            member,
+            detail,
+        } => put_four(answer, number, ty, member, detail),
     }
 }
 
 // Sizes and alignments of an arena, in the first two words of the lent rows.
 #[no_mangle]
-pub extern "C" fn wuldazin_layout(types: &[u32], members: &[u32], rows: &mut [u32], answer: &mut [u32])
+pub extern "C" fn wuldazin_layout(
+    types: &[u32],
+    members: &[u32],
+    rows: &mut [u32],
+    answer: &mut [u32],
+)
     ensures { λ _. ⌜ now (rows .exit) ≡ layoutWords (now (types .entry)) (now (members .entry)) (now (rows .entry)) ⌝ }
     ensures { λ _. ⌜ now (answer .exit) ≡ withAnswer (now (answer .entry)) (layoutAnswer (now (types .entry)) (now (members .entry)) (now (rows .entry))) ⌝ }
 {
@@ -43,7 +53,13 @@ pub extern "C" fn wuldazin_layout(types: &[u32], members: &[u32], rows: &mut [u3
 
 // The arena check.
 #[no_mangle]
-pub extern "C" fn wuldazin_check(types: &[u32], members: &[u32], capabilities: u32, rows: &mut [u32], answer: &mut [u32])
+pub extern "C" fn wuldazin_check(
+    types: &[u32],
+    members: &[u32],
+    capabilities: u32,
+    rows: &mut [u32],
+    answer: &mut [u32],
+)
     ensures { λ _. ⌜ now (rows .exit) ≡ arenaWords capabilities (now (types .entry)) (now (members .entry)) (now (rows .entry)) ⌝ }
     ensures { λ _. ⌜ now (answer .exit) ≡ withAnswer (now (answer .entry)) (arenaAnswer capabilities (now (types .entry)) (now (members .entry)) (now (rows .entry))) ⌝ }
 {

@@ -71,15 +71,17 @@ outcome-same (Refused n u m d) (Refused n′ u′ m′ d′) t =
 all-left : (x : Example) (ws : List Words) → T (allLeft x ws) → AllLeft x ws
 unfolding allLeft
 all-left x [] t = tt
-all-left x (w ∷ ws) t =
-    (list-same (left x w) (w .words) (and-left (sameList (left x w) (w .words)) (allLeft x ws) t),
-    all-left x ws (and-right (sameList (left x w) (w .words)) (allLeft x ws) t))
+all-left x (w ∷ ws) t = (
+  list-same (left x w) (w .words) (and-left (sameList (left x w) (w .words)) (allLeft x ws) t),
+  all-left x ws (and-right (sameList (left x w) (w .words)) (allLeft x ws) t),
+)
 
 example-holds : (x : Example) → T (holds x) → Holds x
 unfolding holds
-example-holds x t =
-    (outcome-same (made x) (x .answer) (and-left (sameOutcome (made x) (x .answer)) (allLeft x (x .rows)) t),
-    all-left x (x .rows) (and-right (sameOutcome (made x) (x .answer)) (allLeft x (x .rows)) t))
+example-holds x t = (
+  outcome-same (made x) (x .answer) (and-left (sameOutcome (made x) (x .answer)) (allLeft x (x .rows)) t),
+  all-left x (x .rows) (and-right (sameOutcome (made x) (x .answer)) (allLeft x (x .rows)) t),
+)
 
 -- what each row of a table says
 pub AllHold : List Example → Type 0
