@@ -407,6 +407,19 @@ impl<'r> Builder<'r> {
         number
     }
 
+    /// A struct with an empty member so far away that a walk's offset sum may
+    /// leave 32 bits there and nowhere else.
+    pub fn far_and_empty(&mut self) -> u32 {
+        let plain = self.word_scalar();
+        let empty = match self.random.one_in(2) {
+            true => self.ray_query(),
+            false => self.push_array(plain, CONSTANT, 3, 0),
+        };
+        let offset = u32::MAX - self.random.below(64);
+        let span = self.random.between(offset, u32::MAX);
+        self.push_struct(&[(plain, 0), (empty, offset)], span)
+    }
+
     /// Puts a member where the mode wants it.
     fn place(&mut self, mode: u32, ty: u32, layout: &mut Layout, rows: &mut Vec<(u32, u32)>) {
         let fact = self.facts[ty as usize];

@@ -49,6 +49,9 @@ fn small(random: &mut Random) -> Arena {
     let mut builder = Builder::new(random);
     builder.usual_members = 5;
     builder.largest_member = largest_member;
+    if builder.random.one_in(12) {
+        builder.far_and_empty();
+    }
     grown(builder, plain, composite)
 }
 

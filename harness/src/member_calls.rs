@@ -4,14 +4,13 @@ use crate::guarded::Guarded;
 use crate::histogram::Histogram;
 use crate::random::Random;
 use crate::records::*;
-use crate::{generator, members, port, print};
+use crate::{damage, generator, members, port, print};
 
 pub fn members(count: u64, seed: u64) -> bool {
     let mut histogram = Histogram::default();
     for index in 0..count {
         let random = &mut Random::new(!seed, index);
-        let tables = tables(random, seed, index);
-        let number = number(random, &tables);
+        let (tables, number) = tables_and_number(random, seed, index);
         let owed = members::part(&tables.types, &tables.members, number);
         histogram.note(sort_of(&tables, number, owed));
         if let Some(difference) = difference(&tables, number, owed, random) {
@@ -47,23 +46,30 @@ fn sort_of(tables: &Arena, number: u32, owed: [u64; 2]) -> &'static str {
     }
 }
 
-/// Tables of any sort, some cut anywhere, some with any words.
-fn tables(random: &mut Random, seed: u64, index: u64) -> Arena {
+/// Tables of any sort, some cut anywhere, some too long, some with any words.
+fn tables_and_number(random: &mut Random, seed: u64, index: u64) -> (Arena, u32) {
     let mut arena = match random.below(4) {
         0 => generator::arena(seed, index),
         1 => any_words(random),
         _ => generator::mostly_sound(seed, index),
     };
+    if random.one_in(50) {
+        damage::fill_types(&mut arena, MAX_TYPES + 20);
+    }
+    if random.one_in(50) {
+        arena.members.resize(MEMBER_WORDS * (MAX_MEMBERS + 20), 0);
+    }
     if random.one_in(3) {
         cut(random, &mut arena.types);
     }
     if random.one_in(3) {
         cut(random, &mut arena.members);
     }
-    if random.one_in(3) {
-        move_rows(random, &mut arena);
+    let number = number(random, &arena);
+    if random.one_in(2) {
+        move_rows(random, &mut arena, number);
     }
-    arena
+    (arena, number)
 }
 
 fn cut(random: &mut Random, words: &mut Vec<u32>) {
@@ -85,14 +91,13 @@ fn any_words(random: &mut Random) -> Arena {
     }
 }
 
-/// Makes a record a struct whose rows end about where the table does, or far
+/// Makes the record a struct whose rows end about where the table does, or far
 /// from it, where sums and products of 32 bits wrap.
-fn move_rows(random: &mut Random, arena: &mut Arena) {
+fn move_rows(random: &mut Random, arena: &mut Arena, number: u32) {
     let (count, rows) = (arena.type_count() as u32, arena.member_count() as u32);
-    if count == 0 {
+    if number >= count {
         return;
     }
-    let number = random.below(count) as usize;
     let first = random.below(rows + 2);
     let left = rows.saturating_sub(first);
     let near = random.pick(&[left, left, left + 1, left.saturating_sub(1), 0, 1]);
@@ -103,7 +108,7 @@ fn move_rows(random: &mut Random, arena: &mut Arena) {
         3 => (u32::MAX - near, random.between(1, 4)),
         _ => (first, near),
     };
-    let record = &mut arena.types[TYPE_WORDS * number..];
+    let record = &mut arena.types[TYPE_WORDS * number as usize..];
     record[..3].copy_from_slice(&[kind::STRUCT, first, rows]);
 }
 
