@@ -1,8 +1,7 @@
 // The place lookup: from a type along steps to the byte place of a leaf.
 use records::{Outcome, TypeInner};
 ghost use mathlib.Core.Path.{_≡_};
-ghost use Prim.Native.Nat.{_+_, _*_, _^_, _<_};
-ghost use Rattle.records.specs.Record.{typeInner, structMembers, decoded};
+ghost use Prim.Native.Nat.{ℕ, _*_};
 ghost use Rattle.records.specs.declared.Outcome.the-variants.{Accepted};
 ghost use Rattle.valid.specs.Arena.{arena, arenaWords};
 ghost use Rattle.place.specs.declared.Step.the-variants.{To};
@@ -77,11 +76,11 @@ fn step_of(inner: TypeInner, part: &[u32], step: u32) -> Step
 }
 
 // The place that steps lead to, in an accepted arena.
-fn place_of(types: &[u32], members: &[u32], capabilities: u32, start: u32, steps: &[u32]) -> Place
-    requires { ⌜ arena capabilities (now types) (now members) ≡ Accepted ⌝ }
+fn place_of(types: &[u32], members: &[u32], start: u32, steps: &[u32]) -> Place
+    requires { ⌜ ((c : ℕ) × (arena c (now types) (now members) ≡ Accepted)) ⌝ }
     ensures { λ r. ⌜ r ≡ placeOf (now (types .entry)) (now (members .entry)) start (now (steps .entry)) ⌝ }
 {
-    if types.len() / 6 <= start as usize {
+    if records::type_count(types) <= start as usize {
         return Place::NoPlace;
     }
     let mut ty = start;
@@ -122,7 +121,7 @@ pub fn lookup(types: &[u32], members: &[u32], capabilities: u32, rows: &mut [u32
     ensures { λ _. ⌜ now (rows .exit) ≡ arenaWords capabilities (now (types .entry)) (now (members .entry)) (now (rows .entry)) ⌝ }
 {
     match valid::check(types, members, capabilities, rows) {
-        Outcome::Accepted => place_answer(place_of(types, members, capabilities, start, steps)),
+        Outcome::Accepted => place_answer(place_of(types, members, start, steps)),
         Outcome::Refused { number, ty, member, detail } => PlaceAnswer::Refused { number, ty, member, detail },
     }
 }
