@@ -1,58 +1,34 @@
 use borrow.Author.Needs.{needs}
+use mathlib.Core.Path.{refl, sym, _∙_}
+use denote.Ref.{now}
+use Rattle.place.specs.Place.{lookupAnswer}
+use Rattle.place.proofs.LookupLaws.{answer-accepted}
 use Rattle.place.proofs.lookup.Statement.{statement}
 use Rattle.place.proofs.lookup.Tie as tie
-use Rattle.place.proofs.lookup.Reads as reads
-use Rattle.place.proofs.lookup.Lts as lts
-use Rattle.place.proofs.place_answer.Reads as place-answer-reads
-use Rattle.place.proofs.place_of.Reads as place-of-reads
-use Rattle.valid.proofs.check.Reads as check-reads
 
--- src/lib.rt:123:11
-check-requires : tie.Need-check-requires
-check-requires c κs = search needs
-
--- src/lib.rt:124:43
-enum-told : tie.Need-enum-told
-enum-told c = search needs
-
--- src/lib.rt:124:43
 place-of-requires : tie.Need-place-of-requires
-place-of-requires c κs = ?
+place-of-requires c κs = 
+    let a = c .before .before .before .before .before .before .before .before .before .before .args in
+    (a .capabilities, answer-accepted (a .capabilities) (now (a .types)) (now (a .members)) (now (a .rows)) (sym (c .before .before .before .before .check .ensures .0) ∙ c .enum-told .given .1))
 
--- src/lib.rt:124:30
-place-answer-requires : tie.Need-place-answer-requires
-place-answer-requires c κs = search needs
-
--- src/lib.rt:125:28
-enum-known-number : tie.Need-enum-known-number
-enum-known-number c = search needs
-
--- src/lib.rt:119:1
-same-length : tie.Need-same-length
-same-length c = search needs
-
--- src/lib.rt:119:1
 returns : tie.Need-returns
-returns c = ?
+unfolding lookupAnswer
+returns c = (rw (sym (c .before .before .before .before .before .before .check .ensures .0) ∙ c .before .before .enum-told .given .1, ← c .before .place-of .ensures) (c .place-answer .ensures), c .before .before .before .before .before .before .check .ensures .1)
 
--- src/lib.rt:119:1
-same-length-2 : tie.Need-same-length-2
-same-length-2 c = search needs
-
--- src/lib.rt:119:1
 returns-2 : tie.Need-returns-2
-returns-2 c = ?
+unfolding lookupAnswer
+returns-2 c = (rw (sym (c .before .before .before .before .before .check .ensures .0) ∙ c .before .number .given .1) refl, c .before .before .before .before .before .check .ensures .1)
 
 pub lookup-spec : {M : Type 1} → statement M
 lookup-spec =
     tie.close
     (tie.spec
-    check-requires
-    enum-told
+    (λ c κs. search needs)
+    (λ c. search needs)
     place-of-requires
-    place-answer-requires
-    enum-known-number
-    same-length
+    (λ c κs. search needs)
+    (λ c. search needs)
+    (λ c. search needs)
     returns
-    same-length-2
+    (λ c. search needs)
     returns-2)
