@@ -2,27 +2,24 @@
 -- Assumes nothing.
 use mathlib.Core.Path.{_≡_, refl, sym, _∙_}
 use mathlib.Core.Bool.{Bool, true, false, _&&_}
-use mathlib.Core.List.{List, [], _∷_}
-use Prim.Native.Nat.{ℕ, suc, _+_, _*_, _/_, _%_, _^_, _≤_, _<_}
+use mathlib.Core.List.{List}
+use Prim.Native.Nat.{ℕ, _+_, _*_, _/_, _%_, _^_, _≤_, _<_}
 use native.Mathlib.Nat.{le-refl}
 use native.Mathlib.Numerals.{add-one}
 use native.Mathlib.Omega.{arith}
-use lib.Dec.{T, eqb, leb, ltb}
+use lib.Dec.{T, eqb, leb}
 use lib.ListN.{length, getD, drop, drop-of-length-le}
 use lib.Seq.{drop-cons}
-use borrow.Author.Tests.{lt-ltb, le-ltb, le-leb}
+use borrow.Author.Tests.{le-ltb, le-leb}
 use Rattle.records.specs.Result.{pick}
-use Rattle.records.specs.Record.{typeCount, typeWords, memberWords, Decoded, decoded}
+use Rattle.records.specs.Record.{typeCount, typeWords, memberWords, decoded}
 use Rattle.records.specs.Fields.{mostTypes, mostMembers, rowWords, tablesFit, capabilitiesKnown}
-use Rattle.records.specs.declared.Outcome.{Outcome}
 use Rattle.records.specs.declared.Outcome.the-variants.{Accepted, Refused}
-use Rattle.records.proofs.ResultLaws.{and-left, and-right}
+use Rattle.records.proofs.ResultLaws.{and-left}
 use Rattle.records.proofs.RecordLaws.{tables-fitting}
 use Rattle.valid.specs.Arena.{arenaOutcome, arenaAnswer, arena}
 use Rattle.valid.proofs.ArenaLaws.{arena-parts, accepted-types}
-use Rattle.place.specs.declared.Step.{Step}
 use Rattle.place.specs.declared.Step.the-variants.{To, NoStep}
-use Rattle.place.specs.declared.Place.{Place}
 use Rattle.place.specs.declared.Place.the-variants.{At, NoPlace}
 use Rattle.place.specs.Place.{follow, stepIn, leafIn, placeIn, placeOf}
 use Rattle.place.proofs.ByteLaws.{Standing, standing-start, standing-step, standing-fits}

@@ -63,8 +63,8 @@ fn step_of(inner: TypeInner, part: &[u32], step: u32) -> Step
             }
         }
         TypeInner::RuntimeArray { base, stride } => element(base, stride, step),
-        TypeInner::Struct { count, span: _ } => {
-            if step < count {
+        TypeInner::Struct { count: members, span: _ } => {
+            if step < members {
                 let bytes = records::member_offset(part, step) as u64;
                 Step::To { ty: records::member_type(part, step), bytes }
             } else {

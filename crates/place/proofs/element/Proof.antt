@@ -1,3 +1,4 @@
+-- `place::element` meets its contract: a product of two 32-bit words fits 64 bits. Assumes nothing.
 use borrow.Author.Needs.{needs}
 use Rattle.place.proofs.ByteLaws.{product-fits}
 use Rattle.place.proofs.element.Statement.{statement}

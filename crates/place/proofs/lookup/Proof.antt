@@ -1,3 +1,4 @@
+-- `place::lookup` meets its contract: the check answers first, and what it accepts is an accepted arena. Assumes nothing.
 use borrow.Author.Needs.{needs}
 use mathlib.Core.Path.{refl, sym, _∙_}
 use denote.Ref.{now}

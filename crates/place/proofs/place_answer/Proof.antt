@@ -1,3 +1,4 @@
+-- `place::place_answer` meets its contract. Assumes nothing.
 use borrow.Author.Needs.{needs}
 use Rattle.place.proofs.place_answer.Statement.{statement}
 use Rattle.place.proofs.place_answer.Tie as tie

@@ -1,3 +1,4 @@
+-- `place::step_of` meets its contract: each answer follows from what the type is and the tests on the way. Assumes nothing.
 use borrow.Author.Needs.{needs}
 use Prim.Native.Nat.{_^_}
 use borrow.Author.Tests.{lt-ltb, le-ltb}
