@@ -21,7 +21,7 @@ loop-holds : tie.Need-loop-holds Inv-loop μ-loop
 loop-holds c = let a = c .before .before .before .before .before .args in looking-start (now (a .types)) (now (a .members)) (a .start) (now (a .steps)) (c .before .before .before .before .before .pre .0) (c .before .before .before .before .before .pre .1) (rw (c .before .type-count .ensures) at (c .if1 .left))
 
 add-byte : tie.Need-add-byte Inv-loop μ-loop
-add-byte c = 
+add-byte c =
     let a = c .before .before .before .before .before .before .before .before .before .before .before .before .before .before .args in let l = c .before .before .before .before .before .before .before .before .loop in
     let e = rw (c .before .before .before .before .before .struct-members .ensures, c .before .before .before .before .before .before .type-inner .ensures) at (c .before .before .before .step-of .ensures) in
     let g = c .before .next .given in
@@ -29,13 +29,13 @@ add-byte c =
     record { fits = looking-fits (now (a .types)) (now (a .members)) (a .start) (now (a .steps)) (l .i + 1) (g .0 .0) (l .byte + g .0 .1 .0) r }
 
 returns-2 : tie.Need-returns-2 Inv-loop μ-loop
-returns-2 c = 
+returns-2 c =
     let a = c .before .before .before .before .before .before .before .before .before .before .before .before .before .args in let l = c .before .before .before .before .before .before .before .loop in
     let e = rw (c .before .before .before .before .struct-members .ensures, c .before .before .before .before .before .type-inner .ensures) at (c .before .before .step-of .ensures) in
     looking-ends (now (a .types)) (now (a .members)) (a .start) (now (a .steps)) (l .i) (l .ty) (l .byte) (l .inv) (c .before .before .before .before .before .before .loop-test .taken) (sym (c .enum-told .given .1) ∙ e)
 
 loop-again : tie.Need-loop-again Inv-loop μ-loop
-loop-again c = 
+loop-again c =
     let a = c .before .before .before .before .before .before .before .before .before .before .before .before .before .before .args in let l = c .before .before .before .before .before .before .before .before .loop in
     let e = rw (c .before .before .before .before .before .struct-members .ensures, c .before .before .before .before .before .before .type-inner .ensures) at (c .before .before .before .step-of .ensures) in
     let g = c .before .next .given in
@@ -43,13 +43,13 @@ loop-again c =
     r
 
 returns-3 : tie.Need-returns-3 Inv-loop μ-loop
-returns-3 c = 
+returns-3 c =
     let a = c .before .before .before .before .before .before .before .before .before .before .args in let l = c .before .before .before .before .loop in
     let e = rw (c .before .before .type-inner2 .ensures) at (sym (c .before .is-leaf .ensures) ∙ c .if2 .taken) in
     rw e at (looking-done (now (a .types)) (now (a .members)) (a .start) (now (a .steps)) (l .i) (l .ty) (l .byte) (l .inv) (c .before .before .before .loop-test .left))
 
 returns-4 : tie.Need-returns-4 Inv-loop μ-loop
-returns-4 c = 
+returns-4 c =
     let a = c .before .before .before .before .before .before .before .before .before .before .args in let l = c .before .before .before .before .loop in
     let e = rw (c .before .before .type-inner2 .ensures) at (sym (c .before .is-leaf .ensures) ∙ c .if2 .left) in
     rw e at (looking-done (now (a .types)) (now (a .members)) (a .start) (now (a .steps)) (l .i) (l .ty) (l .byte) (l .inv) (c .before .before .before .loop-test .left))
