@@ -75,36 +75,36 @@ module _ (ts ms : List ℕ) (start : ℕ) (steps : List ℕ) where
         same = refl;
       }
 
-  module _ (i ty byte : ℕ) (l : Looking ts ms start steps i ty byte) where
-    -- the byte place fits 64 bits
-    pub looking-fits : byte < 2 ^ 64
-    looking-fits =
-        let f = tables-fitting (length ts) (length ms) (typeCount ts * rowWords) (T-true _ (arena-parts (l .capabilities) ts ms (l .accepted) .fits)) in
-        standing-fits (l .capabilities) (decoded ts ms) (typeCount ts) (f .types) ty byte (l .standing)
+module _ {ts ms : List ℕ} {start : ℕ} {steps : List ℕ} {i ty byte : ℕ} (l : Looking ts ms start steps i ty byte) where
+  -- the byte place fits 64 bits
+  pub looking-fits : byte < 2 ^ 64
+  looking-fits =
+      let f = tables-fitting (length ts) (length ms) (typeCount ts * rowWords) (T-true _ (arena-parts (l .capabilities) ts ms (l .accepted) .fits)) in
+      standing-fits (l .capabilities) (decoded ts ms) (typeCount ts) (f .types) ty byte (l .standing)
 
-    -- the next step is followed
-    next : i < length steps
-        → follow (stepIn (decoded ts ms) ty (getD steps i 0)) (λ next bytes. placeIn (decoded ts ms) next (byte + bytes) (drop (i + 1) steps))
-        ≡ placeIn (decoded ts ms) start 0 steps
-    next h = rw add-one (rw (drop-cons steps i 0 h) at (l .same))
+  -- the next step is followed
+  next : i < length steps
+      → follow (stepIn (decoded ts ms) ty (getD steps i 0)) (λ next bytes. placeIn (decoded ts ms) next (byte + bytes) (drop (i + 1) steps))
+      ≡ placeIn (decoded ts ms) start 0 steps
+  next h = rw add-one (rw (drop-cons steps i 0 h) at (l .same))
 
-    -- no step here: no place
-    pub looking-ends : i < length steps → NoStep ≡ stepIn (decoded ts ms) ty (getD steps i 0) → NoPlace ≡ placeOf ts ms start steps
-    looking-ends h e = (rw (← e) at (next h)) ∙ sym (place-from ts ms start (l .started) steps)
+  -- no step here: no place
+  pub looking-ends : i < length steps → NoStep ≡ stepIn (decoded ts ms) ty (getD steps i 0) → NoPlace ≡ placeOf ts ms start steps
+  looking-ends h e = (rw (← e) at (next h)) ∙ sym (place-from ts ms start (l .started) steps)
 
-    -- one step on
-    pub looking-step : i < length steps → (to bytes : ℕ) → To to bytes ≡ stepIn (decoded ts ms) ty (getD steps i 0) → Looking ts ms start steps (i + 1) to (byte + bytes)
-    looking-step h to bytes e =
-        record {
-          capabilities = l .capabilities;
-          accepted = l .accepted;
-          started = l .started;
-          within = omega arith;
-          standing =
-              standing-step (l .capabilities) (decoded ts ms) (typeCount ts) (accepted-types (l .capabilities) ts ms (l .accepted)) ty byte (getD steps i 0) to bytes (sym e) (l .standing);
-          same = rw (← e) at (next h);
-        }
+  -- one step on
+  pub looking-step : {to bytes : ℕ} → i < length steps → To to bytes ≡ stepIn (decoded ts ms) ty (getD steps i 0) → Looking ts ms start steps (i + 1) to (byte + bytes)
+  looking-step {to = to} {bytes = bytes} h e =
+      record {
+        capabilities = l .capabilities;
+        accepted = l .accepted;
+        started = l .started;
+        within = omega arith;
+        standing =
+            standing-step (l .capabilities) (decoded ts ms) (typeCount ts) (accepted-types (l .capabilities) ts ms (l .accepted)) ty byte (getD steps i 0) to bytes (sym e) (l .standing);
+        same = rw (← e) at (next h);
+      }
 
-    -- after the last step: the place, where the type is a leaf
-    pub looking-done : length steps ≤ i → pick (leafIn (decoded ts ms) ty) (At byte ty) NoPlace ≡ placeOf ts ms start steps
-    looking-done h = (rw (drop-of-length-le steps h) at (l .same)) ∙ sym (place-from ts ms start (l .started) steps)
+  -- after the last step: the place, where the type is a leaf
+  pub looking-done : length steps ≤ i → pick (leafIn (decoded ts ms) ty) (At byte ty) NoPlace ≡ placeOf ts ms start steps
+  looking-done h = (rw (drop-of-length-le steps h) at (l .same)) ∙ sym (place-from ts ms start (l .started) steps)

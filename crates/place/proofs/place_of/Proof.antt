@@ -1,9 +1,8 @@
 -- `place::place_of` meets its contract. The invariant: the rest of the steps from here lead where all of them lead from the start. Assumes nothing.
 use borrow.Author.Needs.{needs}
 use mathlib.Core.Path.{sym, _∙_}
-use Prim.Native.Nat.{_+_, _-_}
+use Prim.Native.Nat.{_-_}
 use lib.ListN.{length}
-use denote.Ref.{now}
 use Rattle.place.proofs.LookupLaws.{Looking, no-start, looking-start, looking-fits, looking-ends, looking-step, looking-done}
 use Rattle.place.proofs.place_of.Statement.{statement}
 use Rattle.place.proofs.place_of.Tie as tie
@@ -15,44 +14,29 @@ abbrev μ-loop : tie.MeasureT-loop
 μ-loop types members start steps ty₀ byte₀ i₀ ty byte i = length steps - i
 
 returns : tie.Need-returns Inv-loop μ-loop
-returns c = let a = c .before .before .before .before .before .args in no-start (now (a .types)) (now (a .members)) (a .start) (now (a .steps)) (rw (c .before .type-count .ensures) at (c .if1 .taken))
+returns c = no-start _ _ _ _ (rw (c .before .type-count .ensures) at (c .if1 .taken))
 
 loop-holds : tie.Need-loop-holds Inv-loop μ-loop
-loop-holds c = let a = c .before .before .before .before .before .args in looking-start (now (a .types)) (now (a .members)) (a .start) (now (a .steps)) (c .before .before .before .before .before .pre .0) (c .before .before .before .before .before .pre .1) (rw (c .before .type-count .ensures) at (c .if1 .left))
+loop-holds c = looking-start _ _ _ _ (c .before .before .before .before .before .pre .0) (c .before .before .before .before .before .pre .1) (rw (c .before .type-count .ensures) at (c .if1 .left))
 
 add-byte : tie.Need-add-byte Inv-loop μ-loop
-add-byte c =
-    let a = c .before .before .before .before .before .before .before .before .before .before .before .before .before .before .args in let l = c .before .before .before .before .before .before .before .before .loop in
-    let e = rw (c .before .before .before .before .before .struct-members .ensures, c .before .before .before .before .before .before .type-inner .ensures) at (c .before .before .before .step-of .ensures) in
-    let g = c .before .next .given in
-    let r = looking-step (now (a .types)) (now (a .members)) (a .start) (now (a .steps)) (l .i) (l .ty) (l .byte) (l .inv) (c .before .before .before .before .before .before .before .loop-test .taken) (g .0 .0) (g .0 .1 .0) (sym (g .1) ∙ e) in
-    record { fits = looking-fits (now (a .types)) (now (a .members)) (a .start) (now (a .steps)) (l .i + 1) (g .0 .0) (l .byte + g .0 .1 .0) r }
+add-byte c = record { fits = looking-fits (looking-step (c .before .before .before .before .before .before .before .before .loop .inv) (c .before .before .before .before .before .before .before .loop-test .taken) (sym (c .before .next .given .1) ∙ (rw (c .before .before .before .before .before .struct-members .ensures, c .before .before .before .before .before .before .type-inner .ensures) at (c .before .before .before .step-of .ensures)))) }
 
 returns-2 : tie.Need-returns-2 Inv-loop μ-loop
-returns-2 c =
-    let a = c .before .before .before .before .before .before .before .before .before .before .before .before .before .args in let l = c .before .before .before .before .before .before .before .loop in
-    let e = rw (c .before .before .before .before .struct-members .ensures, c .before .before .before .before .before .type-inner .ensures) at (c .before .before .step-of .ensures) in
-    looking-ends (now (a .types)) (now (a .members)) (a .start) (now (a .steps)) (l .i) (l .ty) (l .byte) (l .inv) (c .before .before .before .before .before .before .loop-test .taken) (sym (c .enum-told .given .1) ∙ e)
+returns-2 c = looking-ends (c .before .before .before .before .before .before .before .loop .inv) (c .before .before .before .before .before .before .loop-test .taken) (sym (c .enum-told .given .1) ∙ (rw (c .before .before .before .before .struct-members .ensures, c .before .before .before .before .before .type-inner .ensures) at (c .before .before .step-of .ensures)))
 
 loop-again : tie.Need-loop-again Inv-loop μ-loop
-loop-again c =
-    let a = c .before .before .before .before .before .before .before .before .before .before .before .before .before .before .args in let l = c .before .before .before .before .before .before .before .before .loop in
-    let e = rw (c .before .before .before .before .before .struct-members .ensures, c .before .before .before .before .before .before .type-inner .ensures) at (c .before .before .before .step-of .ensures) in
-    let g = c .before .next .given in
-    let r = looking-step (now (a .types)) (now (a .members)) (a .start) (now (a .steps)) (l .i) (l .ty) (l .byte) (l .inv) (c .before .before .before .before .before .before .before .loop-test .taken) (g .0 .0) (g .0 .1 .0) (sym (g .1) ∙ e) in
-    r
+loop-again c = looking-step (c .before .before .before .before .before .before .before .before .loop .inv) (c .before .before .before .before .before .before .before .loop-test .taken) (sym (c .before .next .given .1) ∙ (rw (c .before .before .before .before .before .struct-members .ensures, c .before .before .before .before .before .before .type-inner .ensures) at (c .before .before .before .step-of .ensures)))
 
 returns-3 : tie.Need-returns-3 Inv-loop μ-loop
 returns-3 c =
-    let a = c .before .before .before .before .before .before .before .before .before .before .args in let l = c .before .before .before .before .loop in
     let e = rw (c .before .before .type-inner2 .ensures) at (sym (c .before .is-leaf .ensures) ∙ c .if2 .taken) in
-    rw e at (looking-done (now (a .types)) (now (a .members)) (a .start) (now (a .steps)) (l .i) (l .ty) (l .byte) (l .inv) (c .before .before .before .loop-test .left))
+    rw e at (looking-done (c .before .before .before .before .loop .inv) (c .before .before .before .loop-test .left))
 
 returns-4 : tie.Need-returns-4 Inv-loop μ-loop
 returns-4 c =
-    let a = c .before .before .before .before .before .before .before .before .before .before .args in let l = c .before .before .before .before .loop in
     let e = rw (c .before .before .type-inner2 .ensures) at (sym (c .before .is-leaf .ensures) ∙ c .if2 .left) in
-    rw e at (looking-done (now (a .types)) (now (a .members)) (a .start) (now (a .steps)) (l .i) (l .ty) (l .byte) (l .inv) (c .before .before .before .loop-test .left))
+    rw e at (looking-done (c .before .before .before .before .loop .inv) (c .before .before .before .loop-test .left))
 
 pub place-of-spec : {M : Type 1} → statement M
 place-of-spec =
