@@ -2,6 +2,7 @@
 use borrow.Author.Needs.{needs}
 use mathlib.Core.Path.{sym, _∙_}
 use Prim.Native.Nat.{_-_}
+use native.Mathlib.Omega.{arith}
 use lib.ListN.{length}
 use Rattle.place.proofs.LookupLaws.{Looking, no-start, looking-start, looking-fits, looking-ends, looking-step, looking-done}
 use Rattle.place.proofs.place_of.Statement.{statement}
@@ -20,7 +21,7 @@ loop-holds : tie.Need-loop-holds Inv-loop μ-loop
 loop-holds c = looking-start _ _ _ _ (c .before .before .before .before .before .pre .0) (c .before .before .before .before .before .pre .1) (rw (c .before .type-count .ensures) at (c .if1 .left))
 
 add-byte : tie.Need-add-byte Inv-loop μ-loop
-add-byte c = record { fits = looking-fits (looking-step (c .before .before .before .before .before .before .before .before .loop .inv) (c .before .before .before .before .before .before .before .loop-test .taken) (sym (c .before .next .given .1) ∙ (rw (c .before .before .before .before .before .struct-members .ensures, c .before .before .before .before .before .before .type-inner .ensures) at (c .before .before .before .step-of .ensures)))) }
+add-byte c = record { fits = omega (arith, looking-fits (looking-step (c .before .before .before .before .before .before .before .before .loop .inv) (c .before .before .before .before .before .before .before .loop-test .taken) (sym (c .before .next .given .1) ∙ (rw (c .before .before .before .before .before .struct-members .ensures, c .before .before .before .before .before .before .type-inner .ensures) at (c .before .before .before .step-of .ensures))))) }
 
 returns-2 : tie.Need-returns-2 Inv-loop μ-loop
 returns-2 c = looking-ends (c .before .before .before .before .before .before .before .loop .inv) (c .before .before .before .before .before .before .loop-test .taken) (sym (c .enum-told .given .1) ∙ (rw (c .before .before .before .before .struct-members .ensures, c .before .before .before .before .before .type-inner .ensures) at (c .before .before .step-of .ensures)))
