@@ -6,3 +6,4 @@ pub mod Term3Proof
 pub mod Instance
 pub mod ByteLaws
 pub mod LookupLaws
+pub mod StridesMatter

@@ -1,5 +1,6 @@
 // The place lookup: from a type along steps to the byte place of a leaf.
-use records::{Outcome, TypeInner};
+use records::Outcome;
+use records::TypeInner;
 ghost use mathlib.Core.Path.{_≡_};
 ghost use Prim.Native.Nat.{ℕ, _*_};
 ghost use Rattle.records.specs.declared.Outcome.the-variants.{Accepted};
@@ -20,7 +21,10 @@ pub enum Place {
 }
 
 pub enum PlaceAnswer {
-    Found { byte: u64, leaf: u32 },
+    Found {
+        byte: u64,
+        leaf: u32,
+    },
     Refused {
         number: u32,
         ty: u32,
@@ -34,7 +38,11 @@ fn is_leaf(inner: TypeInner) -> bool
 {
     match inner {
         TypeInner::Plain(_) => true,
-        TypeInner::Array { base: _, count: _, stride: _ } => false,
+        TypeInner::Array {
+            base: _,
+            count: _,
+            stride: _,
+        } => false,
         TypeInner::RuntimeArray { base: _, stride: _ } => false,
         TypeInner::Struct { count: _, span: _ } => false,
         TypeInner::Other(_) => false,
@@ -55,7 +63,11 @@ fn step_of(inner: TypeInner, part: &[u32], step: u32) -> Step
 {
     match inner {
         TypeInner::Plain(_) => Step::NoStep,
-        TypeInner::Array { base, count, stride } => {
+        TypeInner::Array {
+            base,
+            count,
+            stride,
+        } => {
             if step < count {
                 element(base, stride, step)
             } else {
@@ -63,10 +75,16 @@ fn step_of(inner: TypeInner, part: &[u32], step: u32) -> Step
             }
         }
         TypeInner::RuntimeArray { base, stride } => element(base, stride, step),
-        TypeInner::Struct { count: members, span: _ } => {
+        TypeInner::Struct {
+            count: members,
+            span: _,
+        } => {
             if step < members {
                 let bytes = records::member_offset(part, step) as u64;
-                Step::To { ty: records::member_type(part, step), bytes }
+                Step::To {
+                    ty: records::member_type(part, step),
+                    bytes,
+                }
             } else {
                 Step::NoStep
             }
@@ -111,17 +129,39 @@ fn place_answer(place: Place) -> PlaceAnswer
 {
     match place {
         Place::At { byte, leaf } => PlaceAnswer::Found { byte, leaf },
-        Place::NoPlace => PlaceAnswer::Refused { number: 26, ty: 0, member: 0, detail: 0 },
+        Place::NoPlace => PlaceAnswer::Refused {
+            number: 26,
+            ty: 0,
+            member: 0,
+            detail: 0,
+        },
     }
 }
 
 // The byte place and type of the leaf that steps lead to from a type of an arena. The arena is judged first; nothing is asked of the caller.
-pub fn lookup(types: &[u32], members: &[u32], capabilities: u32, rows: &mut [u32], start: u32, steps: &[u32]) -> PlaceAnswer
+pub fn lookup(
+    types: &[u32],
+    members: &[u32],
+    capabilities: u32,
+    rows: &mut [u32],
+    start: u32,
+    steps: &[u32],
+) -> PlaceAnswer
     ensures { λ r. ⌜ r ≡ lookupAnswer capabilities (now (types .entry)) (now (members .entry)) (now (rows .entry)) start (now (steps .entry)) ⌝ }
     ensures { λ _. ⌜ now (rows .exit) ≡ arenaWords capabilities (now (types .entry)) (now (members .entry)) (now (rows .entry)) ⌝ }
 {
     match valid::check(types, members, capabilities, rows) {
         Outcome::Accepted => place_answer(place_of(types, members, start, steps)),
-        Outcome::Refused { number, ty, member, detail } => PlaceAnswer::Refused { number, ty, member, detail },
+        Outcome::Refused {
+            number,
+            ty,
+            member,
+            detail,
+        } => PlaceAnswer::Refused {
+            number,
+            ty,
+            member,
+            detail,
+        },
     }
 }
