@@ -41,11 +41,12 @@ fn range_slots(offset: u32, size: u32) -> Slots
     if SLOT_BYTES < end {
         return Slots::Past;
     }
-    let first = (offset as u64) / 4;
-    let past = (end + 3) / 4;
-    let count = past - first;
-    let run = ALL >> (64 - count);
-    Slots::Mask(run << first)
+    let lo = (offset as u64) / 4;
+    let hi = (end + 3) / 4;
+    let from = ALL << lo;
+    let rest = 64 - hi;
+    let below = ALL >> rest;
+    Slots::Mask(from & below)
 }
 
 // The slots of a range given as two numbers; it has no arena.
@@ -59,14 +60,14 @@ pub fn range(offset: u32, size: u32) -> SlotsAnswer
 pub fn contains_all(this: u64, other: u64) -> bool
     ensures { λ r. ⌜ r ≡ contains this other ⌝ }
 {
-    other & this == other
+    other & !this == 0
 }
 
 // The slots of this that are not in other.
 pub fn difference_of(this: u64, other: u64) -> u64
     ensures { λ r. ⌜ r ≡ difference this other ⌝ }
 {
-    this - (this & other)
+    this & !other
 }
 
 pub fn union_of(this: u64, other: u64) -> u64
