@@ -3,13 +3,13 @@
 use mathlib.Core.Path.{_≡_, refl, sym, ap, _∙_}
 use mathlib.Core.Bool.{Bool, true, false, _&&_, _||_, not}
 use Prim.Native.Nat.{ℕ, zero, suc, _+_, _-_, _*_, _/_, _%_, _^_, _<_, _≤_, min, max}
-use native.Mathlib.Nat.{not-suc-le-zero, add-zero, mod-lt, mod-eq-of-lt, mod-one, pow-suc, zero-lt-suc}
+use native.Mathlib.Nat.{not-suc-le-zero, add-zero, lt-of-le-of-lt, mod-lt, mod-eq-of-lt, mod-one, pow-suc, zero-lt-suc}
 use native.Mathlib.Numerals.{one-add}
 use native.Mathlib.Decide.{ℕ-discrete}
 use native.Mathlib.Omega.{arith}
 use lib.Dec.{eqb}
 use lib.Pow.{pow-pos, mod-pow-add}
-use lib.Bits.{bitAnd, bitOr, and-shr, and-step, or-shr, or-step}
+use lib.Bits.{bitAnd, bitOr, and-shr, and-step, and-le-l, or-shr, or-step, or-lt}
 use borrow.Author.Tests.{eqb-true, eqb-false, eq-eqb, ne-eqb}
 use Rattle.records.specs.Result.{pick}
 use Rattle.flags.specs.Flags.{bit}
@@ -151,3 +151,24 @@ contains-mask this other zero = refl
 contains-mask this other (suc n) =
     rw (contains-mask this other n)
     (keeps (maskOf (λ k. bit other k && not (bit this k)) n) (2 ^ n) (pow-pos n) (bit other n) (bit this n))
+
+-- ---- the words that the code makes of two masks of n slots
+-- the slots of `this` that are not in `other`
+pub difference-word : (this other n : ℕ) → this < 2 ^ n → other < 2 ^ n
+    → bitAnd this ((2 ^ n - 1) - other) ≡ maskOf (λ k. bit this k && not (bit other k)) n
+difference-word this other n h l =
+    let m = bitAnd this ((2 ^ n - 1) - other) in
+    sym (number-mask m n (lt-of-le-of-lt (and-le-l this ((2 ^ n - 1) - other)) h))
+    ∙ mask-same (bit m) (λ k. bit this k && not (bit other k)) n
+    (λ k i. bit-meet this ((2 ^ n - 1) - other) k ∙ ap (λ (b : Bool). bit this k && b) (bit-complement other n k l i))
+
+-- the slots of both
+pub union-word : (this other n : ℕ) → this < 2 ^ n → other < 2 ^ n → bitOr this other ≡ maskOf (λ k. bit this k || bit other k) n
+union-word this other n h l =
+    sym (number-mask (bitOr this other) n (or-lt n this other h l))
+    ∙ mask-same (bit (bitOr this other)) (λ k. bit this k || bit other k) n (λ k i. bit-join this other k)
+
+-- whether no slot of `other` is missing in `this`
+pub contains-word : (this other n : ℕ) → this < 2 ^ n → other < 2 ^ n
+    → eqb (bitAnd other ((2 ^ n - 1) - this)) 0 ≡ containsBelow this other n
+contains-word this other n h l = ap (λ (m : ℕ). eqb m 0) (difference-word other this n l h) ∙ sym (contains-mask this other n)

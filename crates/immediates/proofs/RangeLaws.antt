@@ -3,7 +3,7 @@
 use mathlib.Core.Path.{_≡_, refl, sym, ap, _∙_}
 use mathlib.Core.Bool.{Bool, true, false, _&&_, _||_}
 use Prim.Native.Nat.{ℕ, zero, suc, _+_, _-_, _*_, _/_, _%_, _^_, _<_, _≤_, zero-le}
-use native.Mathlib.Nat.{le-refl, pow-suc, add-mul, mul-assoc}
+use native.Mathlib.Nat.{le-refl, add-zero, pow-suc, add-mul, mul-assoc}
 use native.Mathlib.Decide.{le-ind, decLe}
 use native.Mathlib.Omega.{arith}
 use lib.Dec.{T, leb, ltb, lt→ltb, le→leb}
@@ -14,15 +14,20 @@ use borrow.Author.Tests.{lt-ltb, le-ltb, le-leb, lt-leb}
 use Rattle.immediates.specs.Slots.{inPart, covers, maskOf}
 
 -- ---- masks of runs of slots
+-- one slot more
+one-set : (a b p q r : ℕ) → a + q ≡ b + p → r ≡ p * 2 → a + p + q ≡ b + r
+one-set a b p q r e d = omega arith
+
+le-step : {m n : ℕ} → m ≤ n → m ≤ suc n
+le-step h = omega arith
+
 module _ (f : ℕ → Bool) where
   -- slots n up to m all clear
   run-clear : (n m : ℕ) → n ≤ m → ((k : ℕ) → n ≤ k → k < m → f k ≡ false) → maskOf f m ≡ maskOf f n
   unfolding maskOf
   run-clear n m h =
       le-ind (λ (i : ℕ). ((k : ℕ) → n ≤ k → k < i → f k ≡ false) → maskOf f i ≡ maskOf f n) (λ all. refl)
-      (λ i l ih all.
-      let before : maskOf f i ≡ maskOf f n = ih (λ k p q. all k p (omega arith)) in
-      rw (all i l (le-refl (suc i))) (omega arith)) m h
+      (λ i l ih all. rw (all i l (le-refl (suc i))) (add-zero (maskOf f i) ∙ ih (λ k p q. all k p (le-step q)))) m h
 
   -- slots n up to m all set
   run-set : (n m : ℕ) → n ≤ m → ((k : ℕ) → n ≤ k → k < m → f k ≡ true) → maskOf f m + 2 ^ n ≡ maskOf f n + 2 ^ m
@@ -30,9 +35,8 @@ module _ (f : ℕ → Bool) where
   run-set n m h =
       le-ind (λ (i : ℕ). ((k : ℕ) → n ≤ k → k < i → f k ≡ true) → maskOf f i + 2 ^ n ≡ maskOf f n + 2 ^ i) (λ all. refl)
       (λ i l ih all.
-      let before : maskOf f i + 2 ^ n ≡ maskOf f n + 2 ^ i = ih (λ k p q. all k p (omega arith)) in
-      let p = pow-suc 2 i in
-      rw (all i l (le-refl (suc i))) (omega arith)) m h
+      rw (all i l (le-refl (suc i)))
+      (one-set (maskOf f i) (maskOf f n) (2 ^ i) (2 ^ n) (2 ^ suc i) (ih (λ k p q. all k p (le-step q))) (pow-suc 2 i))) m h
 
   -- slots lo up to hi set, and no others below n
   run-mask : (lo hi n : ℕ) → lo ≤ hi → hi ≤ n → ((k : ℕ) → k < lo → f k ≡ false) → ((k : ℕ) → lo ≤ k → k < hi → f k ≡ true)

@@ -1,4 +1,17 @@
-use Prim.Native.Nat.{ℕ, _<_}
+-- `immediates::type_slots` and `immediates::members_slots`, which call each other, meet their contracts. The measure is twice the type number,
+-- and one more for the type itself: a struct asks for its members, and a member is of an earlier type.
+-- The invariant: slots is what the definition has after j members. Assumes nothing.
+use mathlib.Core.Path.{_≡_, refl, sym, _∙_}
+use Prim.Native.Nat.{ℕ, _+_, _*_, _-_, _<_, _≤_}
+use native.Mathlib.Nat.{le-refl, le-antisymm}
+use native.Mathlib.Numerals.{add-one}
+use native.Mathlib.Omega.{arith}
+use denote.Ref.{now}
+use borrow.Author.Needs.{needs}
+use Rattle.records.specs.Record.{decoded, structMembers, memberType, memberOffset}
+use Rattle.records.specs.Table.{table}
+use Rattle.immediates.specs.Walk.{noSlots, slotsStep, slotsOf, membersSlots}
+use Rattle.immediates.proofs.WalkLaws.{members-sum-past, members-part-past, members-more, earlier-slots, later-slots, slots-by-record}
 use borrow.Fn.Kinds.{In}
 use borrow.Fn.PlainCycle.{Measures, is, falls, and}
 use Rattle.immediates.proofs.members_slots.Reads as members-slots
@@ -17,10 +30,10 @@ use Rattle.immediates.proofs.+members_slots+type_slots.{statement}
 use Rattle.immediates.proofs.+members_slots+type_slots.Tie.{close}
 
 abbrev μ-members-slots : Measures 2 members-slots-kinds.ps ℕ
-μ-members-slots κs a = ?
+μ-members-slots κs a = 2 * a .1 .1 .0
 
 abbrev μ-type-slots : Measures 2 type-slots-kinds.ps ℕ
-μ-type-slots κs a = ?
+μ-type-slots κs a = 2 * a .1 .1 .0 + 1
 
 abbrev members-slots-at : ℕ → In 2 members-slots-kinds.ps
 members-slots-at t =
@@ -43,467 +56,148 @@ type-slots-below t =
     and 2 type-slots-kinds.ps (falls 2 type-slots-kinds.ps _<_ μ-type-slots t) type-slots.Pre
 
 abbrev members-slots-Inv-loop : members-slots-lts.InvT-loop
-members-slots-Inv-loop types members ty offset count part slots₀ j₀ slots j = ?
+members-slots-Inv-loop types members ty offset count part slots₀ j₀ slots j =
+    (j ≤ count) × (slots ≡ membersSlots (table noSlots (slotsStep (decoded types members)) ty) part offset j)
 
 abbrev members-slots-μ-loop : members-slots-lts.MeasureT-loop
-members-slots-μ-loop types members ty offset count part slots₀ j₀ slots j = ?
+members-slots-μ-loop types members ty offset count part slots₀ j₀ slots j = count - j
 
--- src/lib.rt:131:9
-members-slots-struct-members-requires : (t : ℕ) → members-slots-lts.Need-struct-members-requires (
-  struct-members-reads.Asked,
-  struct-members-reads.Learnt,
-  member-type-reads.Asked,
-  member-type-reads.Learnt,
-  member-offset-reads.Asked,
-  member-offset-reads.Learnt,
-  type-slots-below t,
-  type-slots.Post,
-  join-parts-reads.Asked,
-  join-parts-reads.Learnt,
-) (members-slots-at t) members-slots.Post members-slots-Inv-loop members-slots-μ-loop
-members-slots-struct-members-requires t c κs = ?
+-- what the calls ask and ensure
+abbrev members-slots-claims : ℕ → members-slots-lts.Claims
+members-slots-claims t = (struct-members-reads.Asked, struct-members-reads.Learnt, member-type-reads.Asked, member-type-reads.Learnt, member-offset-reads.Asked, member-offset-reads.Learnt, type-slots-below t, type-slots.Post, join-parts-reads.Asked, join-parts-reads.Learnt)
 
--- src/lib.rt:134:5
-members-slots-loop-holds : (t : ℕ) → members-slots-lts.Need-loop-holds (
-  struct-members-reads.Asked,
-  struct-members-reads.Learnt,
-  member-type-reads.Asked,
-  member-type-reads.Learnt,
-  member-offset-reads.Asked,
-  member-offset-reads.Learnt,
-  type-slots-below t,
-  type-slots.Post,
-  join-parts-reads.Asked,
-  join-parts-reads.Learnt,
-) (members-slots-at t) members-slots.Post members-slots-Inv-loop members-slots-μ-loop
-members-slots-loop-holds t c = ?
+abbrev type-slots-claims : ℕ → type-slots-lts.Claims
+type-slots-claims t = (type-inner-reads.Asked, type-inner-reads.Learnt, measure-slots-reads.Asked, measure-slots-reads.Learnt, members-slots-below t, members-slots.Post)
 
--- src/lib.rt:135:13
-members-slots-member-type-requires : (t : ℕ) → members-slots-lts.Need-member-type-requires (
-  struct-members-reads.Asked,
-  struct-members-reads.Learnt,
-  member-type-reads.Asked,
-  member-type-reads.Learnt,
-  member-offset-reads.Asked,
-  member-offset-reads.Learnt,
-  type-slots-below t,
-  type-slots.Post,
-  join-parts-reads.Asked,
-  join-parts-reads.Learnt,
-) (members-slots-at t) members-slots.Post members-slots-Inv-loop members-slots-μ-loop
-members-slots-member-type-requires t c κs = ?
+members-slots-loop-holds : (t : ℕ) → members-slots-lts.Need-loop-holds (members-slots-claims t) (members-slots-at t) members-slots.Post members-slots-Inv-loop members-slots-μ-loop
+unfolding membersSlots
+members-slots-loop-holds t c = (search needs, refl)
 
--- src/lib.rt:136:38
-members-slots-member-offset-requires : (t : ℕ) → members-slots-lts.Need-member-offset-requires (
-  struct-members-reads.Asked,
-  struct-members-reads.Learnt,
-  member-type-reads.Asked,
-  member-type-reads.Learnt,
-  member-offset-reads.Asked,
-  member-offset-reads.Learnt,
-  type-slots-below t,
-  type-slots.Post,
-  join-parts-reads.Asked,
-  join-parts-reads.Learnt,
-) (members-slots-at t) members-slots.Post members-slots-Inv-loop members-slots-μ-loop
-members-slots-member-offset-requires t c κs = ?
+members-slots-returns : (t : ℕ) → members-slots-lts.Need-returns (members-slots-claims t) (members-slots-at t) members-slots.Post members-slots-Inv-loop members-slots-μ-loop
+members-slots-returns t c = 
+    let l = c .before .before .before .before .loop in
+    let a = c .before .before .before .before .before .before .before .before .args in
+    let same = c .before .before .before .before .before .struct-members .ensures in
+    let sum = rw (c .before .member-offset .ensures, same) at (c .if1 .taken) in
+    sym (members-sum-past (table noSlots (slotsStep (decoded (now (a .types)) (now (a .members)))) (a .ty)) (structMembers (now (a .types)) (now (a .members)) (a .ty)) (a .offset) (l .j) sum (a .count) (c .before .before .before .loop-test .taken))
 
--- src/lib.rt:136:38
-members-slots-cast-sum : (t : ℕ) → members-slots-lts.Need-cast-sum (
-  struct-members-reads.Asked,
-  struct-members-reads.Learnt,
-  member-type-reads.Asked,
-  member-type-reads.Learnt,
-  member-offset-reads.Asked,
-  member-offset-reads.Learnt,
-  type-slots-below t,
-  type-slots.Post,
-  join-parts-reads.Asked,
-  join-parts-reads.Learnt,
-) (members-slots-at t) members-slots.Post members-slots-Inv-loop members-slots-μ-loop
-members-slots-cast-sum t c = ?
+members-slots-returns-2 : (t : ℕ) → members-slots-lts.Need-returns-2 (members-slots-claims t) (members-slots-at t) members-slots.Post members-slots-Inv-loop members-slots-μ-loop
+members-slots-returns-2 t c = 
+    let l = c .before .before .before .before .before .loop in
+    let a = c .before .before .before .before .before .before .before .before .before .args in
+    let same = c .before .before .before .before .before .before .struct-members .ensures in
+    let late = rw (c .before .before .before .member-type .ensures, same) at (c .if2 .taken) in
+    let refused = later-slots (decoded (now (a .types)) (now (a .members))) (a .ty) (memberType (structMembers (now (a .types)) (now (a .members)) (a .ty)) (l .j)) (a .offset + memberOffset (structMembers (now (a .types)) (now (a .members)) (a .ty)) (l .j)) late in
+    sym (members-part-past (table noSlots (slotsStep (decoded (now (a .types)) (now (a .members)))) (a .ty)) (structMembers (now (a .types)) (now (a .members)) (a .ty)) (a .offset) (l .j) refused (a .count) (c .before .before .before .before .loop-test .taken))
 
--- src/lib.rt:136:19
-members-slots-add-sum : (t : ℕ) → members-slots-lts.Need-add-sum (
-  struct-members-reads.Asked,
-  struct-members-reads.Learnt,
-  member-type-reads.Asked,
-  member-type-reads.Learnt,
-  member-offset-reads.Asked,
-  member-offset-reads.Learnt,
-  type-slots-below t,
-  type-slots.Post,
-  join-parts-reads.Asked,
-  join-parts-reads.Learnt,
-) (members-slots-at t) members-slots.Post members-slots-Inv-loop members-slots-μ-loop
-members-slots-add-sum t c = ?
+members-slots-type-slots-requires : (t : ℕ) → members-slots-lts.Need-type-slots-requires (members-slots-claims t) (members-slots-at t) members-slots.Post members-slots-Inv-loop members-slots-μ-loop
+members-slots-type-slots-requires t c κs = 
+    let s = c .before .before .before .before .before .before .before .before .before in
+    (omega (arith, c .if2 .left, s .pre .0), λ i h. s .pre .1 i (omega (arith, h, c .if2 .left)))
 
--- src/lib.rt:138:13
-members-slots-returns : (t : ℕ) → members-slots-lts.Need-returns (
-  struct-members-reads.Asked,
-  struct-members-reads.Learnt,
-  member-type-reads.Asked,
-  member-type-reads.Learnt,
-  member-offset-reads.Asked,
-  member-offset-reads.Learnt,
-  type-slots-below t,
-  type-slots.Post,
-  join-parts-reads.Asked,
-  join-parts-reads.Learnt,
-) (members-slots-at t) members-slots.Post members-slots-Inv-loop members-slots-μ-loop
-members-slots-returns t c = ?
+members-slots-loop-again : (t : ℕ) → members-slots-lts.Need-loop-again (members-slots-claims t) (members-slots-at t) members-slots.Post members-slots-Inv-loop members-slots-μ-loop
+members-slots-loop-again t c = 
+    let l = c .before .before .before .before .before .before .before .loop in
+    let a = c .before .before .before .before .before .before .before .before .before .before .before .args in
+    let same = c .before .before .before .before .before .before .before .before .struct-members .ensures in
+    let t = rw same at (c .before .before .before .before .before .member-type .ensures) in
+    let o = rw same at (c .before .before .before .before .member-offset .ensures) in
+    let sum = rw o at (c .before .before .before .if1 .left) in
+    let early = rw t at (c .before .before .if2 .left) in
+    let part = rw (t, o, ← earlier-slots (decoded (now (a .types)) (now (a .members))) (a .ty) (memberType (structMembers (now (a .types)) (now (a .members)) (a .ty)) (l .j)) (a .offset + memberOffset (structMembers (now (a .types)) (now (a .members)) (a .ty)) (l .j)) early) at (c .before .type-slots .ensures) in
+    let step = members-more (table noSlots (slotsStep (decoded (now (a .types)) (now (a .members)))) (a .ty)) (structMembers (now (a .types)) (now (a .members)) (a .ty)) (a .offset) (l .j) sum in
+    (omega (arith, c .before .before .before .before .before .before .loop-test .taken), rw (add-one, same, step, ← part) (rw (l .inv .1, same) at (c .join-parts .ensures)))
 
--- src/lib.rt:141:13
-members-slots-returns-2 : (t : ℕ) → members-slots-lts.Need-returns-2 (
-  struct-members-reads.Asked,
-  struct-members-reads.Learnt,
-  member-type-reads.Asked,
-  member-type-reads.Learnt,
-  member-offset-reads.Asked,
-  member-offset-reads.Learnt,
-  type-slots-below t,
-  type-slots.Post,
-  join-parts-reads.Asked,
-  join-parts-reads.Learnt,
-) (members-slots-at t) members-slots.Post members-slots-Inv-loop members-slots-μ-loop
-members-slots-returns-2 t c = ?
+members-slots-returns-3 : (t : ℕ) → members-slots-lts.Need-returns-3 (members-slots-claims t) (members-slots-at t) members-slots.Post members-slots-Inv-loop members-slots-μ-loop
+members-slots-returns-3 t c = 
+    let l = c .before .loop in
+    rw (← c .before .before .struct-members .ensures, ← le-antisymm (l .inv .0) (c .loop-test .left)) (l .inv .1)
 
--- src/lib.rt:143:18
-members-slots-cast-at : (t : ℕ) → members-slots-lts.Need-cast-at (
-  struct-members-reads.Asked,
-  struct-members-reads.Learnt,
-  member-type-reads.Asked,
-  member-type-reads.Learnt,
-  member-offset-reads.Asked,
-  member-offset-reads.Learnt,
-  type-slots-below t,
-  type-slots.Post,
-  join-parts-reads.Asked,
-  join-parts-reads.Learnt,
-) (members-slots-at t) members-slots.Post members-slots-Inv-loop members-slots-μ-loop
-members-slots-cast-at t c = ?
+type-slots-measure-slots-requires : (t : ℕ) → type-slots-lts.Need-measure-slots-requires (type-slots-claims t) (type-slots-at t) type-slots.Post
+type-slots-measure-slots-requires t c κs = rw (c .before .before .type-inner .ensures) (c .before .before .before .before .before .pre .1 (c .before .before .before .before .before .args .ty) (le-refl (c .before .before .before .before .before .args .ty)))
 
--- src/lib.rt:144:35
-members-slots-type-slots-requires : (t : ℕ) → members-slots-lts.Need-type-slots-requires (
-  struct-members-reads.Asked,
-  struct-members-reads.Learnt,
-  member-type-reads.Asked,
-  member-type-reads.Learnt,
-  member-offset-reads.Asked,
-  member-offset-reads.Learnt,
-  type-slots-below t,
-  type-slots.Post,
-  join-parts-reads.Asked,
-  join-parts-reads.Learnt,
-) (members-slots-at t) members-slots.Post members-slots-Inv-loop members-slots-μ-loop
-members-slots-type-slots-requires t c κs = ?
+type-slots-measure-slots-requires-2 : (t : ℕ) → type-slots-lts.Need-measure-slots-requires-2 (type-slots-claims t) (type-slots-at t) type-slots.Post
+type-slots-measure-slots-requires-2 t c κs = rw (c .before .before .type-inner .ensures) (c .before .before .before .before .before .pre .1 (c .before .before .before .before .before .args .ty) (le-refl (c .before .before .before .before .before .args .ty)))
 
--- src/lib.rt:144:9
-members-slots-join-parts-requires : (t : ℕ) → members-slots-lts.Need-join-parts-requires (
-  struct-members-reads.Asked,
-  struct-members-reads.Learnt,
-  member-type-reads.Asked,
-  member-type-reads.Learnt,
-  member-offset-reads.Asked,
-  member-offset-reads.Learnt,
-  type-slots-below t,
-  type-slots.Post,
-  join-parts-reads.Asked,
-  join-parts-reads.Learnt,
-) (members-slots-at t) members-slots.Post members-slots-Inv-loop members-slots-μ-loop
-members-slots-join-parts-requires t c κs = ?
+type-slots-measure-slots-requires-3 : (t : ℕ) → type-slots-lts.Need-measure-slots-requires-3 (type-slots-claims t) (type-slots-at t) type-slots.Post
+type-slots-measure-slots-requires-3 t c κs = rw (c .before .before .type-inner .ensures) (c .before .before .before .before .before .pre .1 (c .before .before .before .before .before .args .ty) (le-refl (c .before .before .before .before .before .args .ty)))
 
--- src/lib.rt:145:9
-members-slots-add-j : (t : ℕ) → members-slots-lts.Need-add-j (
-  struct-members-reads.Asked,
-  struct-members-reads.Learnt,
-  member-type-reads.Asked,
-  member-type-reads.Learnt,
-  member-offset-reads.Asked,
-  member-offset-reads.Learnt,
-  type-slots-below t,
-  type-slots.Post,
-  join-parts-reads.Asked,
-  join-parts-reads.Learnt,
-) (members-slots-at t) members-slots.Post members-slots-Inv-loop members-slots-μ-loop
-members-slots-add-j t c = ?
+type-slots-members-slots-requires : (t : ℕ) → type-slots-lts.Need-members-slots-requires (type-slots-claims t) (type-slots-at t) type-slots.Post
+type-slots-members-slots-requires t c κs = 
+    let s = c .before .before .before .before .before .before in
+    (omega (arith, s .pre .0), s .pre .1)
 
--- src/lib.rt:134:5
-members-slots-loop-less : (t : ℕ) → members-slots-lts.Need-loop-less (
-  struct-members-reads.Asked,
-  struct-members-reads.Learnt,
-  member-type-reads.Asked,
-  member-type-reads.Learnt,
-  member-offset-reads.Asked,
-  member-offset-reads.Learnt,
-  type-slots-below t,
-  type-slots.Post,
-  join-parts-reads.Asked,
-  join-parts-reads.Learnt,
-) (members-slots-at t) members-slots.Post members-slots-Inv-loop members-slots-μ-loop
-members-slots-loop-less t c = ?
+type-slots-measure-slots-requires-4 : (t : ℕ) → type-slots-lts.Need-measure-slots-requires-4 (type-slots-claims t) (type-slots-at t) type-slots.Post
+type-slots-measure-slots-requires-4 t c κs = rw (c .before .before .type-inner .ensures) (c .before .before .before .before .before .pre .1 (c .before .before .before .before .before .args .ty) (le-refl (c .before .before .before .before .before .args .ty)))
 
--- src/lib.rt:134:5
-members-slots-loop-again : (t : ℕ) → members-slots-lts.Need-loop-again (
-  struct-members-reads.Asked,
-  struct-members-reads.Learnt,
-  member-type-reads.Asked,
-  member-type-reads.Learnt,
-  member-offset-reads.Asked,
-  member-offset-reads.Learnt,
-  type-slots-below t,
-  type-slots.Post,
-  join-parts-reads.Asked,
-  join-parts-reads.Learnt,
-) (members-slots-at t) members-slots.Post members-slots-Inv-loop members-slots-μ-loop
-members-slots-loop-again t c = ?
+type-slots-returns : (t : ℕ) → type-slots-lts.Need-returns (type-slots-claims t) (type-slots-at t) type-slots.Post
+unfolding slotsOf
+type-slots-returns t c = 
+    let a = c .before .before .before .before .before .before .args in
+    let inner = sym (c .before .before .before .type-inner .ensures) ∙ c .before .enum-told .given .1 in
+    c .measure-slots .ensures ∙ rw (c .before .enum-told .given .1) (sym (slots-by-record (decoded (now (a .types)) (now (a .members))) (a .ty) (a .offset) ∙ rw inner refl))
 
--- src/lib.rt:127:1
-members-slots-returns-3 : (t : ℕ) → members-slots-lts.Need-returns-3 (
-  struct-members-reads.Asked,
-  struct-members-reads.Learnt,
-  member-type-reads.Asked,
-  member-type-reads.Learnt,
-  member-offset-reads.Asked,
-  member-offset-reads.Learnt,
-  type-slots-below t,
-  type-slots.Post,
-  join-parts-reads.Asked,
-  join-parts-reads.Learnt,
-) (members-slots-at t) members-slots.Post members-slots-Inv-loop members-slots-μ-loop
-members-slots-returns-3 t c = ?
+type-slots-returns-2 : (t : ℕ) → type-slots-lts.Need-returns-2 (type-slots-claims t) (type-slots-at t) type-slots.Post
+unfolding slotsOf
+type-slots-returns-2 t c = 
+    let a = c .before .before .before .before .before .before .args in
+    let inner = sym (c .before .before .before .type-inner .ensures) ∙ c .before .enum-told2 .given .1 in
+    c .measure-slots2 .ensures ∙ rw (c .before .enum-told2 .given .1) (sym (slots-by-record (decoded (now (a .types)) (now (a .members))) (a .ty) (a .offset) ∙ rw inner refl))
 
--- src/lib.rt:116:9
-type-slots-type-inner-requires : (t : ℕ) → type-slots-lts.Need-type-inner-requires (
-  type-inner-reads.Asked,
-  type-inner-reads.Learnt,
-  measure-slots-reads.Asked,
-  measure-slots-reads.Learnt,
-  members-slots-below t,
-  members-slots.Post,
-) (type-slots-at t) type-slots.Post
-type-slots-type-inner-requires t c κs = ?
+type-slots-returns-3 : (t : ℕ) → type-slots-lts.Need-returns-3 (type-slots-claims t) (type-slots-at t) type-slots.Post
+unfolding slotsOf
+type-slots-returns-3 t c = 
+    let a = c .before .before .before .before .before .before .args in
+    let inner = sym (c .before .before .before .type-inner .ensures) ∙ c .before .enum-told3 .given .1 in
+    c .measure-slots3 .ensures ∙ rw (c .before .enum-told3 .given .1) (sym (slots-by-record (decoded (now (a .types)) (now (a .members))) (a .ty) (a .offset) ∙ rw inner refl))
 
--- src/lib.rt:118:32
-type-slots-enum-told : (t : ℕ) → type-slots-lts.Need-enum-told (
-  type-inner-reads.Asked,
-  type-inner-reads.Learnt,
-  measure-slots-reads.Asked,
-  measure-slots-reads.Learnt,
-  members-slots-below t,
-  members-slots.Post,
-) (type-slots-at t) type-slots.Post
-type-slots-enum-told t c = ?
+type-slots-returns-4 : (t : ℕ) → type-slots-lts.Need-returns-4 (type-slots-claims t) (type-slots-at t) type-slots.Post
+unfolding slotsOf
+type-slots-returns-4 t c = 
+    let a = c .before .before .before .before .before .before .before .args in
+    let inner = sym (c .before .before .before .before .type-inner .ensures) ∙ c .before .before .inner .given .1 in
+    c .members-slots .ensures ∙ sym (slots-by-record (decoded (now (a .types)) (now (a .members))) (a .ty) (a .offset) ∙ rw inner refl)
 
--- src/lib.rt:118:32
-type-slots-measure-slots-requires : (t : ℕ) → type-slots-lts.Need-measure-slots-requires (
-  type-inner-reads.Asked,
-  type-inner-reads.Learnt,
-  measure-slots-reads.Asked,
-  measure-slots-reads.Learnt,
-  members-slots-below t,
-  members-slots.Post,
-) (type-slots-at t) type-slots.Post
-type-slots-measure-slots-requires t c κs = ?
-
--- src/lib.rt:119:62
-type-slots-enum-told-2 : (t : ℕ) → type-slots-lts.Need-enum-told-2 (
-  type-inner-reads.Asked,
-  type-inner-reads.Learnt,
-  measure-slots-reads.Asked,
-  measure-slots-reads.Learnt,
-  members-slots-below t,
-  members-slots.Post,
-) (type-slots-at t) type-slots.Post
-type-slots-enum-told-2 t c = ?
-
--- src/lib.rt:119:62
-type-slots-measure-slots-requires-2 : (t : ℕ) → type-slots-lts.Need-measure-slots-requires-2 (
-  type-inner-reads.Asked,
-  type-inner-reads.Learnt,
-  measure-slots-reads.Asked,
-  measure-slots-reads.Learnt,
-  members-slots-below t,
-  members-slots.Post,
-) (type-slots-at t) type-slots.Post
-type-slots-measure-slots-requires-2 t c κs = ?
-
--- src/lib.rt:120:59
-type-slots-enum-told-3 : (t : ℕ) → type-slots-lts.Need-enum-told-3 (
-  type-inner-reads.Asked,
-  type-inner-reads.Learnt,
-  measure-slots-reads.Asked,
-  measure-slots-reads.Learnt,
-  members-slots-below t,
-  members-slots.Post,
-) (type-slots-at t) type-slots.Post
-type-slots-enum-told-3 t c = ?
-
--- src/lib.rt:120:59
-type-slots-measure-slots-requires-3 : (t : ℕ) → type-slots-lts.Need-measure-slots-requires-3 (
-  type-inner-reads.Asked,
-  type-inner-reads.Learnt,
-  measure-slots-reads.Asked,
-  measure-slots-reads.Learnt,
-  members-slots-below t,
-  members-slots.Post,
-) (type-slots-at t) type-slots.Post
-type-slots-measure-slots-requires-3 t c κs = ?
-
--- src/lib.rt:121:29
-type-slots-enum-known-inner : (t : ℕ) → type-slots-lts.Need-enum-known-inner (
-  type-inner-reads.Asked,
-  type-inner-reads.Learnt,
-  measure-slots-reads.Asked,
-  measure-slots-reads.Learnt,
-  members-slots-below t,
-  members-slots.Post,
-) (type-slots-at t) type-slots.Post
-type-slots-enum-known-inner t c = ?
-
--- src/lib.rt:121:49
-type-slots-members-slots-requires : (t : ℕ) → type-slots-lts.Need-members-slots-requires (
-  type-inner-reads.Asked,
-  type-inner-reads.Learnt,
-  measure-slots-reads.Asked,
-  measure-slots-reads.Learnt,
-  members-slots-below t,
-  members-slots.Post,
-) (type-slots-at t) type-slots.Post
-type-slots-members-slots-requires t c κs = ?
-
--- src/lib.rt:122:32
-type-slots-enum-told-4 : (t : ℕ) → type-slots-lts.Need-enum-told-4 (
-  type-inner-reads.Asked,
-  type-inner-reads.Learnt,
-  measure-slots-reads.Asked,
-  measure-slots-reads.Learnt,
-  members-slots-below t,
-  members-slots.Post,
-) (type-slots-at t) type-slots.Post
-type-slots-enum-told-4 t c = ?
-
--- src/lib.rt:122:32
-type-slots-measure-slots-requires-4 : (t : ℕ) → type-slots-lts.Need-measure-slots-requires-4 (
-  type-inner-reads.Asked,
-  type-inner-reads.Learnt,
-  measure-slots-reads.Asked,
-  measure-slots-reads.Learnt,
-  members-slots-below t,
-  members-slots.Post,
-) (type-slots-at t) type-slots.Post
-type-slots-measure-slots-requires-4 t c κs = ?
-
--- src/lib.rt:112:1
-type-slots-returns : (t : ℕ) → type-slots-lts.Need-returns (
-  type-inner-reads.Asked,
-  type-inner-reads.Learnt,
-  measure-slots-reads.Asked,
-  measure-slots-reads.Learnt,
-  members-slots-below t,
-  members-slots.Post,
-) (type-slots-at t) type-slots.Post
-type-slots-returns t c = ?
-
--- src/lib.rt:112:1
-type-slots-returns-2 : (t : ℕ) → type-slots-lts.Need-returns-2 (
-  type-inner-reads.Asked,
-  type-inner-reads.Learnt,
-  measure-slots-reads.Asked,
-  measure-slots-reads.Learnt,
-  members-slots-below t,
-  members-slots.Post,
-) (type-slots-at t) type-slots.Post
-type-slots-returns-2 t c = ?
-
--- src/lib.rt:112:1
-type-slots-returns-3 : (t : ℕ) → type-slots-lts.Need-returns-3 (
-  type-inner-reads.Asked,
-  type-inner-reads.Learnt,
-  measure-slots-reads.Asked,
-  measure-slots-reads.Learnt,
-  members-slots-below t,
-  members-slots.Post,
-) (type-slots-at t) type-slots.Post
-type-slots-returns-3 t c = ?
-
--- src/lib.rt:112:1
-type-slots-returns-4 : (t : ℕ) → type-slots-lts.Need-returns-4 (
-  type-inner-reads.Asked,
-  type-inner-reads.Learnt,
-  measure-slots-reads.Asked,
-  measure-slots-reads.Learnt,
-  members-slots-below t,
-  members-slots.Post,
-) (type-slots-at t) type-slots.Post
-type-slots-returns-4 t c = ?
-
--- src/lib.rt:112:1
-type-slots-returns-5 : (t : ℕ) → type-slots-lts.Need-returns-5 (
-  type-inner-reads.Asked,
-  type-inner-reads.Learnt,
-  measure-slots-reads.Asked,
-  measure-slots-reads.Learnt,
-  members-slots-below t,
-  members-slots.Post,
-) (type-slots-at t) type-slots.Post
-type-slots-returns-5 t c = ?
+type-slots-returns-5 : (t : ℕ) → type-slots-lts.Need-returns-5 (type-slots-claims t) (type-slots-at t) type-slots.Post
+unfolding slotsOf
+type-slots-returns-5 t c = 
+    let a = c .before .before .before .before .before .before .args in
+    let inner = sym (c .before .before .before .type-inner .ensures) ∙ c .before .enum-told4 .given .1 in
+    c .measure-slots4 .ensures ∙ rw (c .before .enum-told4 .given .1) (sym (slots-by-record (decoded (now (a .types)) (now (a .members))) (a .ty) (a .offset) ∙ rw inner refl))
 
 pub +members-slots+type-slots-spec : {M : Type 1} → statement M
-+members-slots+type-slots-spec = close μ-members-slots μ-type-slots (λ t. members-slots-lts.spec (
-  struct-members-reads.Asked,
-  struct-members-reads.Learnt,
-  member-type-reads.Asked,
-  member-type-reads.Learnt,
-  member-offset-reads.Asked,
-  member-offset-reads.Learnt,
-  type-slots-below t,
-  type-slots.Post,
-  join-parts-reads.Asked,
-  join-parts-reads.Learnt,
-)
-    (members-slots-at t)
-    members-slots.Post
-    members-slots-Inv-loop
-    members-slots-μ-loop
-    (members-slots-struct-members-requires t)
++members-slots+type-slots-spec =
+    close μ-members-slots μ-type-slots
+    (λ t. members-slots-lts.spec (members-slots-claims t) (members-slots-at t) members-slots.Post members-slots-Inv-loop members-slots-μ-loop
+    (λ c κs. search needs)
     (members-slots-loop-holds t)
-    (members-slots-member-type-requires t)
-    (members-slots-member-offset-requires t)
-    (members-slots-cast-sum t)
-    (members-slots-add-sum t)
+    (λ c κs. search needs)
+    (λ c κs. search needs)
+    (λ c. search needs)
+    (λ c. search needs)
     (members-slots-returns t)
     (members-slots-returns-2 t)
-    (members-slots-cast-at t)
+    (λ c. search needs)
     (members-slots-type-slots-requires t)
-    (members-slots-join-parts-requires t)
-    (members-slots-add-j t)
-    (members-slots-loop-less t)
+    (λ c κs. search needs)
+    (λ c. search needs)
+    (λ c. search needs)
     (members-slots-loop-again t)
     (members-slots-returns-3 t))
-    λ t. type-slots-lts.spec (
-      type-inner-reads.Asked,
-      type-inner-reads.Learnt,
-      measure-slots-reads.Asked,
-      measure-slots-reads.Learnt,
-      members-slots-below t,
-      members-slots.Post,
-    )
-    (type-slots-at t)
-    type-slots.Post
-    (type-slots-type-inner-requires t)
-    (type-slots-enum-told t)
+    (λ t. type-slots-lts.spec (type-slots-claims t) (type-slots-at t) type-slots.Post
+    (λ c κs. search needs)
+    (λ c. search needs)
     (type-slots-measure-slots-requires t)
-    (type-slots-enum-told-2 t)
+    (λ c. search needs)
     (type-slots-measure-slots-requires-2 t)
-    (type-slots-enum-told-3 t)
+    (λ c. search needs)
     (type-slots-measure-slots-requires-3 t)
-    (type-slots-enum-known-inner t)
+    (λ c. search needs)
     (type-slots-members-slots-requires t)
-    (type-slots-enum-told-4 t)
+    (λ c. search needs)
     (type-slots-measure-slots-requires-4 t)
     (type-slots-returns t)
     (type-slots-returns-2 t)
     (type-slots-returns-3 t)
     (type-slots-returns-4 t)
-    (type-slots-returns-5 t)
+    (type-slots-returns-5 t))

@@ -1,11 +1,14 @@
+-- `immediates::contains_all` meets its contract. Assumes nothing.
+use borrow.Author.Needs.{needs}
+use Rattle.immediates.proofs.MaskLaws.{contains-word}
 use Rattle.immediates.proofs.contains_all.Statement.{statement}
 use Rattle.immediates.proofs.contains_all.Tie as tie
-use Rattle.immediates.proofs.contains_all.Reads as reads
-use Rattle.immediates.proofs.contains_all.Lts as lts
 
--- src/lib.rt:60:1
 returns : tie.Need-returns
-returns c = ?
+returns c = contains-word (c .args .this) (c .args .other) 64 (c .fits .this .fits) (c .fits .other .fits)
 
 pub contains-all-spec : {M : Type 1} → statement M
-contains-all-spec = tie.close (tie.spec returns)
+contains-all-spec =
+    tie.close
+    (tie.spec
+    returns)

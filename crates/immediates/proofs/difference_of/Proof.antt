@@ -1,11 +1,14 @@
+-- `immediates::difference_of` meets its contract. Assumes nothing.
+use borrow.Author.Needs.{needs}
+use Rattle.immediates.proofs.MaskLaws.{difference-word}
 use Rattle.immediates.proofs.difference_of.Statement.{statement}
 use Rattle.immediates.proofs.difference_of.Tie as tie
-use Rattle.immediates.proofs.difference_of.Reads as reads
-use Rattle.immediates.proofs.difference_of.Lts as lts
 
--- src/lib.rt:67:1
 returns : tie.Need-returns
-returns c = ?
+returns c = difference-word (c .args .this) (c .args .other) 64 (c .fits .this .fits) (c .fits .other .fits)
 
 pub difference-of-spec : {M : Type 1} → statement M
-difference-of-spec = tie.close (tie.spec returns)
+difference-of-spec =
+    tie.close
+    (tie.spec
+    returns)

@@ -1,51 +1,27 @@
+-- `immediates::join_parts` meets its contract. Assumes nothing.
 use borrow.Author.Needs.{needs}
+use mathlib.Core.Path.{_≡_, refl, sym, ap, _∙_}
 use Rattle.immediates.proofs.join_parts.Statement.{statement}
 use Rattle.immediates.proofs.join_parts.Tie as tie
-use Rattle.immediates.proofs.join_parts.Reads as reads
-use Rattle.immediates.proofs.join_parts.Lts as lts
-use Rattle.immediates.proofs.union_of.Reads as union-of-reads
 
--- src/lib.rt:83:21
-enum-known-a : tie.Need-enum-known-a
-enum-known-a c = search needs
-
--- src/lib.rt:84:25
-enum-known-b : tie.Need-enum-known-b
-enum-known-b c = search needs
-
--- src/lib.rt:84:43
-union-of-requires : tie.Need-union-of-requires
-union-of-requires c κs = search needs
-
--- src/lib.rt:85:28
-enum-told : tie.Need-enum-told
-enum-told c = search needs
-
--- src/lib.rt:87:24
-enum-told-2 : tie.Need-enum-told-2
-enum-told-2 c = search needs
-
--- src/lib.rt:79:1
 returns : tie.Need-returns
-returns c = ?
+returns c = rw (c .before .before .before .before .before .a .given .1, c .before .before .b .given .1, c .union-of .ensures) refl
 
--- src/lib.rt:79:1
 returns-2 : tie.Need-returns-2
-returns-2 c = search needs
+returns-2 c = rw (c .before .before .before .a .given .1, c .enum-told .given .1) refl
 
--- src/lib.rt:79:1
 returns-3 : tie.Need-returns-3
-returns-3 c = search needs
+returns-3 c = rw (c .enum-told2 .given .1) refl
 
 pub join-parts-spec : {M : Type 1} → statement M
 join-parts-spec =
     tie.close
     (tie.spec
-    enum-known-a
-    enum-known-b
-    union-of-requires
-    enum-told
-    enum-told-2
+    (λ c. search needs)
+    (λ c. search needs)
+    (λ c κs. search needs)
+    (λ c. search needs)
+    (λ c. search needs)
     returns
     returns-2
     returns-3)
