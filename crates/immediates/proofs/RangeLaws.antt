@@ -62,11 +62,11 @@ in-part : (offset size b : ℕ) → offset ≤ b → b < offset + size → T (in
 in-part offset size b h l = rw (le-leb offset b h, lt-ltb b (offset + size) l) tt
 
 -- one of two tests
-or-left : (a b : Bool) → T a → T (a || b)
+pub or-left : (a b : Bool) → T a → T (a || b)
 or-left true b t = tt
 or-left false b t = absurd t
 
-or-right : (a b : Bool) → T b → T (a || b)
+pub or-right : (a b : Bool) → T b → T (a || b)
 or-right true b t = tt
 or-right false b t = t
 
@@ -101,6 +101,20 @@ module _ (offset size k : ℕ) where
       go (no p) (yes q) r = or-left (b0 || b1 || b2) b3 (or-left (b0 || b1) b2 (or-right b0 b1 (in-part offset size (4 * k + 1) q (omega arith))))
       go (no p) (no q) (yes r) = or-left (b0 || b1 || b2) b3 (or-right (b0 || b1) b2 (in-part offset size (4 * k + 2) r (omega arith)))
       go (no p) (no q) (no r) = or-right (b0 || b1 || b2) b3 (in-part offset size (4 * k + 3) (omega arith) (omega arith))
+
+-- an empty part has no byte
+empty-part : (offset b : ℕ) → inPart offset 0 b ≡ false
+empty-part offset b = go (decLe offset b)
+  where
+    go : Dec (offset ≤ b) → inPart offset 0 b ≡ false
+    go (yes h) = past-part offset 0 b (omega arith)
+    go (no h) = before-part offset 0 b (omega arith)
+
+-- and covers no slot
+pub covers-nothing : (offset k : ℕ) → covers offset 0 k ≡ false
+unfolding covers
+covers-nothing offset k =
+    rw (empty-part offset (4 * k), empty-part offset (4 * k + 1), empty-part offset (4 * k + 2), empty-part offset (4 * k + 3)) refl
 
 -- ---- the shifts
 -- all of w = j + hi digits, shifted right by j

@@ -1,9 +1,10 @@
 -- 01, 'The slot word': the walk of a type from an offset. Structs are walked member by member; every other type is taken whole, by its measure.
 -- Assumes nothing.
 use mathlib.Core.Path.{_≡_}
+use mathlib.Core.Bool.{false}
 use mathlib.Core.List.{List}
-use Prim.Native.Nat.{ℕ, zero, suc, _+_}
-use lib.Dec.{leb, ltb}
+use Prim.Native.Nat.{ℕ, zero, suc, _+_, _<_}
+use lib.Dec.{T, leb, ltb}
 use Rattle.records.specs.Result.{Result, ok, pick}
 use Rattle.records.specs.Record.{Decoded, decoded, typeCount, memberType, memberOffset}
 use Rattle.records.specs.Table.{valueAt}
@@ -14,12 +15,13 @@ use Rattle.records.specs.declared.TypeInner.the-variants.{Plain, Array, Runtime
 use Rattle.alignment.specs.Alignment.{most}
 use Rattle.records.specs.Fields.{InnerBounds}
 use Rattle.type_methods.specs.TypeMethods.{sizeOf, trySize}
+use Rattle.valid.specs.Valid.{isStruct}
 use Rattle.valid.specs.Arena.{arenaAnswer}
 use Rattle.immediates.specs.declared.Slots.{Slots}
 use Rattle.immediates.specs.declared.Slots.the-variants.{Mask, Past}
 use Rattle.immediates.specs.declared.SlotsAnswer.{SlotsAnswer}
 use Rattle.immediates.specs.declared.SlotsAnswer.the-variants as answer
-use Rattle.immediates.specs.Slots.{rangeSlots, join}
+use Rattle.immediates.specs.Slots.{covers, rangeSlots, join}
 
 -- the first j members of a struct that stands at `offset`; number 25 where an offset sum leaves 32 bits.
 -- earlier: the slots of the types before it, each at an offset
@@ -51,6 +53,13 @@ slotsAt types = valueAt noSlots (slotsStep types)
 pub record Measured (inner : TypeInner) : Type 0 where
   pub bounds : InnerBounds inner
   pub size : trySize inner ≡ ok (sizeOf inner)
+
+-- a non-struct part of type ty, which stands at `offset`, covers slot k: the type itself where it is no struct, or a part of a member
+pub data CoveredBy (types : ℕ → Decoded) : (ty offset k : ℕ) → Type 0 where
+  by-whole : {ty offset k : ℕ} → isStruct (types ty .inner) ≡ false → T (covers offset (sizeOf (types ty .inner)) k) → CoveredBy types ty offset k
+  by-member : {ty offset k : ℕ} (count span j : ℕ) → types ty .inner ≡ Struct count span → j < count
+      → CoveredBy types (memberType (types ty .members) j) (offset + memberOffset (types ty .members) j) k
+      → CoveredBy types ty offset k
 
 -- ---- the call: the arena's refusal is passed on; 26 for a type outside the arena; then 25. 25 and 26 carry zeros only
 abbrev pub partAnswer : Slots → SlotsAnswer

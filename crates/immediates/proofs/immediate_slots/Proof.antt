@@ -1,68 +1,52 @@
+-- `immediates::immediate_slots` meets its contract: the walk comes after the arena check and leaves the rows as they are. Assumes nothing.
 use borrow.Author.Needs.{needs}
+use mathlib.Core.Path.{_≡_, refl, sym, ap, _∙_}
+use native.Mathlib.Omega.{arith}
+use denote.Ref.{now}
+use Rattle.immediates.specs.Walk.{partAnswer}
+use Rattle.immediates.proofs.CallLaws.{accepted-measured, answer-walked, answer-outside, answer-refused}
 use Rattle.immediates.proofs.immediate_slots.Statement.{statement}
 use Rattle.immediates.proofs.immediate_slots.Tie as tie
-use Rattle.immediates.proofs.immediate_slots.Reads as reads
-use Rattle.immediates.proofs.immediate_slots.Lts as lts
-use Rattle.immediates.proofs.part_answer.Reads as part-answer-reads
-use Rattle.immediates.proofs.type_slots.Reads as type-slots-reads
-use Rattle.valid.proofs.check.Reads as check-reads
 
--- src/lib.rt:155:11
-check-requires : tie.Need-check-requires
-check-requires c κs = search needs
-
--- src/lib.rt:157:16
-enum-told : tie.Need-enum-told
-enum-told c = search needs
-
--- src/lib.rt:158:17
-same-length : tie.Need-same-length
-same-length c = search needs
-
--- src/lib.rt:158:17
 returns : tie.Need-returns
-returns c = ?
+returns c = 
+    let a = c .before .before .before .before .before .before .before .before .before .before .args in
+    let check = c .before .before .before .before .before .check .ensures in
+    let accepted = sym (check .0) ∙ c .before .enum-told .given .1 in
+    (sym (answer-outside (a .capabilities) (now (a .types)) (now (a .members)) (now (a .rows)) accepted (a .ty) (a .offset) (c .if1 .taken)), check .1)
 
--- src/lib.rt:160:25
 type-slots-requires : tie.Need-type-slots-requires
-type-slots-requires c κs = ?
+type-slots-requires c κs = 
+    let a = c .before .before .before .before .before .before .before .before .before .before .args in
+    let accepted = sym (c .before .before .before .before .before .check .ensures .0) ∙ c .before .enum-told .given .1 in
+    λ i h. accepted-measured (a .capabilities) (now (a .types)) (now (a .members)) (now (a .rows)) accepted i (omega (arith, h, c .if1 .left))
 
--- src/lib.rt:160:13
-part-answer-requires : tie.Need-part-answer-requires
-part-answer-requires c κs = search needs
-
--- src/lib.rt:162:28
-enum-known-number : tie.Need-enum-known-number
-enum-known-number c = search needs
-
--- src/lib.rt:151:1
-same-length-2 : tie.Need-same-length-2
-same-length-2 c = search needs
-
--- src/lib.rt:151:1
 returns-2 : tie.Need-returns-2
-returns-2 c = ?
+returns-2 c = 
+    let a = c .before .before .before .before .before .before .before .before .before .before .before .before .args in
+    let check = c .before .before .before .before .before .before .before .check .ensures in
+    let accepted = sym (check .0) ∙ c .before .before .before .enum-told .given .1 in
+    (c .part-answer .ensures ∙ ap partAnswer (c .before .type-slots .ensures) ∙ sym (answer-walked (a .capabilities) (now (a .types)) (now (a .members)) (now (a .rows)) accepted (a .ty) (a .offset) (c .before .before .if1 .left)), check .1)
 
--- src/lib.rt:151:1
-same-length-3 : tie.Need-same-length-3
-same-length-3 c = search needs
-
--- src/lib.rt:151:1
 returns-3 : tie.Need-returns-3
-returns-3 c = ?
+returns-3 c = 
+    let a = c .before .before .before .before .before .before .before .before .before .before .args in
+    let check = c .before .before .before .before .before .check .ensures in
+    let refused = sym (check .0) ∙ c .before .number .given .1 in
+    (sym (answer-refused (a .capabilities) (now (a .types)) (now (a .members)) (now (a .rows)) (a .ty) (a .offset) refused), check .1)
 
 pub immediate-slots-spec : {M : Type 1} → statement M
 immediate-slots-spec =
     tie.close
     (tie.spec
-    check-requires
-    enum-told
-    same-length
+    (λ c κs. search needs)
+    (λ c. search needs)
+    (λ c. search needs)
     returns
     type-slots-requires
-    part-answer-requires
-    enum-known-number
-    same-length-2
+    (λ c κs. search needs)
+    (λ c. search needs)
+    (λ c. search needs)
     returns-2
-    same-length-3
+    (λ c. search needs)
     returns-3)
