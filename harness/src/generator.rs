@@ -39,10 +39,6 @@ pub fn mostly_sound(seed: u64, index: u64) -> Arena {
 }
 
 /// A sound arena whose structs mostly fit in the immediates.
-pub fn small_and_sound(seed: u64, index: u64) -> Arena {
-    small(&mut Random::new(seed, index))
-}
-
 fn small(random: &mut Random) -> Arena {
     let (plain, composite) = (random.between(2, 10), random.below(5));
     let largest_member = random.pick(&[8, 16, 32, 64]);
