@@ -22,11 +22,11 @@ use Rattle.type_methods.specs.TypeMethods.{mostSize, sizeOf, trySize}
 use Rattle.layouter.specs.Layouter.{noLayout, layoutStep, layoutAt, layoutOutcome}
 use Rattle.layouter.proofs.AcceptedLaws.{layout-parts}
 use Rattle.valid.specs.Arena.{judgeOutcome, arenaFits, arenaOutcome, arenaAnswer}
-use Rattle.immediates.specs.declared.Slots.{Slots}
-use Rattle.immediates.specs.declared.Slots.the-variants.{Mask, Past}
-use Rattle.immediates.specs.declared.SlotsAnswer.{SlotsAnswer}
-use Rattle.immediates.specs.declared.SlotsAnswer.the-variants as answer
-use Rattle.immediates.specs.Walk.{Measured, slotsAt, partAnswer, typeAnswer, slotsAnswer}
+use Rattle.slots.specs.declared.Slots.{Slots}
+use Rattle.slots.specs.declared.Slots.the-variants.{Mask, Past}
+use Rattle.slots.specs.declared.SlotsAnswer.the-variants as answer
+use Rattle.slots.specs.Slots.{partAnswer}
+use Rattle.immediates.specs.Walk.{Measured, slotsAt, typeAnswer, slotsAnswer}
 
 -- a size that is accepted is the measure
 measured : (inner : TypeInner) (size : ℕ) → trySize inner ≡ ok size → trySize inner ≡ ok (sizeOf inner)

@@ -20,7 +20,7 @@ use Rattle.immediates.proofs.+members_slots+type_slots.Lts-members_slot
 use Rattle.immediates.proofs.type_slots.Reads as type-slots
 use Rattle.immediates.proofs.type_slots.Kinds as type-slots-kinds
 use Rattle.immediates.proofs.+members_slots+type_slots.Lts-type_slots as type-slots-lts
-use Rattle.immediates.proofs.join_parts.Reads as join-parts-reads
+use Rattle.slots.proofs.join_parts.Reads as join-parts-reads
 use Rattle.immediates.proofs.measure_slots.Reads as measure-slots-reads
 use Rattle.records.proofs.member_offset.Reads as member-offset-reads
 use Rattle.records.proofs.member_type.Reads as member-type-reads

@@ -1,9 +1,9 @@
 -- `immediates::immediate_slots` meets its contract: the walk comes after the arena check and leaves the rows as they are. Assumes nothing.
 use borrow.Author.Needs.{needs}
-use mathlib.Core.Path.{_≡_, refl, sym, ap, _∙_}
+use mathlib.Core.Path.{sym, ap, _∙_}
 use native.Mathlib.Omega.{arith}
 use denote.Ref.{now}
-use Rattle.immediates.specs.Walk.{partAnswer}
+use Rattle.slots.specs.Slots.{partAnswer}
 use Rattle.immediates.proofs.CallLaws.{accepted-measured, answer-walked, answer-outside, answer-refused}
 use Rattle.immediates.proofs.immediate_slots.Statement.{statement}
 use Rattle.immediates.proofs.immediate_slots.Tie as tie

@@ -2,7 +2,7 @@
 -- Assumes nothing.
 use mathlib.Core.Path.{_≡_, refl, sym, ap, _∙_}
 use mathlib.Core.Bool.{Bool, true, false, _&&_, _||_, not}
-use Prim.Native.Nat.{ℕ, zero, suc, _+_, _-_, _*_, _/_, _%_, _^_, _<_, _≤_, min, max}
+use Prim.Native.Nat.{ℕ, zero, suc, _+_, _-_, _*_, _/_, _%_, _^_, _<_, min, max}
 use native.Mathlib.Nat.{not-suc-le-zero, add-zero, lt-of-le-of-lt, mod-lt, mod-eq-of-lt, mod-one, pow-suc, zero-lt-suc}
 use native.Mathlib.Numerals.{one-add}
 use native.Mathlib.Decide.{ℕ-discrete}
@@ -10,10 +10,10 @@ use native.Mathlib.Omega.{arith}
 use lib.Dec.{eqb}
 use lib.Pow.{pow-pos, mod-pow-add}
 use lib.Bits.{bitAnd, bitOr, and-shr, and-step, and-le-l, or-shr, or-step, or-lt}
-use borrow.Author.Tests.{eqb-true, eqb-false, eq-eqb, ne-eqb}
+use borrow.Author.Tests.{ne-eqb}
 use Rattle.records.specs.Result.{pick}
 use Rattle.flags.specs.Flags.{bit}
-use Rattle.immediates.specs.Slots.{maskOf, containsBelow}
+use Rattle.slots.specs.Slots.{maskOf, containsBelow}
 
 -- equal tests make equal masks
 pub mask-same : (f g : ℕ → Bool) (n : ℕ) → ((k : ℕ) → k < n → f k ≡ g k) → maskOf f n ≡ maskOf g n

@@ -5,8 +5,10 @@ use Prim.Native.Nat.{ℕ, zero, suc, _+_, _*_, _^_}
 use lib.Dec.{eqb, leb, ltb}
 use Rattle.records.specs.Result.{pick}
 use Rattle.flags.specs.Flags.{bit}
-use Rattle.immediates.specs.declared.Slots.{Slots}
-use Rattle.immediates.specs.declared.Slots.the-variants.{Mask, Past}
+use Rattle.slots.specs.declared.Slots.{Slots}
+use Rattle.slots.specs.declared.Slots.the-variants.{Mask, Past}
+use Rattle.slots.specs.declared.SlotsAnswer.{SlotsAnswer}
+use Rattle.slots.specs.declared.SlotsAnswer.the-variants as answer
 
 -- how many slots there are, and how many bytes they have
 abbrev pub slotCount : ℕ
@@ -54,3 +56,8 @@ abbrev pub join : Slots → Slots → Slots
 join (Mask a) (Mask b) = Mask (union a b)
 join (Mask a) Past = Past
 join Past other = Past
+
+-- a part as the answer of a call; 25 carries zeros only
+abbrev pub partAnswer : Slots → SlotsAnswer
+partAnswer (Mask mask) = answer.Slots mask
+partAnswer Past = answer.Refused 25 0 0 0

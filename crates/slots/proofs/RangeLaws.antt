@@ -1,17 +1,17 @@
 -- The shifts of a range: the mask of the slots that a part covers is that of the slots from offset / 4 up to the end, rounded up.
 -- Assumes nothing.
-use mathlib.Core.Path.{_≡_, refl, sym, ap, _∙_}
-use mathlib.Core.Bool.{Bool, true, false, _&&_, _||_}
+use mathlib.Core.Path.{_≡_, refl, _∙_}
+use mathlib.Core.Bool.{Bool, true, false, _||_}
 use Prim.Native.Nat.{ℕ, zero, suc, _+_, _-_, _*_, _/_, _%_, _^_, _<_, _≤_, zero-le}
 use native.Mathlib.Nat.{le-refl, add-zero, pow-suc, add-mul, mul-assoc}
 use native.Mathlib.Decide.{le-ind, decLe}
 use native.Mathlib.Omega.{arith}
-use lib.Dec.{T, leb, ltb, lt→ltb, le→leb}
-use lib.Pow.{pow-pos, pow-mono, pow-add, pow-sub-lt, ones-split, high-ones, ones-lt, high, low, mod-mod-pow}
+use lib.Dec.{T}
+use lib.Pow.{pow-pos, pow-add, pow-sub-lt, ones-split, high-ones, ones-lt, high, low, mod-mod-pow}
 use lib.Bits.{bitAnd, and-mask}
 use Rattle.records.proofs.ResultLaws.{T-true}
 use borrow.Author.Tests.{lt-ltb, le-ltb, le-leb, lt-leb}
-use Rattle.immediates.specs.Slots.{inPart, covers, maskOf}
+use Rattle.slots.specs.Slots.{inPart, covers, maskOf}
 
 -- ---- masks of runs of slots
 -- one slot more
