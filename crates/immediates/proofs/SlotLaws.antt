@@ -103,11 +103,12 @@ struct-cases (Struct count span) = inr (count, span, refl)
 struct-cases (Other o) = inl refl
 
 module _ (types : ℕ → Decoded) where
-  -- the slots of a type that is no struct, and of a struct
+  -- the slots of a type that is no struct
   at-whole : (ty offset : ℕ) → isStruct (types ty .inner) ≡ false → slotsAt types ty offset ≡ rangeSlots offset (sizeOf (types ty .inner))
   at-whole ty offset e =
       slots-by-record types ty offset ∙ slots-whole (table noSlots (slotsStep types) ty) (types ty .inner) (types ty .members) offset e
 
+  -- the slots of a struct
   at-struct : (ty offset count span : ℕ) → types ty .inner ≡ Struct count span
       → slotsAt types ty offset ≡ membersSlots (table noSlots (slotsStep types) ty) (types ty .members) offset count
   unfolding slotsOf

@@ -31,6 +31,7 @@ membersSlots earlier members offset (suc j) =
     join (membersSlots earlier members offset j)
     (pick (leb (offset + memberOffset members j) most) (earlier (memberType members j) (offset + memberOffset members j)) Past)
 
+-- of a type at an offset, by what its record says
 unfoldable pub slotsOf : (earlier : ℕ → ℕ → Slots) → TypeInner → (members : List ℕ) → (offset : ℕ) → Slots
 slotsOf earlier (Plain leaf) members offset = rangeSlots offset (sizeOf (Plain leaf))
 slotsOf earlier (Array base count stride) members offset = rangeSlots offset (sizeOf (Array base count stride))
@@ -42,10 +43,11 @@ slotsOf earlier (Other o) members offset = rangeSlots offset (sizeOf (Other o))
 abbrev pub noSlots : ℕ → Slots
 noSlots offset = Past
 
+-- of type i, from those of the types before it
 abbrev pub slotsStep : (types : ℕ → Decoded) → (ℕ → ℕ → Slots) → ℕ → Result (ℕ → Slots)
 slotsStep types earlier i = ok (slotsOf earlier (types i .inner) (types i .members))
 
--- of type ty at an offset, from those of the types before it
+-- of type ty of an arena at an offset, types in ascending order
 abbrev pub slotsAt : (types : ℕ → Decoded) → (ty offset : ℕ) → Slots
 slotsAt types = valueAt noSlots (slotsStep types)
 
@@ -67,5 +69,6 @@ typeAnswer ts ms ty offset outcome.Accepted =
     pick (ltb ty (typeCount ts)) (partAnswer (slotsAt (decoded ts ms) ty offset)) (answer.Refused 26 0 0 0)
 typeAnswer ts ms ty offset (outcome.Refused number t member detail) = answer.Refused number t member detail
 
+-- the arena is judged first
 unfoldable pub slotsAnswer : (c : ℕ) (ts ms rows : List ℕ) (ty offset : ℕ) → SlotsAnswer
 slotsAnswer c ts ms rows ty offset = typeAnswer ts ms ty offset (arenaAnswer c ts ms rows)

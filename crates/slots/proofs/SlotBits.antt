@@ -34,9 +34,11 @@ contains-each this other (suc n) t k h o =
     go (contains-each this other n (and-left (containsBelow this other n) (not (bit other n) || bit this n) t))
     (and-right (containsBelow this other n) (not (bit other n) || bit this n) t) (ℕ-discrete k n)
   where
+    -- a test that another implies
     implied : (a b : Bool) → T (not a || b) → T a → T b
     implied true b t u = t
     implied false b t u = absurd u
+
     go : ((i : ℕ) → i < n → T (bit other i) → T (bit this i)) → T (not (bit other n) || bit this n) → Dec (k ≡ n) → T (bit this k)
     go ih last (yes e) = rw e (implied (bit other n) (bit this n) last (rw e at o))
     go ih last (no e) = ih k (omega arith) o
@@ -48,6 +50,7 @@ each-contains this other zero all = tt
 each-contains this other (suc n) all =
     joined (containsBelow this other n) (bit other n) (bit this n) (each-contains this other n (λ k h. all k (omega arith))) (all n (omega arith))
   where
+    -- the test of one more slot
     joined : (a b c : Bool) → T a → (T b → T c) → T (a && (not b || c))
     joined true true c t f = f tt
     joined true false c t f = tt
@@ -57,6 +60,7 @@ each-contains this other (suc n) all =
 pub contains-slots : (this other : ℕ) → T (contains this other) → (k : ℕ) → k < slotCount → T (bit other k) → T (bit this k)
 contains-slots this other = contains-each this other slotCount
 
+-- where every slot of other is one of this, contains says so
 pub slots-contains : (this other : ℕ) → ((k : ℕ) → k < slotCount → T (bit other k) → T (bit this k)) → T (contains this other)
 slots-contains this other = each-contains this other slotCount
 

@@ -20,7 +20,7 @@ returns-2 c = let a = c .before .before .args in rw (ne-eqb (a .size) 0 (c .befo
 
 returns-3 : tie.Need-returns-3
 unfolding rangeSlots
-returns-3 c = 
+returns-3 c =
     let a = c .before .before .args in
     let some : 0 < a .size = omega (arith, c .before .if1 .left) in
     let lo = a .offset / 4 in
