@@ -1,5 +1,5 @@
 // The static library: the public calls with C's calling convention. A slice is a pointer and a length.
-use immediates::SlotsAnswer;
+use slots::SlotsAnswer;
 use place::PlaceAnswer;
 use records::Outcome;
 ghost use mathlib.Core.Path.{_≡_};
@@ -11,8 +11,8 @@ ghost use Rattle.records.specs.Record.{typeWord};
 ghost use lib.ListN.{length, drop};
 ghost use Rattle.layouter.specs.Layouter.{layoutAnswer, layoutWords};
 ghost use Rattle.valid.specs.Arena.{arenaAnswer, arenaWords};
-ghost use Rattle.immediates.specs.Slots.{rangeSlots};
-ghost use Rattle.immediates.specs.Walk.{partAnswer, slotsAnswer};
+ghost use Rattle.slots.specs.Slots.{rangeSlots, partAnswer};
+ghost use Rattle.immediates.specs.Walk.{slotsAnswer};
 ghost use Rattle.place.specs.Place.{lookupAnswer};
 ghost use Rattle.doors.specs.Doors.{slotsOutcome, placeOutcome, maskOf, byteOf, leafOf, partStart, partLength, withAnswer, withOne, withTwo};
 
@@ -63,19 +63,19 @@ fn put_two(words: &mut [u64], a: u64, b: u64)
     words[1] = b;
 }
 
-fn slots_outcome(slots: SlotsAnswer) -> Outcome
-    ensures { λ r. ⌜ r ≡ slotsOutcome slots ⌝ }
+fn slots_outcome(found: SlotsAnswer) -> Outcome
+    ensures { λ r. ⌜ r ≡ slotsOutcome found ⌝ }
 {
-    match slots {
+    match found {
         SlotsAnswer::Slots(_) => Outcome::Accepted,
         SlotsAnswer::Refused { number, ty, member, detail } => Outcome::Refused { number, ty, member, detail },
     }
 }
 
-fn mask_of(slots: SlotsAnswer) -> u64
-    ensures { λ r. ⌜ r ≡ maskOf slots ⌝ }
+fn mask_of(found: SlotsAnswer) -> u64
+    ensures { λ r. ⌜ r ≡ maskOf found ⌝ }
 {
-    match slots {
+    match found {
         SlotsAnswer::Slots(mask) => mask,
         SlotsAnswer::Refused { number: _, ty: _, member: _, detail: _ } => 0,
     }
@@ -145,9 +145,9 @@ pub extern "C" fn wuldazin_range(offset: u32, size: u32, mask: &mut [u64], answe
     ensures { λ _. ⌜ now (mask .exit) ≡ withOne (now (mask .entry)) (maskOf (partAnswer (rangeSlots offset size))) ⌝ }
     ensures { λ _. ⌜ now (answer .exit) ≡ withAnswer (now (answer .entry)) (slotsOutcome (partAnswer (rangeSlots offset size))) ⌝ }
 {
-    let slots = immediates::range(offset, size);
-    put_one(mask, mask_of(slots));
-    put_answer(answer, slots_outcome(slots));
+    let found = slots::range(offset, size);
+    put_one(mask, mask_of(found));
+    put_answer(answer, slots_outcome(found));
 }
 
 // The slots of a type of an arena from an offset on.
@@ -157,9 +157,9 @@ pub extern "C" fn wuldazin_slots(types: &[u32], members: &[u32], capabilities: u
     ensures { λ _. ⌜ now (mask .exit) ≡ withOne (now (mask .entry)) (maskOf (slotsAnswer capabilities (now (types .entry)) (now (members .entry)) (now (rows .entry)) ty offset)) ⌝ }
     ensures { λ _. ⌜ now (answer .exit) ≡ withAnswer (now (answer .entry)) (slotsOutcome (slotsAnswer capabilities (now (types .entry)) (now (members .entry)) (now (rows .entry)) ty offset)) ⌝ }
 {
-    let slots = immediates::immediate_slots(types, members, capabilities, rows, ty, offset);
-    put_one(mask, mask_of(slots));
-    put_answer(answer, slots_outcome(slots));
+    let found = immediates::immediate_slots(types, members, capabilities, rows, ty, offset);
+    put_one(mask, mask_of(found));
+    put_answer(answer, slots_outcome(found));
 }
 
 // The byte place and the type of the leaf that steps lead to.
