@@ -10,8 +10,6 @@ pub const FLOAT: u32 = 2;
 pub const BOOL: u32 = 3;
 pub const STORAGE_SPACE: u32 = 4;
 pub const EXTERNAL_CLASS: u32 = 2;
-pub const CONSTANT: u32 = 0;
-pub const DYNAMIC: u32 = 1;
 pub const MAX_TYPE_SIZE: u32 = i32::MAX as u32;
 
 /// What later types want to know of an earlier one.
@@ -36,6 +34,8 @@ pub struct Builder<'r> {
     pub needed: u32,
     /// How many members a struct usually has at most.
     pub usual_members: u32,
+    /// How large a member is at most.
+    pub largest_member: u32,
     /// Member rows of earlier structs: first, count.
     runs: Vec<(u32, u32)>,
 }
@@ -53,8 +53,20 @@ impl<'r> Builder<'r> {
             facts: Vec::new(),
             needed: 0,
             usual_members: 6,
+            largest_member: (1 << 24) - 1,
             runs: Vec::new(),
         }
+    }
+
+    /// The tables, with the capabilities that they need.
+    pub fn into_arena(self) -> (Arena, &'r mut Random) {
+        let arena = Arena {
+            types: self.types,
+            members: self.members,
+            capabilities: self.needed,
+            rows_len: 0,
+        };
+        (arena, self.random)
     }
 
     pub fn count(&self) -> u32 {
@@ -368,10 +380,11 @@ impl<'r> Builder<'r> {
             }
         }
         let mode = self.random.weighted(&[7, 6, 3, 3, 1, 2]) as u32;
+        let largest = self.largest_member;
         let mut rows = Vec::new();
         let mut layout = Layout::default();
         for _ in 0..self.random.between(1, self.usual_members) {
-            let Some(ty) = self.find(|f| f.data && f.sized && f.size < 1 << 24) else {
+            let Some(ty) = self.find(|f| f.data && f.sized && f.size <= largest) else {
                 break;
             };
             self.place(mode, ty, &mut layout, &mut rows);
@@ -382,7 +395,7 @@ impl<'r> Builder<'r> {
         }
         let mut sized = true;
         if self.random.one_in(4) {
-            let runtime = |f: &Fact| !f.sized && f.kind == kind::ARRAY && f.size < 1 << 24;
+            let runtime = |f: &Fact| !f.sized && f.kind == kind::ARRAY && f.size <= largest;
             if let Some(ty) = self.find(runtime) {
                 self.place(mode, ty, &mut layout, &mut rows);
                 sized = false;
@@ -392,6 +405,19 @@ impl<'r> Builder<'r> {
         let number = self.push_struct(&rows, span);
         self.facts[number as usize].sized = sized;
         number
+    }
+
+    /// A struct with an empty member so far away that a walk's offset sum may
+    /// leave 32 bits there and nowhere else.
+    pub fn far_and_empty(&mut self) -> u32 {
+        let plain = self.word_scalar();
+        let empty = match self.random.one_in(2) {
+            true => self.ray_query(),
+            false => self.push_array(plain, CONSTANT, 3, 0),
+        };
+        let offset = u32::MAX - self.random.below(64);
+        let span = self.random.between(offset, u32::MAX);
+        self.push_struct(&[(plain, 0), (empty, offset)], span)
     }
 
     /// Puts a member where the mode wants it.

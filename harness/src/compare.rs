@@ -1,62 +1,52 @@
 //! Runs the port and the reference over the same arenas.
 
+use crate::guarded::Guarded;
 use crate::histogram::Histogram;
 use crate::random::Random;
 use crate::records::*;
-use crate::{generator, port, print, reference};
+use crate::reference::{self, Expected};
+use crate::{generator, port, print};
 
-/// Words beside the lent rows, which the port must not reach.
-const MARGIN: usize = 16;
+/// What a call is lent to write to.
+pub struct Lent<'a> {
+    pub rows: &'a mut [u32],
+    pub output: &'a mut [u64],
+    pub answer: &'a mut [u32],
+}
 
-/// What a call must answer, and the rows that it must leave (none: zeroes).
-struct Expected {
-    answer: Answer,
-    rows: Option<Vec<Row>>,
+/// One call of the port and what it owes.
+pub struct Case<'a> {
+    /// The numbers that are handed over beside the tables.
+    pub asked: Vec<u32>,
+    pub expected: Expected,
+    pub call: Box<dyn Fn(Lent) + 'a>,
 }
 
 pub fn layout(count: u64, seed: u64) -> bool {
-    run(count, seed, |arena, histogram| {
+    run(count, seed, generator::arena, |arena, _, histogram| {
         let outcome = reference::layout(&arena.types, &arena.members, arena.rows_len);
         histogram.count_answer(outcome.answer);
-        let rows = outcome.layouts.map(|layouts| {
+        if outcome.layouts.is_some() {
             histogram.count_accepted(arena);
-            layouts.into_iter().map(layout_row).collect()
-        });
-        let call = |rows: &mut [u32], answer: &mut [u32]| {
-            port::layout(&arena.types, &arena.members, rows, answer)
-        };
-        (
-            Expected {
-                answer: outcome.answer,
-                rows,
-            },
-            Box::new(call),
-        )
+        }
+        Case {
+            asked: Vec::new(),
+            expected: outcome.into(),
+            call: Box::new(|lent| port::layout(arena, lent)),
+        }
     })
-}
-
-fn layout_row((size, alignment): (u32, u32)) -> Row {
-    let mut row = [0; ROW_WORDS];
-    row[..2].copy_from_slice(&[size, alignment]);
-    row
 }
 
 #[cfg(feature = "check")]
 pub fn check(count: u64, seed: u64) -> bool {
-    run(count, seed, |arena, histogram| {
-        let Arena {
-            types,
-            members,
-            capabilities,
-            rows_len,
-        } = arena;
-        let outcome = reference::check(types, members, *capabilities, *rows_len);
+    run(count, seed, generator::arena, |arena, _, histogram| {
+        let outcome = print::reference_of(arena);
         count_outcome(histogram, arena, &outcome);
-        let call = |rows: &mut [u32], answer: &mut [u32]| {
-            port::check(types, members, *capabilities, rows, answer)
-        };
-        let (answer, rows) = (outcome.answer, outcome.rows);
-        (Expected { answer, rows }, Box::new(call))
+        Case {
+            asked: Vec::new(),
+            expected: outcome.into(),
+            call: Box::new(|lent| port::check(arena, lent)),
+        }
     })
 }
 
@@ -81,62 +71,76 @@ fn count_outcome(histogram: &mut Histogram, arena: &Arena, outcome: &reference::
     }
 }
 
-type Call<'a> = Box<dyn Fn(&mut [u32], &mut [u32]) + 'a>;
-
-/// Whether the port agrees on all arenas.
-fn run(
+/// Whether the port agrees on all cases.
+pub fn run(
     count: u64,
     seed: u64,
-    judge: impl for<'a> Fn(&'a Arena, &mut Histogram) -> (Expected, Call<'a>),
+    source: fn(u64, u64) -> Arena,
+    judge: impl for<'a> Fn(&'a Arena, &mut Random, &mut Histogram) -> Case<'a>,
 ) -> bool {
     let mut histogram = Histogram::default();
     for index in 0..count {
-        let arena = generator::arena(seed, index);
-        let (expected, call) = judge(&arena, &mut histogram);
-        let mut pattern = Random::new(!seed, index);
-        let difference = difference(&arena, &expected, call, &mut pattern);
-        if let Some(difference) = difference {
+        let arena = source(seed, index);
+        let mut random = Random::new(!seed, index);
+        let case = judge(&arena, &mut random, &mut histogram);
+        if let Some(difference) = difference(&arena, &case, &mut random) {
             println!("seed {seed}, index {index}: {difference}");
+            println!("asked beside the tables: {:?}", case.asked);
             print::arena(&arena);
-            println!("{} arenas, then a difference", index + 1);
+            println!("{} cases, then a difference", index + 1);
             return false;
         }
     }
     histogram.print();
-    println!("{} arenas, 0 differences", histogram.arenas);
+    println!("{count} cases, 0 differences");
     true
 }
 
-/// Lends rows with a pattern in them; the port must leave all of it but what
+/// Lends words with a pattern in them; the port must leave all of it but what
 /// it owes.
-fn difference(
-    arena: &Arena,
-    expected: &Expected,
-    call: Call,
-    pattern: &mut Random,
-) -> Option<String> {
-    let lent = MARGIN..MARGIN + arena.rows_len;
-    let whole = arena.rows_len + 2 * MARGIN;
-    let mut words: Vec<u32> = (0..whole).map(|_| pattern.word()).collect();
-    let owed = owed_words(&words, arena, expected);
-    let before: [u32; 12] = std::array::from_fn(|_| pattern.word());
-    let mut answer = before;
-    call(&mut words[lent], &mut answer[4..8]);
-    if answer[4..8] != expected.answer {
-        return Some(format!(
-            "the port answers {:?}, the reference {:?}",
-            &answer[4..8],
-            expected.answer
-        ));
+fn difference(arena: &Arena, case: &Case, pattern: &mut Random) -> Option<String> {
+    let expected = &case.expected;
+    let mut rows = Guarded::new(arena.rows_len, pattern, Random::word);
+    let mut output = Guarded::new(expected.output.len(), pattern, Random::next);
+    let mut answer = Guarded::new(expected.answer.len(), pattern, Random::word);
+    (case.call)(Lent {
+        rows: rows.lend(),
+        output: output.lend(),
+        answer: answer.lend(),
+    });
+    if answer.now() != expected.answer {
+        return Some(two("answer", answer.now(), &expected.answer));
     }
-    if answer[..4] != before[..4] || answer[8..] != before[8..] {
-        return Some("words beside the answer are touched".to_string());
+    if output.now() != expected.output {
+        return Some(two("output", output.now(), &expected.output));
     }
+    if answer.margins_are_touched() || output.margins_are_touched() {
+        return Some("words beside the answer or the output are touched".to_string());
+    }
+    if rows.margins_are_touched() {
+        return Some("words beside the lent rows are touched".to_string());
+    }
+    row_difference(&rows, arena, expected)
+}
+
+fn two<W: std::fmt::Debug>(name: &str, port: &[W], reference: &[W]) -> String {
+    format!("{name} of the port {port:?}, of the reference {reference:?}")
+}
+
+fn row_difference(rows: &Guarded<u32>, arena: &Arena, expected: &Expected) -> Option<String> {
+    let owed = owed_words(rows.before(), arena, expected);
+    let words = rows.now();
     let at = words
         .iter()
         .zip(&owed)
         .position(|(word, owed)| word != owed)?;
-    Some(row_difference(at, &words, &owed, arena))
+    let row = at / ROW_WORDS;
+    if row >= arena.type_count() {
+        return Some(format!("word {at} of the lent rows is touched"));
+    }
+    let part = ROW_WORDS * row..words.len().min(ROW_WORDS * (row + 1));
+    let name = format!("row {row}");
+    Some(two(&name, &words[part.clone()], &owed[part]))
 }
 
 fn owed_words(before: &[u32], arena: &Arena, expected: &Expected) -> Vec<u32> {
@@ -144,25 +148,10 @@ fn owed_words(before: &[u32], arena: &Arena, expected: &Expected) -> Vec<u32> {
     if expected.answer == WRONG_LENGTH {
         return owed;
     }
-    let rows = &mut owed[MARGIN..MARGIN + ROW_WORDS * arena.type_count()];
+    let rows = &mut owed[..ROW_WORDS * arena.type_count()];
     match &expected.rows {
         None => rows.fill(0),
         Some(expected) => rows.copy_from_slice(expected.as_flattened()),
     }
     owed
-}
-
-fn row_difference(at: usize, words: &[u32], owed: &[u32], arena: &Arena) -> String {
-    let row = at.saturating_sub(MARGIN) / ROW_WORDS;
-    if at < MARGIN || row >= arena.type_count() {
-        let place = at as i64 - MARGIN as i64;
-        return format!("word {place} of the lent rows is touched");
-    }
-    let start = MARGIN + ROW_WORDS * row;
-    let end = words.len().min(start + ROW_WORDS);
-    format!(
-        "row {row} of the port {:?}, of the reference {:?}",
-        &words[start..end],
-        &owed[start..end]
-    )
 }

@@ -22,6 +22,59 @@ pub fn arena(seed: u64, index: u64) -> Arena {
     arena
 }
 
+/// For calls that go on when the arena is judged: mostly sound and small.
+pub fn mostly_sound(seed: u64, index: u64) -> Arena {
+    let random = &mut Random::new(seed, index);
+    match random.weighted(&[50, 28, 8, 4, 10]) {
+        0 => small(random),
+        1 => nested(random),
+        2 => build(random, 0).0,
+        3 => {
+            let mut arena = small(random);
+            damage::at_random(random, &mut arena);
+            arena
+        }
+        _ => arena(seed, index),
+    }
+}
+
+/// A sound arena whose structs mostly fit in the immediates.
+fn small(random: &mut Random) -> Arena {
+    let (plain, composite) = (random.between(2, 10), random.below(5));
+    let largest_member = random.pick(&[8, 16, 32, 64]);
+    let mut builder = Builder::new(random);
+    builder.usual_members = 5;
+    builder.largest_member = largest_member;
+    if builder.random.one_in(12) {
+        builder.far_and_empty();
+    }
+    grown(builder, plain, composite)
+}
+
+/// A sound arena with arrays and structs in one another.
+fn nested(random: &mut Random) -> Arena {
+    let (plain, composite) = (random.between(1, 4), random.between(4, 16));
+    let mut builder = Builder::new(random);
+    builder.usual_members = 3;
+    grown(builder, plain, composite)
+}
+
+/// So many types of any kind, then so many arrays and structs.
+fn grown(mut builder: Builder, plain: u32, composite: u32) -> Arena {
+    for _ in 0..plain {
+        builder.grow();
+    }
+    for _ in 0..composite {
+        match builder.random.one_in(3) {
+            true => builder.array(),
+            false => builder.structure(),
+        };
+    }
+    let (mut arena, random) = builder.into_arena();
+    complete(random, &mut arena);
+    arena
+}
+
 /// A sound arena, with the records that the number wants somewhere in it.
 fn build(random: &mut Random, number: u32) -> (Arena, Finish) {
     let large = random.one_in(500);
@@ -40,19 +93,19 @@ fn build(random: &mut Random, number: u32) -> (Arena, Finish) {
     for _ in 0..after {
         builder.grow();
     }
-    let mut arena = Arena {
-        capabilities: builder.needed,
-        types: builder.types,
-        members: builder.members,
-        rows_len: 0,
-    };
+    let (mut arena, random) = builder.into_arena();
     if large {
         cut_to_limits(random, &mut arena);
     }
-    add_capabilities(random, &mut arena);
-    add_unused_members(random, &mut arena);
-    arena.rows_len = ROW_WORDS * arena.type_count() + spare_words(random);
+    complete(random, &mut arena);
     (arena, finish)
+}
+
+/// What stands beside the records that the builder made.
+fn complete(random: &mut Random, arena: &mut Arena) {
+    add_capabilities(random, arena);
+    add_unused_members(random, arena);
+    arena.rows_len = ROW_WORDS * arena.type_count() + spare_words(random);
 }
 
 /// How many types stand before and after a recipe's.
@@ -100,4 +153,20 @@ fn spare_words(random: &mut Random) -> usize {
         0 => random.between(1, 40) as usize,
         _ => 0,
     }
+}
+
+/// A number that is no type of the arena.
+pub fn number_outside(random: &mut Random, count: u32) -> u32 {
+    // Six times this number wraps in 32 bits.
+    let wraps = (u64::from(u32::MAX) + 1).div_ceil(TYPE_WORDS as u64) as u32;
+    let later = count.saturating_add(random.below(5));
+    random.pick(&[
+        count,
+        later,
+        wraps,
+        wraps + later,
+        1 << 31,
+        u32::MAX - 1,
+        u32::MAX,
+    ])
 }

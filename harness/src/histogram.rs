@@ -6,7 +6,7 @@ use std::fmt::Display;
 
 #[derive(Default)]
 pub struct Histogram {
-    pub arenas: u64,
+    notes: BTreeMap<String, u64>,
     numbers: BTreeMap<u32, u64>,
     details_of_8: BTreeMap<u32, u64>,
     panic_sites: BTreeMap<String, u64>,
@@ -20,11 +20,22 @@ pub struct Histogram {
 
 impl Histogram {
     pub fn count_answer(&mut self, answer: Answer) {
-        self.arenas += 1;
         count(&mut self.numbers, answer[0]);
         if answer[0] == 8 {
             count(&mut self.details_of_8, answer[3]);
         }
+    }
+
+    /// Something worth a number of its own.
+    pub fn note(&mut self, what: &str) {
+        match self.notes.get_mut(what) {
+            Some(count) => *count += 1,
+            None => drop(self.notes.insert(what.to_string(), 1)),
+        }
+    }
+
+    pub fn noted(&self, what: &str) -> u64 {
+        self.notes.get(what).copied().unwrap_or(0)
     }
 
     pub fn count_panic(&mut self, site: &Option<String>) {
@@ -55,10 +66,15 @@ impl Histogram {
         print_counts("panics of 21", &self.panic_sites);
         print_counts("kinds in accepted arenas", &self.accepted_kinds);
         let (types, members) = (self.most_types, self.most_members);
-        println!("most types accepted: {types}, members: {members}");
+        if types > 0 {
+            println!("most types accepted: {types}, members: {members}");
+        }
         print_counts("uniform codes", &self.uniform_codes);
         print_counts("storage codes", &self.storage_codes);
         print_counts("immediates words", &self.immediates);
+        for (what, count) in &self.notes {
+            println!("{what}: {count}");
+        }
     }
 }
 

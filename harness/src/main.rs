@@ -1,31 +1,57 @@
 //! Compares the port with naga's own code; see README.md.
 
+// A build without all of the calls leaves some code unused.
+#![cfg_attr(
+    not(all(
+        feature = "check",
+        feature = "slots",
+        feature = "place",
+        feature = "members"
+    )),
+    allow(dead_code)
+)]
+
 mod builder;
 mod compare;
 mod damage;
 mod generator;
+mod growth;
+mod guarded;
 mod histogram;
+mod leaves;
 #[cfg(test)]
 mod marked;
+#[cfg(feature = "members")]
+mod member_calls;
+mod members;
 #[cfg(feature = "mock")]
 mod mock;
 mod panics;
+mod place;
+#[cfg(feature = "place")]
+mod place_calls;
 mod port;
 mod print;
 mod random;
 mod recipes;
 mod records;
 mod reference;
-#[allow(dead_code)] // compared once the port has the slot calls
+#[cfg(feature = "slots")]
+mod slot_calls;
 mod slots;
 mod tables;
+mod theorem;
 mod translate;
 mod wild;
 
 use std::process::ExitCode;
 
-const USAGE: &str = "usage: layout COUNT [SEED] | check COUNT [SEED] (feature check)
-       histogram COUNT [SEED] | show SEED INDEX";
+const USAGE: &str = "usage: layout COUNT [SEED]
+       check COUNT [SEED]                       (feature check)
+       range COUNT [SEED] | slots COUNT [SEED]  (feature slots)
+       place COUNT [SEED]                       (feature place)
+       members COUNT [SEED]                     (feature members)
+       theorem COUNT [SEED] | histogram COUNT [SEED] | show SEED INDEX";
 
 fn main() -> ExitCode {
     let words: Vec<String> = std::env::args().skip(1).collect();
@@ -41,6 +67,15 @@ fn main() -> ExitCode {
         "layout" => compare::layout(first, seed),
         #[cfg(feature = "check")]
         "check" => compare::check(first, seed),
+        #[cfg(feature = "slots")]
+        "range" => slot_calls::range(first, seed),
+        #[cfg(feature = "slots")]
+        "slots" => slot_calls::slots(first, seed),
+        #[cfg(feature = "place")]
+        "place" => place_calls::place(first, seed),
+        #[cfg(feature = "members")]
+        "members" => member_calls::members(first, seed),
+        "theorem" => theorem::theorem(first, seed),
         "histogram" => {
             compare::histogram(first, seed);
             true

@@ -1,8 +1,28 @@
 //! The reference in the port's place: the comparer must then find nothing.
 
 use crate::records::*;
-use crate::reference;
+use crate::reference::{self, Expected};
 use std::slice::{from_raw_parts, from_raw_parts_mut};
+
+/// Writes what the port owes.
+fn deliver(
+    owed: Expected,
+    types: &[u32],
+    rows: &mut [u32],
+    output: &mut [u64],
+    answer: &mut [u32],
+) {
+    answer.copy_from_slice(&owed.answer);
+    output.copy_from_slice(&owed.output);
+    if owed.answer == WRONG_LENGTH {
+        return;
+    }
+    let rows = &mut rows[..ROW_WORDS * (types.len() / TYPE_WORDS)];
+    match owed.rows {
+        None => rows.fill(0),
+        Some(owed) => rows.copy_from_slice(owed.as_flattened()),
+    }
+}
 
 #[no_mangle]
 unsafe extern "C" fn wuldazin_layout(
@@ -18,16 +38,9 @@ unsafe extern "C" fn wuldazin_layout(
     let types = from_raw_parts(types, types_len);
     let members = from_raw_parts(members, members_len);
     let rows = from_raw_parts_mut(rows, rows_len);
-    let outcome = reference::layout(types, members, rows_len);
-    from_raw_parts_mut(answer, answer_len).copy_from_slice(&outcome.answer);
-    if outcome.answer == WRONG_LENGTH {
-        return;
-    }
-    rows[..ROW_WORDS * (types_len / TYPE_WORDS)].fill(0);
-    for (i, layout) in outcome.layouts.iter().flatten().enumerate() {
-        rows[ROW_WORDS * i] = layout.0;
-        rows[ROW_WORDS * i + 1] = layout.1;
-    }
+    let answer = from_raw_parts_mut(answer, answer_len);
+    let owed = reference::layout(types, members, rows_len).into();
+    deliver(owed, types, rows, &mut [], answer);
 }
 
 #[cfg(feature = "check")]
@@ -46,14 +59,101 @@ unsafe extern "C" fn wuldazin_check(
     let types = from_raw_parts(types, types_len);
     let members = from_raw_parts(members, members_len);
     let rows = from_raw_parts_mut(rows, rows_len);
+    let answer = from_raw_parts_mut(answer, answer_len);
+    let owed = reference::check(types, members, capabilities, rows_len).into();
+    deliver(owed, types, rows, &mut [], answer);
+}
+
+#[cfg(feature = "slots")]
+#[no_mangle]
+unsafe extern "C" fn wuldazin_range(
+    offset: u32,
+    size: u32,
+    mask: *mut u64,
+    mask_len: usize,
+    answer: *mut u32,
+    answer_len: usize,
+) {
+    let mask = from_raw_parts_mut(mask, mask_len);
+    let answer = from_raw_parts_mut(answer, answer_len);
+    deliver(
+        crate::slots::range(offset, size),
+        &[],
+        &mut [],
+        mask,
+        answer,
+    );
+}
+
+#[cfg(feature = "slots")]
+#[no_mangle]
+unsafe extern "C" fn wuldazin_slots(
+    types: *const u32,
+    types_len: usize,
+    members: *const u32,
+    members_len: usize,
+    capabilities: u32,
+    rows: *mut u32,
+    rows_len: usize,
+    ty: u32,
+    offset: u32,
+    mask: *mut u64,
+    mask_len: usize,
+    answer: *mut u32,
+    answer_len: usize,
+) {
+    let types = from_raw_parts(types, types_len);
+    let members = from_raw_parts(members, members_len);
+    let rows = from_raw_parts_mut(rows, rows_len);
+    let mask = from_raw_parts_mut(mask, mask_len);
+    let answer = from_raw_parts_mut(answer, answer_len);
     let outcome = reference::check(types, members, capabilities, rows_len);
-    from_raw_parts_mut(answer, answer_len).copy_from_slice(&outcome.answer);
-    if outcome.answer == WRONG_LENGTH {
-        return;
-    }
-    let arena_rows = &mut rows[..ROW_WORDS * (types_len / TYPE_WORDS)];
-    match outcome.rows {
-        None => arena_rows.fill(0),
-        Some(rows) => arena_rows.copy_from_slice(rows.as_flattened()),
-    }
+    let owed = crate::slots::walk(outcome, ty, offset);
+    deliver(owed, types, rows, mask, answer);
+}
+
+#[cfg(feature = "place")]
+#[no_mangle]
+unsafe extern "C" fn wuldazin_place(
+    types: *const u32,
+    types_len: usize,
+    members: *const u32,
+    members_len: usize,
+    capabilities: u32,
+    rows: *mut u32,
+    rows_len: usize,
+    start: u32,
+    steps: *const u32,
+    steps_len: usize,
+    place: *mut u64,
+    place_len: usize,
+    answer: *mut u32,
+    answer_len: usize,
+) {
+    let types = from_raw_parts(types, types_len);
+    let members = from_raw_parts(members, members_len);
+    let rows = from_raw_parts_mut(rows, rows_len);
+    let steps = from_raw_parts(steps, steps_len);
+    let place = from_raw_parts_mut(place, place_len);
+    let answer = from_raw_parts_mut(answer, answer_len);
+    let outcome = reference::check(types, members, capabilities, rows_len);
+    let owed = crate::place::look_up(outcome, types, members, start, steps);
+    deliver(owed, types, rows, place, answer);
+}
+
+#[cfg(feature = "members")]
+#[no_mangle]
+unsafe extern "C" fn wuldazin_members(
+    types: *const u32,
+    types_len: usize,
+    members: *const u32,
+    members_len: usize,
+    ty: u32,
+    part: *mut u64,
+    part_len: usize,
+) {
+    let types = from_raw_parts(types, types_len);
+    let members = from_raw_parts(members, members_len);
+    let owed = crate::members::part(types, members, ty);
+    from_raw_parts_mut(part, part_len).copy_from_slice(&owed);
 }

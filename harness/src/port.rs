@@ -1,5 +1,8 @@
 //! The port, called through C: a slice is handed as a pointer and a length.
 
+use crate::compare::Lent;
+use crate::records::Arena;
+
 extern "C" {
     fn wuldazin_layout(
         types: *const u32,
@@ -23,44 +26,166 @@ extern "C" {
         answer: *mut u32,
         answer_len: usize,
     );
+    #[cfg(feature = "slots")]
+    fn wuldazin_range(
+        offset: u32,
+        size: u32,
+        mask: *mut u64,
+        mask_len: usize,
+        answer: *mut u32,
+        answer_len: usize,
+    );
+    #[cfg(feature = "slots")]
+    fn wuldazin_slots(
+        types: *const u32,
+        types_len: usize,
+        members: *const u32,
+        members_len: usize,
+        capabilities: u32,
+        rows: *mut u32,
+        rows_len: usize,
+        ty: u32,
+        offset: u32,
+        mask: *mut u64,
+        mask_len: usize,
+        answer: *mut u32,
+        answer_len: usize,
+    );
+    #[cfg(feature = "place")]
+    fn wuldazin_place(
+        types: *const u32,
+        types_len: usize,
+        members: *const u32,
+        members_len: usize,
+        capabilities: u32,
+        rows: *mut u32,
+        rows_len: usize,
+        start: u32,
+        steps: *const u32,
+        steps_len: usize,
+        place: *mut u64,
+        place_len: usize,
+        answer: *mut u32,
+        answer_len: usize,
+    );
+    #[cfg(feature = "members")]
+    fn wuldazin_members(
+        types: *const u32,
+        types_len: usize,
+        members: *const u32,
+        members_len: usize,
+        ty: u32,
+        part: *mut u64,
+        part_len: usize,
+    );
 }
 
-pub fn layout(types: &[u32], members: &[u32], rows: &mut [u32], answer: &mut [u32]) {
+pub fn layout(arena: &Arena, lent: Lent) {
     // The pointers and lengths are those of live slices, as the port's are.
     unsafe {
         wuldazin_layout(
-            types.as_ptr(),
-            types.len(),
-            members.as_ptr(),
-            members.len(),
-            rows.as_mut_ptr(),
-            rows.len(),
-            answer.as_mut_ptr(),
-            answer.len(),
+            arena.types.as_ptr(),
+            arena.types.len(),
+            arena.members.as_ptr(),
+            arena.members.len(),
+            lent.rows.as_mut_ptr(),
+            lent.rows.len(),
+            lent.answer.as_mut_ptr(),
+            lent.answer.len(),
         )
     }
 }
 
 #[cfg(feature = "check")]
-pub fn check(
-    types: &[u32],
-    members: &[u32],
-    capabilities: u32,
-    rows: &mut [u32],
-    answer: &mut [u32],
-) {
+pub fn check(arena: &Arena, lent: Lent) {
     // As above.
     unsafe {
         wuldazin_check(
+            arena.types.as_ptr(),
+            arena.types.len(),
+            arena.members.as_ptr(),
+            arena.members.len(),
+            arena.capabilities,
+            lent.rows.as_mut_ptr(),
+            lent.rows.len(),
+            lent.answer.as_mut_ptr(),
+            lent.answer.len(),
+        )
+    }
+}
+
+#[cfg(feature = "slots")]
+pub fn range(offset: u32, size: u32, lent: Lent) {
+    // As above.
+    unsafe {
+        wuldazin_range(
+            offset,
+            size,
+            lent.output.as_mut_ptr(),
+            lent.output.len(),
+            lent.answer.as_mut_ptr(),
+            lent.answer.len(),
+        )
+    }
+}
+
+#[cfg(feature = "slots")]
+pub fn slots(arena: &Arena, ty: u32, offset: u32, lent: Lent) {
+    // As above.
+    unsafe {
+        wuldazin_slots(
+            arena.types.as_ptr(),
+            arena.types.len(),
+            arena.members.as_ptr(),
+            arena.members.len(),
+            arena.capabilities,
+            lent.rows.as_mut_ptr(),
+            lent.rows.len(),
+            ty,
+            offset,
+            lent.output.as_mut_ptr(),
+            lent.output.len(),
+            lent.answer.as_mut_ptr(),
+            lent.answer.len(),
+        )
+    }
+}
+
+#[cfg(feature = "place")]
+pub fn place(arena: &Arena, start: u32, steps: &[u32], lent: Lent) {
+    // As above.
+    unsafe {
+        wuldazin_place(
+            arena.types.as_ptr(),
+            arena.types.len(),
+            arena.members.as_ptr(),
+            arena.members.len(),
+            arena.capabilities,
+            lent.rows.as_mut_ptr(),
+            lent.rows.len(),
+            start,
+            steps.as_ptr(),
+            steps.len(),
+            lent.output.as_mut_ptr(),
+            lent.output.len(),
+            lent.answer.as_mut_ptr(),
+            lent.answer.len(),
+        )
+    }
+}
+
+#[cfg(feature = "members")]
+pub fn members(types: &[u32], members: &[u32], ty: u32, part: &mut [u64]) {
+    // As above.
+    unsafe {
+        wuldazin_members(
             types.as_ptr(),
             types.len(),
             members.as_ptr(),
             members.len(),
-            capabilities,
-            rows.as_mut_ptr(),
-            rows.len(),
-            answer.as_mut_ptr(),
-            answer.len(),
+            ty,
+            part.as_mut_ptr(),
+            part.len(),
         )
     }
 }

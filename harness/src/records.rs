@@ -32,6 +32,12 @@ pub type Row = [u32; ROW_WORDS];
 
 pub const ACCEPTED: Answer = [0; 4];
 pub const WRONG_LENGTH: Answer = [1, 0, 0, 0];
+/// The number for no such type or place.
+pub const NO_SUCH: u32 = 26;
+
+/// The forms of an array or a binding array.
+pub const CONSTANT: u32 = 0;
+pub const DYNAMIC: u32 = 1;
 
 /// What one call of the port is handed.
 #[derive(Clone, Default)]
@@ -49,4 +55,21 @@ impl Arena {
     pub fn member_count(&self) -> usize {
         self.members.len() / MEMBER_WORDS
     }
+    /// Type and offset of the members of a struct record, as far as the table goes.
+    pub fn rows_of<'a>(&'a self, record: &'a [u32]) -> impl Iterator<Item = (u32, u32)> + 'a {
+        let first = u64::from(record[1]);
+        let rows = first..first + u64::from(record[2]);
+        rows.map_while(|number| member_row(&self.members, number))
+    }
+}
+
+/// The record of a type number, if the table holds all of it.
+pub fn type_record(types: &[u32], number: u32) -> Option<&[u32]> {
+    types.chunks_exact(TYPE_WORDS).nth(number as usize)
+}
+
+/// Type and offset of a member row, if the table holds both.
+pub fn member_row(members: &[u32], number: u64) -> Option<(u32, u32)> {
+    let row = members.chunks_exact(MEMBER_WORDS).nth(number as usize)?;
+    Some((row[0], row[1]))
 }

@@ -18,8 +18,45 @@ pub struct LayoutOutcome {
 pub struct Outcome {
     pub answer: Answer,
     pub rows: Option<Vec<Row>>,
+    /// The arena, if it is accepted: only then may it be walked.
+    pub arena: Option<UniqueArena<Type>>,
     /// Where the Rust panicked, for number 21.
     pub panic_site: Option<String>,
+}
+
+/// What a call owes: its answer, the rows (none: zeroes), and the words that
+/// it writes beside them.
+pub struct Expected {
+    pub answer: Answer,
+    pub rows: Option<Vec<Row>>,
+    pub output: Vec<u64>,
+}
+
+impl From<LayoutOutcome> for Expected {
+    fn from(outcome: LayoutOutcome) -> Self {
+        let layouts = outcome.layouts;
+        Self {
+            answer: outcome.answer,
+            rows: layouts.map(|layouts| layouts.into_iter().map(layout_row).collect()),
+            output: Vec::new(),
+        }
+    }
+}
+
+fn layout_row((size, alignment): (u32, u32)) -> Row {
+    let mut row = [0; ROW_WORDS];
+    row[..2].copy_from_slice(&[size, alignment]);
+    row
+}
+
+impl From<Outcome> for Expected {
+    fn from(outcome: Outcome) -> Self {
+        Self {
+            answer: outcome.answer,
+            rows: outcome.rows,
+            output: Vec::new(),
+        }
+    }
 }
 
 /// 01's capability bits, by the names that the Rust gives them.
@@ -69,11 +106,32 @@ pub fn layout(types: &[u32], members: &[u32], rows_len: usize) -> LayoutOutcome 
     }
 }
 
+/// What a call owes that judges the arena and then looks for something in it:
+/// the arena's refusal comes first, and a later one keeps the accepted rows.
+pub fn check_then(
+    outcome: Outcome,
+    output_len: usize,
+    look: impl FnOnce(&UniqueArena<Type>) -> Result<Vec<u64>, u32>,
+) -> Expected {
+    let found = outcome.arena.as_ref().map(look);
+    let (answer, output) = match found {
+        None => (outcome.answer, vec![0; output_len]),
+        Some(Ok(output)) => (ACCEPTED, output),
+        Some(Err(number)) => ([number, 0, 0, 0], vec![0; output_len]),
+    };
+    Expected {
+        answer,
+        rows: outcome.rows,
+        output,
+    }
+}
+
 /// The whole check.
 pub fn check(types: &[u32], members: &[u32], capabilities: u32, rows_len: usize) -> Outcome {
     let refused = |answer, panic_site| Outcome {
         answer,
         rows: None,
+        arena: None,
         panic_site,
     };
     if tables::lengths_are_wrong(types, members, rows_len)
@@ -90,6 +148,7 @@ pub fn check(types: &[u32], members: &[u32], capabilities: u32, rows_len: usize)
         Ok(()) => Outcome {
             answer: ACCEPTED,
             rows: Some(judge.handles().map(|h| judge.row(h)).collect()),
+            arena: Some(judge.types),
             panic_site: None,
         },
     }

@@ -6,14 +6,32 @@ ghost use Rattle.flags.specs.Flags.{bit, dataBit, sizedBit, hostShareabl
 
 // The starting flags of each kind, by its number.
 const STARTING_FLAGS: [u32; 14] = [
-    255, 255, 247, 247, 147, 134, 134, 247, 247, 160, 160, 160, 195, 146,
+    255,
+    255,
+    247,
+    247,
+    147,
+    134,
+    134,
+    247,
+    247,
+    160,
+    160,
+    160,
+    195,
+    146,
 ];
+
 const ARRAY_KIND: usize = 7;
+
 const BINDING_ARRAY_KIND: usize = 13;
+
 const BOOL: u32 = 3;
+
 const ARGUMENT: u32 = 32;
 // All flags but IO_SHAREABLE and HOST_SHAREABLE.
 const NOT_SHAREABLE: u32 = 231;
+
 const NOT_HOST_SHAREABLE: u32 = 239;
 // DATA, COPY, HOST_SHAREABLE and CREATION_RESOLVED.
 const RUNTIME_ARRAY: u32 = 149;
@@ -63,14 +81,22 @@ pub fn starting_flags(kind: usize) -> u32
 pub fn scalar_flags(scalar_kind: u32, flags: u32) -> u32
     ensures { λ r. ⌜ r ≡ scalarFlags «scalar_kind» flags ⌝ }
 {
-    if scalar_kind == BOOL { flags & NOT_SHAREABLE } else { flags }
+    if scalar_kind == BOOL {
+        flags & NOT_SHAREABLE
+    } else {
+        flags
+    }
 }
 
 // ptr_space_argument_flag.
 fn argument_flag(space: u32) -> u32
     ensures { λ r. ⌜ r ≡ argumentFlag space ⌝ }
 {
-    if (space <= 1) | (8 <= space) { ARGUMENT } else { 0 }
+    if (space <= 1) | (8 <= space) {
+        ARGUMENT
+    } else {
+        0
+    }
 }
 
 pub fn pointer_flags(space: u32, flags: u32) -> u32
@@ -95,7 +121,11 @@ pub fn runtime_array_flags(base: u32) -> u32
 pub fn binding_array_flags(form: u32, base: u32) -> u32
     ensures { λ r. ⌜ r ≡ bindingArrayFlags form base ⌝ }
 {
-    if form == 0 { base & STARTING_FLAGS[BINDING_ARRAY_KIND] } else { base & DYNAMIC_BINDING_ARRAY }
+    if form == 0 {
+        base & STARTING_FLAGS[BINDING_ARRAY_KIND]
+    } else {
+        base & DYNAMIC_BINDING_ARRAY
+    }
 }
 
 pub fn not_host_shareable(flags: u32) -> u32

@@ -1,6 +1,8 @@
 // What a line does to the arena, and its answer.
 use crate::output;
+use place::PlaceAnswer;
 use records::Outcome;
+use slots::SlotsAnswer;
 use text::Line;
 ghost use Prim.Native.Nat.{_≤_};
 ghost use lib.ListN.{length};
@@ -123,6 +125,40 @@ fn members_of(session: Session, types: &[u32], members: &[u32], out: &mut [u8], 
     with_waiting(session, output::put_members(out, session.waiting, part))
 }
 
+fn show_slots(session: Session, out: &mut [u8], answer: SlotsAnswer) -> Session {
+    let at = session.waiting;
+    match answer {
+        SlotsAnswer::Slots(mask) => with_waiting(session, output::put_slots(out, at, mask)),
+        SlotsAnswer::Refused { number, ty, member, detail } => {
+            with_waiting(session, output::put_refusal(out, at, number, ty, member, detail))
+        }
+    }
+}
+
+fn slots_of(session: Session, types: &[u32], members: &[u32], rows: &mut [u32], out: &mut [u8], ty: u32, offset: u32) -> Session {
+    let t = first_words(types, session.types);
+    let m = first_words(members, session.members);
+    show_slots(session, out, immediates::immediate_slots(t, m, session.capabilities, rows, ty, offset))
+}
+
+fn place_of(session: Session, types: &[u32], members: &[u32], rows: &mut [u32], out: &mut [u8], start: u32, steps: &[u32]) -> Session {
+    let at = session.waiting;
+    let t = first_words(types, session.types);
+    let m = first_words(members, session.members);
+    match place::lookup(t, m, session.capabilities, rows, start, steps) {
+        PlaceAnswer::Found { byte, leaf } => with_waiting(session, output::put_place(out, at, byte, leaf)),
+        PlaceAnswer::Refused { number, ty, member, detail } => {
+            with_waiting(session, output::put_refusal(out, at, number, ty, member, detail))
+        }
+    }
+}
+
+// The steps of a place, which stand after its start.
+fn steps_of(numbers: &[u32], steps: u32) -> &[u32] {
+    let end = steps as usize + 1;
+    if end <= numbers.len() { &numbers[1..end] } else { &numbers[..0] }
+}
+
 // Answers a line.
 pub fn answer(line: &[u8], session: Session, types: &mut [u32], members: &mut [u32], rows: &mut [u32], numbers: &mut [u32], out: &mut [u8]) -> Session
     requires { ⌜ 1025 ≤ length (now numbers) ⌝ }
@@ -134,9 +170,11 @@ pub fn answer(line: &[u8], session: Session, types: &mut [u32], members: &mut [u
         Line::MemberRecord { ty, offset } => add_member(session, members, out, ty, offset),
         Line::Check => check(session, types, members, rows, out),
         Line::Members(ty) => members_of(session, types, members, out, ty),
-        Line::Slots { ty: _, offset: _ } => session,
-        Line::Range { offset: _, size: _ } => session,
-        Line::Place { start: _, steps: _ } => session,
+        Line::Slots { ty, offset } => slots_of(session, types, members, rows, out, ty, offset),
+        Line::Range { offset, size } => show_slots(session, out, slots::range(offset, size)),
+        Line::Place { start, steps } => {
+            place_of(session, types, members, rows, out, start, steps_of(numbers, steps))
+        }
         Line::Clear => cleared(session),
         Line::Wrong(reason) => stop_by(session, out, reason),
     }

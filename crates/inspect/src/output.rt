@@ -88,6 +88,19 @@ pub fn put_members(out: &mut [u8], at: usize, part: &[u32]) -> usize {
     put_byte(out, end, b'\n')
 }
 
+pub fn put_slots(out: &mut [u8], at: usize, mask: u64) -> usize {
+    let a = put_text(out, at, b"slots");
+    let b = put_next(out, a, mask);
+    put_byte(out, b, b'\n')
+}
+
+pub fn put_place(out: &mut [u8], at: usize, byte: u64, leaf: u32) -> usize {
+    let a = put_text(out, at, b"place");
+    let b = put_next(out, a, byte);
+    let c = put_next(out, b, leaf as u64);
+    put_byte(out, c, b'\n')
+}
+
 fn put_usage(out: &mut [u8], at: usize, command: text::Command) -> usize {
     match command {
         text::Command::Capabilities => put_text(out, at, b"caps takes one number\n"),

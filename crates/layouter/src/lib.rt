@@ -1,5 +1,7 @@
 // Layouts: Layouter::update of naga's proc/layouter.rs, over lent rows.
-use records::{Leaf, Outcome, TypeInner};
+use records::Leaf;
+use records::Outcome;
+use records::TypeInner;
 use type_methods::Size;
 ghost use mathlib.Core.Path.{_≡_};
 ghost use Prim.Native.Nat.{ℕ, _+_, _*_, _≤_, _<_};
@@ -65,7 +67,10 @@ fn leaf_alignment(leaf: Leaf) -> Aligned
         let product = factor * width;
         Aligned::To(product)
     } else {
-        Aligned::Refused { number: 7, member: 0 }
+        Aligned::Refused {
+            number: 7,
+            member: 0,
+        }
     }
 }
 
@@ -76,7 +81,10 @@ fn base_alignment(rows: &[u32], i: u32, base: u32) -> Aligned
     if base < i {
         Aligned::To(rows::row_word(rows, base, 1))
     } else {
-        Aligned::Refused { number: 5, member: 0 }
+        Aligned::Refused {
+            number: 5,
+            member: 0,
+        }
     }
 }
 
@@ -89,7 +97,10 @@ fn members_alignment(rows: &[u32], i: u32, part: &[u32], count: u32) -> Aligned
     while j < count {
         let ty = records::member_type(part, j);
         if i <= ty {
-            return Aligned::Refused { number: 6, member: j };
+            return Aligned::Refused {
+                number: 6,
+                member: j,
+            };
         }
         a = alignment::larger(a, rows::row_word(rows, ty, 1));
         j += 1;
@@ -104,7 +115,11 @@ fn alignment_of(rows: &[u32], i: u32, inner: TypeInner, part: &[u32]) -> Aligned
 {
     match inner {
         TypeInner::Plain(leaf) => leaf_alignment(leaf),
-        TypeInner::Array { base, count: _, stride: _ } => base_alignment(rows, i, base),
+        TypeInner::Array {
+            base,
+            count: _,
+            stride: _,
+        } => base_alignment(rows, i, base),
         TypeInner::RuntimeArray { base, stride: _ } => base_alignment(rows, i, base),
         TypeInner::Struct { count, span: _ } => members_alignment(rows, i, part, count),
         TypeInner::Other(_) => Aligned::To(1),
@@ -121,7 +136,10 @@ fn layout_of(rows: &[u32], i: u32, inner: TypeInner, part: &[u32]) -> Laid
             Aligned::To(alignment) => Laid::Layout(TypeLayout { size, alignment }),
             Aligned::Refused { number, member } => Laid::Refused { number, member },
         },
-        Size::TooLarge => Laid::Refused { number: 4, member: 0 },
+        Size::TooLarge => Laid::Refused {
+            number: 4,
+            member: 0,
+        },
     }
 }
 
@@ -141,7 +159,10 @@ fn layout_at(types: &[u32], members: &[u32], rows: &mut [u32], i: u32) -> Laid
             rows::put_layout(rows, at, l.size, l.alignment);
             laid
         }
-        Laid::Refused { number: _, member: _ } => laid,
+        Laid::Refused {
+            number: _,
+            member: _,
+        } => laid,
     }
 }
 
@@ -159,7 +180,12 @@ fn layout_all(types: &[u32], members: &[u32], rows: &mut [u32], n: u32) -> Outco
             Laid::Refused { number, member } => {
                 let words = (n as usize) * ROW_WORDS;
                 rows::clear(rows, words);
-                return Outcome::Refused { number, ty: i, member, detail: 0 };
+                return Outcome::Refused {
+                    number,
+                    ty: i,
+                    member,
+                    detail: 0,
+                };
             }
         }
         i += 1;
@@ -177,7 +203,12 @@ fn layout_tables(types: &[u32], members: &[u32], rows: &mut [u32], n: u32) -> Ou
     let found = records::records_ok(types, members, n);
     match found {
         Outcome::Accepted => layout_all(types, members, rows, n),
-        Outcome::Refused { number: _, ty: _, member: _, detail: _ } => {
+        Outcome::Refused {
+            number: _,
+            ty: _,
+            member: _,
+            detail: _,
+        } => {
             let words = (n as usize) * ROW_WORDS;
             rows::clear(rows, words);
             found
@@ -194,5 +225,10 @@ pub fn layout(types: &[u32], members: &[u32], rows: &mut [u32]) -> Outcome
         let n = (types.len() / 6) as u32;
         return layout_tables(types, members, rows, n);
     }
-    Outcome::Refused { number: 1, ty: 0, member: 0, detail: 0 }
+    Outcome::Refused {
+        number: 1,
+        ty: 0,
+        member: 0,
+        detail: 0,
+    }
 }

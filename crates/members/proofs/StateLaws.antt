@@ -44,7 +44,7 @@ module _ (inner : ℕ → TypeInner) (rows : ℕ → Row) (i count span : ℕ) (
   -- one member more
   pub state-step : (j : ℕ) (s : State) → stateAfter inner rows i count span part j ≡ ok s
       → stateAfter inner rows i count span part (suc j)
-        ≡ memberStep i count span j (memberType part j) (memberOffset part j) (inner (memberType part j)) (rows (memberType part j)) s
+      ≡ memberStep i count span j (memberType part j) (memberOffset part j) (inner (memberType part j)) (rows (memberType part j)) s
   unfolding stateAfter memberStep boundsAfter uniformAfter storageAfter immediatesAfter previousOf
   state-step j s e = go (boundsAfter inner rows count span part j) refl e
     where
@@ -60,7 +60,7 @@ module _ (inner : ℕ → TypeInner) (rows : ℕ → Row) (i count span : ℕ) (
 
       go : (o : Result Bounds) → boundsAfter inner rows count span part j ≡ o → andThen o (λ b. ok (taken j b)) ≡ ok s
           → stateAfter inner rows i count span part (suc j)
-            ≡ memberStep i count span j (memberType part j) (memberOffset part j) (inner (memberType part j)) (rows (memberType part j)) s
+          ≡ memberStep i count span j (memberType part j) (memberOffset part j) (inner (memberType part j)) (rows (memberType part j)) s
       go (err n m d) p q = let z : _≡_ {A = ℕ} 0 1 = cc in absurd (omega arith)
       go (ok b) p q = let t : _≡_ {A = State} (taken j b) s = cc in rw (p, ← t) refl
 

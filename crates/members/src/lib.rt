@@ -1,6 +1,9 @@
 // The members of a struct, one after the other: the member loop of validate_type in naga's valid/type.rs.
 use records::TypeInner;
-use type_info::{Distance, Previous, Row, Verdict};
+use type_info::Distance;
+use type_info::Previous;
+use type_info::Row;
+use type_info::Verdict;
 ghost use mathlib.Core.Path.{_≡_};
 ghost use mathlib.Core.Bool.{_&&_, _||_};
 ghost use Prim.Native.Nat.{ℕ, suc, _+_, _≤_};
@@ -43,8 +46,11 @@ pub enum Members {
 }
 
 const MIN_UNIFORM: u32 = 16;
+
 const MIN_STORAGE: u32 = 1;
+
 const STRUCT_KIND: usize = 8;
+
 const MOST: u64 = 4294967295;
 
 pub fn struct_at(inner: TypeInner, offset: u32) -> Previous
@@ -52,7 +58,11 @@ pub fn struct_at(inner: TypeInner, offset: u32) -> Previous
 {
     match inner {
         TypeInner::Plain(_) => Previous::NoStruct,
-        TypeInner::Array { base: _, count: _, stride: _ } => Previous::NoStruct,
+        TypeInner::Array {
+            base: _,
+            count: _,
+            stride: _,
+        } => Previous::NoStruct,
         TypeInner::RuntimeArray { base: _, stride: _ } => Previous::NoStruct,
         TypeInner::Struct { count: _, span } => Previous::StructBefore { span, offset },
         TypeInner::Other(_) => Previous::NoStruct,
@@ -64,7 +74,11 @@ fn is_array(inner: TypeInner) -> bool
 {
     match inner {
         TypeInner::Plain(_) => false,
-        TypeInner::Array { base: _, count: _, stride: _ } => true,
+        TypeInner::Array {
+            base: _,
+            count: _,
+            stride: _,
+        } => true,
         TypeInner::RuntimeArray { base: _, stride: _ } => true,
         TypeInner::Struct { count: _, span: _ } => false,
         TypeInner::Other(_) => false,
@@ -90,7 +104,11 @@ fn is_member_sized(flags: u32, inner: TypeInner, j: u32, count: u32) -> bool
 fn member_flags(end: u32, offset: u32, flags: u32) -> u32
     ensures { λ r. ⌜ r ≡ memberFlags end offset flags ⌝ }
 {
-    if end <= offset { flags } else { flags::not_host_shareable(flags) }
+    if end <= offset {
+        flags
+    } else {
+        flags::not_host_shareable(flags)
+    }
 }
 
 fn is_apart(end: u32, offset: u32) -> bool
@@ -110,7 +128,16 @@ fn is_within(d: Distance) -> bool
 }
 
 // Numbers 17 to 21 in the Rust's order; else the running end and the flags after this member.
-fn member_bounds(count: u32, span: u32, within: bool, inner: TypeInner, offset: u32, j: u32, row: Row, so_far: Bounds) -> Bounded
+fn member_bounds(
+    count: u32,
+    span: u32,
+    within: bool,
+    inner: TypeInner,
+    offset: u32,
+    j: u32,
+    row: Row,
+    so_far: Bounds,
+) -> Bounded
     ensures { λ r. ⌜ boundedResult j r ≡ boundsBy count span within inner offset j row «so_far» ⌝ }
 {
     let size = row.size;
@@ -140,7 +167,15 @@ fn member_bounds(count: u32, span: u32, within: bool, inner: TypeInner, offset: 
 }
 
 // The uniform verdict after this member.
-fn uniform_of(d: Distance, i: u32, j: u32, t: u32, offset: u32, row: Row, so_far: Verdict) -> Verdict
+fn uniform_of(
+    d: Distance,
+    i: u32,
+    j: u32,
+    t: u32,
+    offset: u32,
+    row: Row,
+    so_far: Verdict,
+) -> Verdict
     ensures { λ r. ⌜ r ≡ uniformBy d i j t offset row «so_far» ⌝ }
 {
     let own = row.uniform;
@@ -168,7 +203,17 @@ fn immediates_of(row: Row, so_far: u32) -> u32
 }
 
 // One member of type t, in 01's order.
-fn member(i: u32, count: u32, span: u32, j: u32, t: u32, offset: u32, inner: TypeInner, row: Row, state: State) -> Stepped
+fn member(
+    i: u32,
+    count: u32,
+    span: u32,
+    j: u32,
+    t: u32,
+    offset: u32,
+    inner: TypeInner,
+    row: Row,
+    state: State,
+) -> Stepped
     ensures { λ r. ⌜ steppedResult j r ≡ memberStep i count span j t offset inner row state ⌝ }
 {
     let so_far = state.bounds;
@@ -183,7 +228,13 @@ fn member(i: u32, count: u32, span: u32, j: u32, t: u32, offset: u32, inner: Typ
             let storage = storage_of(i, j, t, offset, row, storage_so_far);
             let immediates = immediates_of(row, immediates_so_far);
             let next = struct_at(inner, offset);
-            Stepped::Took(State { bounds, uniform, storage, immediates, previous: next })
+            Stepped::Took(State {
+                bounds,
+                uniform,
+                storage,
+                immediates,
+                previous: next,
+            })
         }
         Bounded::Refused(number) => Stepped::Refused(number),
     }
@@ -197,11 +248,24 @@ fn start() -> State
     let uniform = type_info::ok_verdict(MIN_UNIFORM);
     let storage = type_info::ok_verdict(MIN_STORAGE);
     let bounds = Bounds { end: 0, flags };
-    State { bounds, uniform, storage, immediates: 0, previous: Previous::NoStruct }
+    State {
+        bounds,
+        uniform,
+        storage,
+        immediates: 0,
+        previous: Previous::NoStruct,
+    }
 }
 
 // All members of struct i, whose rows are in part; rows has those of the types before it.
-pub fn members_of(types: &[u32], rows: &[u32], i: u32, part: &[u32], count: u32, span: u32) -> Members
+pub fn members_of(
+    types: &[u32],
+    rows: &[u32],
+    i: u32,
+    part: &[u32],
+    count: u32,
+    span: u32,
+) -> Members
     ensures { λ r. ⌜ membersResult r ≡ stateAfter (typeInner (now (types .entry))) (rowsIn (now (rows .entry))) i count span (now (part .entry)) count ⌝ }
 {
     let mut state = start();

@@ -4,3 +4,6 @@ pub mod StepLaws
 pub mod KeptLaws
 pub mod Term3Proof
 pub mod Instance
+pub mod ByteLaws
+pub mod LookupLaws
+pub mod StridesMatter

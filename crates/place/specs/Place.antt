@@ -9,6 +9,11 @@ use Rattle.records.specs.Result.{pick}
 use Rattle.records.specs.Record.{typeCount, memberType, memberOffset, Decoded, decoded}
 use Rattle.records.specs.declared.TypeInner.{TypeInner}
 use Rattle.records.specs.declared.TypeInner.the-variants.{Plain, Array, RuntimeArray, Struct, Other}
+use Rattle.records.specs.declared.Outcome.{Outcome}
+use Rattle.records.specs.declared.Outcome.the-variants as outcome
+use Rattle.valid.specs.Arena.{arenaAnswer}
+use Rattle.place.specs.declared.PlaceAnswer.{PlaceAnswer}
+use Rattle.place.specs.declared.PlaceAnswer.the-variants as answer
 use Rattle.place.specs.declared.Step.{Step}
 use Rattle.place.specs.declared.Step.the-variants.{To, NoStep}
 use Rattle.place.specs.declared.Place.{Place}
@@ -53,3 +58,15 @@ placeIn types = walk (stepIn types) (leafIn types)
 -- at first the start and 0. Another start, or steps too few, too many or out of range, is no place
 unfoldable pub placeOf : (ts ms : List ℕ) → (start : ℕ) → (steps : List ℕ) → Place
 placeOf ts ms start steps = pick (ltb start (typeCount ts)) (placeIn (decoded ts ms) start 0 steps) NoPlace
+
+-- ---- the call: the arena's refusal is passed on; no place is 26, which carries zeros only
+abbrev pub placeAnswer : Place → PlaceAnswer
+placeAnswer (At byte leaf) = answer.Found byte leaf
+placeAnswer NoPlace = answer.Refused 26 0 0 0
+
+abbrev pub startAnswer : (ts ms : List ℕ) (start : ℕ) (steps : List ℕ) → Outcome → PlaceAnswer
+startAnswer ts ms start steps outcome.Accepted = placeAnswer (placeOf ts ms start steps)
+startAnswer ts ms start steps (outcome.Refused number ty member detail) = answer.Refused number ty member detail
+
+unfoldable pub lookupAnswer : (c : ℕ) (ts ms rows : List ℕ) (start : ℕ) (steps : List ℕ) → PlaceAnswer
+lookupAnswer c ts ms rows start steps = startAnswer ts ms start steps (arenaAnswer c ts ms rows)

@@ -102,6 +102,6 @@ pub record Term3 : Type 0 where
   pub kept : (c d : ℕ) → Adds c d → (ts ms ts′ ms′ : List ℕ) → arena c ts ms ≡ Accepted → arena d (ts ++ ts′) (ms ++ ms′) ≡ Accepted
       → (t : ℕ) → t < typeCount ts
       → (rowIn c ts ms t .size ≡ rowIn d (ts ++ ts′) (ms ++ ms′) t .size)
-        × (rowIn c ts ms t .flags ≡ rowIn d (ts ++ ts′) (ms ++ ms′) t .flags)
-        × (rowIn c ts ms t .storage ≡ rowIn d (ts ++ ts′) (ms ++ ms′) t .storage)
-        × ((steps : List ℕ) → placeOf ts ms t steps ≡ placeOf (ts ++ ts′) (ms ++ ms′) t steps)
+      × (rowIn c ts ms t .flags ≡ rowIn d (ts ++ ts′) (ms ++ ms′) t .flags)
+      × (rowIn c ts ms t .storage ≡ rowIn d (ts ++ ts′) (ms ++ ms′) t .storage)
+      × ((steps : List ℕ) → placeOf ts ms t steps ≡ placeOf (ts ++ ts′) (ms ++ ms′) t steps)

@@ -48,14 +48,21 @@ pub enum Outcome {
 }
 
 const TYPE_WORDS: usize = 6;
+
 const MEMBER_WORDS: usize = 2;
+
 const ROW_WORDS: usize = 14;
+
 const MOST_TYPES: usize = 1024;
+
 const MOST_MEMBERS: usize = 4096;
 // Bits 0 to 12.
 const ALL_CAPABILITIES: u32 = 8191;
+
 const STRUCT_KIND: u32 = 8;
+
 const POINTER_KIND: u32 = 5;
+
 const BINDING_ARRAY_KIND: u32 = 13;
 
 // A word of a table; 0 past it.
@@ -105,7 +112,11 @@ fn inner_of(kind: u32, a: u32, b: u32, c: u32, d: u32, e: u32) -> TypeInner
         6 => TypeInner::Other(NonData::ValuePointer(a, b, c)),
         7 => {
             if b == 0 {
-                TypeInner::Array { base: a, count: c, stride: d }
+                TypeInner::Array {
+                    base: a,
+                    count: c,
+                    stride: d,
+                }
             } else {
                 TypeInner::RuntimeArray { base: a, stride: d }
             }
@@ -220,10 +231,20 @@ fn record_at(types: &[u32], members: &[u32], i: u32) -> Outcome
         if base_within(types.len() / TYPE_WORDS, kind, a) {
             Outcome::Accepted
         } else {
-            Outcome::Refused { number: 3, ty: i, member: 0, detail: 0 }
+            Outcome::Refused {
+                number: 3,
+                ty: i,
+                member: 0,
+                detail: 0,
+            }
         }
     } else {
-        Outcome::Refused { number: 2, ty: i, member: 0, detail: 0 }
+        Outcome::Refused {
+            number: 2,
+            ty: i,
+            member: 0,
+            detail: 0,
+        }
     }
 }
 
@@ -236,7 +257,12 @@ pub fn records_ok(types: &[u32], members: &[u32], n: u32) -> Outcome
         let found = record_at(types, members, i);
         match found {
             Outcome::Accepted => {}
-            Outcome::Refused { number: _, ty: _, member: _, detail: _ } => {
+            Outcome::Refused {
+                number: _,
+                ty: _,
+                member: _,
+                detail: _,
+            } => {
                 return found;
             }
         }

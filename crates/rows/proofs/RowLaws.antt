@@ -21,8 +21,8 @@ module _ (words row : List ℕ) (at : ℕ) (whole : length row ≡ rowWords) (ro
   behind : (k : ℕ) → drop (at + rowWords + k) (withRow words at row) ≡ drop (at + rowWords + k) words
   behind k =
       ap (λ (m : ℕ). drop (m + k) (withRow words at row)) (sym front)
-          ∙ drop-append-add (take at words ++ row) (drop (at + rowWords) words) k
-          ∙ drop-drop k (at + rowWords) words
+      ∙ drop-append-add (take at words ++ row) (drop (at + rowWords) words) k
+      ∙ drop-drop k (at + rowWords) words
 
   pub drop-row : (m : ℕ) → at + rowWords ≤ m → drop m (withRow words at row) ≡ drop m words
   drop-row m h =

@@ -41,6 +41,7 @@ pub enum Distance {
 }
 
 const MIN_UNIFORM: u32 = 16;
+
 const MOST: u64 = 4294967295;
 
 // The verdict in words j to j + 4 of row k.
@@ -53,7 +54,13 @@ fn verdict_at(rows: &[u32], k: u32, j: u32) -> Verdict
     let index = rows::row_word(rows, k, j + 2);
     let value = rows::row_word(rows, k, j + 3);
     let bound = rows::row_word(rows, k, j + 4);
-    Verdict { code, ty, index, value, bound }
+    Verdict {
+        code,
+        ty,
+        index,
+        value,
+        bound,
+    }
 }
 
 // Row k; zeros past the rows.
@@ -66,7 +73,14 @@ pub fn row_at(rows: &[u32], k: u32) -> Row
     let uniform = verdict_at(rows, k, 3);
     let storage = verdict_at(rows, k, 8);
     let immediates = rows::row_word(rows, k, 13);
-    Row { size, alignment, flags, uniform, storage, immediates }
+    Row {
+        size,
+        alignment,
+        flags,
+        uniform,
+        storage,
+        immediates,
+    }
 }
 
 // Writes a row from `at` on.
@@ -77,8 +91,20 @@ pub fn put(rows: &mut [u32], at: usize, row: Row)
     let u = row.uniform;
     let s = row.storage;
     let words = [
-        row.size, row.alignment, row.flags, u.code, u.ty, u.index, u.value, u.bound, s.code, s.ty,
-        s.index, s.value, s.bound, row.immediates,
+        row.size,
+        row.alignment,
+        row.flags,
+        u.code,
+        u.ty,
+        u.index,
+        u.value,
+        u.bound,
+        s.code,
+        s.ty,
+        s.index,
+        s.value,
+        s.bound,
+        row.immediates,
     ];
     rows::put_row(rows, at, &words);
 }
@@ -86,7 +112,13 @@ pub fn put(rows: &mut [u32], at: usize, row: Row)
 pub fn ok_verdict(alignment: u32) -> Verdict
     ensures { λ r. ⌜ r ≡ okVerdict alignment ⌝ }
 {
-    Verdict { code: 0, ty: alignment, index: 0, value: 0, bound: 0 }
+    Verdict {
+        code: 0,
+        ty: alignment,
+        index: 0,
+        value: 0,
+        bound: 0,
+    }
 }
 
 // Of an array over a base with this verdict and layout alignment.
@@ -99,9 +131,21 @@ pub fn array_verdict(least: u32, i: u32, stride: u32, alignment: u32, base: Verd
     }
     let a = alignment::larger(alignment::larger(base.ty, alignment), least);
     if alignment::is_aligned(a, stride) {
-        Verdict { code: 0, ty: a, index: 0, value: 0, bound: 0 }
+        Verdict {
+            code: 0,
+            ty: a,
+            index: 0,
+            value: 0,
+            bound: 0,
+        }
     } else {
-        Verdict { code: 1, ty: i, index: 0, value: stride, bound: a }
+        Verdict {
+            code: 1,
+            ty: i,
+            index: 0,
+            value: stride,
+            bound: a,
+        }
     }
 }
 
@@ -116,7 +160,13 @@ pub fn share_verdict(shareable: bool, t: u32, so_far: Verdict) -> Verdict
     if code != 0 {
         return so_far;
     }
-    Verdict { code: 6, ty: t, index: 0, value: 0, bound: 0 }
+    Verdict {
+        code: 6,
+        ty: t,
+        index: 0,
+        value: 0,
+        bound: 0,
+    }
 }
 
 // check_member_layout: the offset against the member's own verdict alignment.
@@ -133,9 +183,21 @@ pub fn member_verdict(i: u32, j: u32, offset: u32, so_far: Verdict, member: Verd
     }
     if alignment::is_aligned(member.ty, offset) {
         let a = alignment::larger(so_far.ty, member.ty);
-        Verdict { code: 0, ty: a, index: 0, value: 0, bound: 0 }
+        Verdict {
+            code: 0,
+            ty: a,
+            index: 0,
+            value: 0,
+            bound: 0,
+        }
     } else {
-        Verdict { code: 3, ty: i, index: j, value: offset, bound: member.ty }
+        Verdict {
+            code: 3,
+            ty: i,
+            index: j,
+            value: offset,
+            bound: member.ty,
+        }
     }
 }
 
@@ -175,7 +237,13 @@ pub fn after_distance(d: Distance, i: u32, j: u32, offset: u32, so_far: Verdict)
 {
     match d {
         Distance::Enough => so_far,
-        Distance::Short(expected) => Verdict { code: 4, ty: i, index: j, value: offset, bound: expected },
+        Distance::Short(expected) => Verdict {
+            code: 4,
+            ty: i,
+            index: j,
+            value: offset,
+            bound: expected,
+        },
         Distance::Overflow => so_far,
     }
 }
@@ -191,7 +259,13 @@ pub fn unsized_verdict(sized: bool, i: u32, j: u32, so_far: Verdict) -> Verdict
     if code != 0 {
         return so_far;
     }
-    Verdict { code: 5, ty: i, index: j, value: 0, bound: 0 }
+    Verdict {
+        code: 5,
+        ty: i,
+        index: j,
+        value: 0,
+        bound: 0,
+    }
 }
 
 // The span rule at the end of a struct overwrites.
@@ -201,5 +275,11 @@ pub fn span_verdict(i: u32, span: u32, alignment: u32, so_far: Verdict) -> Verdi
     if alignment::is_aligned(alignment, span) {
         return so_far;
     }
-    Verdict { code: 2, ty: i, index: 0, value: span, bound: alignment }
+    Verdict {
+        code: 2,
+        ty: i,
+        index: 0,
+        value: span,
+        bound: alignment,
+    }
 }

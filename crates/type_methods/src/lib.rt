@@ -1,5 +1,7 @@
 // Sizes: try_size of naga's proc/type_methods.rs.
-use records::{Leaf, NonData, TypeInner};
+use records::Leaf;
+use records::NonData;
+use records::TypeInner;
 ghost use mathlib.Core.Path.{_≡_};
 ghost use Prim.Native.Nat.{_*_};
 ghost use Rattle.records.specs.Fields.{LeafBounds, InnerBounds};
@@ -74,7 +76,11 @@ pub fn try_size(inner: TypeInner) -> Size
 {
     match inner {
         TypeInner::Plain(leaf) => Size::Bytes(leaf_size(leaf)),
-        TypeInner::Array { base: _, count, stride } => array_size(count, stride),
+        TypeInner::Array {
+            base: _,
+            count,
+            stride,
+        } => array_size(count, stride),
         TypeInner::RuntimeArray { base: _, stride } => {
             if stride <= 2147483647 {
                 Size::Bytes(stride)

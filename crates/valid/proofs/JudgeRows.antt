@@ -82,11 +82,11 @@ module _ (c : ℕ) (ts ms : List ℕ) where
     unfolding layoutRows
     own-word j l =
         sym (getD-drop (i * rowWords) rows j 0)
-            ∙ ap (λ (xs : List ℕ). getD xs j 0) unchanged
-            ∙ getD-drop (i * rowWords) laid j 0
-            ∙ sym (getD-take (n * rowWords) laid (i * rowWords + j) 0 (omega arith))
-            ∙ ap (λ (xs : List ℕ). getD xs (i * rowWords + j) 0) laid-out
-            ∙ flat-word (layoutRowAt ts ms) rowWords (λ m. refl) n i j below l
+        ∙ ap (λ (xs : List ℕ). getD xs j 0) unchanged
+        ∙ getD-drop (i * rowWords) laid j 0
+        ∙ sym (getD-take (n * rowWords) laid (i * rowWords + j) 0 (omega arith))
+        ∙ ap (λ (xs : List ℕ). getD xs (i * rowWords + j) 0) laid-out
+        ∙ flat-word (layoutRowAt ts ms) rowWords (λ m. refl) n i j below l
 
     pub own-layout : layoutsIn rows i ≡ layout (decoded ts ms) i
     own-layout = λ x. record { size = own-word 0 (omega arith) x; alignment = own-word 1 (omega arith) x }
@@ -99,8 +99,8 @@ module _ (c : ℕ) (ts ms : List ℕ) where
     unfolding resultAt
     judged-at =
         one
-            ∙ ap (λ (l : TypeLayout). judge c (typeInner ts) (rowsIn (take (i * rowWords) rows)) i l (typeInner ts i) (structMembers ts ms i)) own
-            ∙ ap (λ (f : ℕ → Row). judge c (typeInner ts) f i (layout (decoded ts ms) i) (typeInner ts i) (structMembers ts ms i)) (rows-in (take (i * rowWords) rows) i so-far)
+        ∙ ap (λ (l : TypeLayout). judge c (typeInner ts) (rowsIn (take (i * rowWords) rows)) i l (typeInner ts i) (structMembers ts ms i)) own
+        ∙ ap (λ (f : ℕ → Row). judge c (typeInner ts) f i (layout (decoded ts ms) i) (typeInner ts i) (structMembers ts ms i)) (rows-in (take (i * rowWords) rows) i so-far)
 
     module _ (made : Row) (e : r ≡ judged.Made made) (rows′ : List ℕ) (w : rows′ ≡ rowsWith r (i * rowWords) rows)
         (room : i * rowWords + rowWords ≤ length rows) where

@@ -1,7 +1,10 @@
 // validate_type of naga's valid/type.rs, and the arena check.
 use layouter::TypeLayout;
 use members::Members;
-use records::{Leaf, NonData, Outcome, TypeInner};
+use records::Leaf;
+use records::NonData;
+use records::Outcome;
+use records::TypeInner;
 use type_info::Row;
 use width::Width;
 ghost use mathlib.Core.Path.{_≡_};
@@ -21,41 +24,71 @@ ghost use Rattle.valid.specs.Arena.{judgedAt, arenaRows, arenaAnswer, ar
 // The flags of a type, or its refusal.
 pub enum Flagged {
     Flags(u32),
-    Refused { number: u32, member: u32, detail: u32 },
+    Refused {
+        number: u32,
+        member: u32,
+        detail: u32,
+    },
 }
 
 pub enum Judged {
     Made(Row),
-    Refused { number: u32, member: u32, detail: u32 },
+    Refused {
+        number: u32,
+        member: u32,
+        detail: u32,
+    },
 }
 
 const ROW_WORDS: usize = 14;
+
 const MIN_UNIFORM: u32 = 16;
+
 const MIN_STORAGE: u32 = 1;
+
 const FLOAT: u32 = 2;
+
 const STORAGE_SPACE: u32 = 4;
+
 const D2: u32 = 1;
+
 const D3: u32 = 2;
+
 const CUBE: u32 = 3;
+
 const EXTERNAL: u32 = 2;
+
 const COOPERATIVE_MATRIX: u32 = 7;
+
 const CUBE_ARRAY_TEXTURES: u32 = 8;
+
 const TEXTURE_EXTERNAL: u32 = 9;
+
 const RAY_QUERY: u32 = 10;
+
 const RAY_TRACING_PIPELINE: u32 = 11;
+
 const RAY_HIT_VERTEX_POSITION: u32 = 12;
 
 fn refused(number: u32) -> Flagged
     ensures { λ r. ⌜ flaggedResult r ≡ err number 0 0 ⌝ }
 {
-    Flagged::Refused { number, member: 0, detail: 0 }
+    Flagged::Refused {
+        number,
+        member: 0,
+        detail: 0,
+    }
 }
 
 // Number 8, with the capability's bit.
 fn missing(bit: u32) -> Flagged
     ensures { λ r. ⌜ flaggedResult r ≡ err 8 0 bit ⌝ }
 {
-    Flagged::Refused { number: 8, member: 0, detail: bit }
+    Flagged::Refused {
+        number: 8,
+        member: 0,
+        detail: bit,
+    }
 }
 
 // The flags, where the width is allowed.
@@ -64,7 +97,11 @@ fn with_width(width: Width, flags: u32) -> Flagged
 {
     match width {
         Width::Allowed => Flagged::Flags(flags),
-        Width::Refused { number, detail } => Flagged::Refused { number, member: 0, detail },
+        Width::Refused { number, detail } => Flagged::Refused {
+            number,
+            member: 0,
+            detail,
+        },
     }
 }
 
@@ -106,9 +143,16 @@ fn leaf_flags(capabilities: u32, leaf: Leaf) -> Flagged
             if kind != FLOAT {
                 return refused(11);
             }
-            with_width(width::check_width(capabilities, kind, width), flags::starting_flags(2))
+            with_width(
+                width::check_width(capabilities, kind, width),
+                flags::starting_flags(2),
+            )
         }
-        Leaf::CooperativeMatrix(_, _, kind, width, _) => cooperative_flags(capabilities, kind, width),
+        Leaf::CooperativeMatrix(_, _, kind, width, _) => cooperative_flags(
+            capabilities,
+            kind,
+            width,
+        ),
         Leaf::Atomic(kind, width) => with_width(
             width::atomic_width(capabilities, kind, width),
             flags::starting_flags(4),
@@ -186,7 +230,11 @@ fn is_struct(inner: TypeInner) -> bool
 {
     match inner {
         TypeInner::Plain(_) => false,
-        TypeInner::Array { base: _, count: _, stride: _ } => false,
+        TypeInner::Array {
+            base: _,
+            count: _,
+            stride: _,
+        } => false,
         TypeInner::RuntimeArray { base: _, stride: _ } => false,
         TypeInner::Struct { count: _, span: _ } => true,
         TypeInner::Other(_) => false,
@@ -211,7 +259,11 @@ fn is_external_image(inner: TypeInner) -> bool
 {
     match inner {
         TypeInner::Plain(_) => false,
-        TypeInner::Array { base: _, count: _, stride: _ } => false,
+        TypeInner::Array {
+            base: _,
+            count: _,
+            stride: _,
+        } => false,
         TypeInner::RuntimeArray { base: _, stride: _ } => false,
         TypeInner::Struct { count: _, span: _ } => false,
         TypeInner::Other(o) => is_external(o),
@@ -244,7 +296,9 @@ fn binding_array_of(inner: TypeInner, base: u32, form: u32) -> Flagged
 fn acceleration_flags(capabilities: u32, vertex_return: u32) -> Flagged
     ensures { λ r. ⌜ flaggedResult r ≡ accelerationFlags capabilities «vertex_return» ⌝ }
 {
-    if flags::capable(capabilities, RAY_TRACING_PIPELINE) | flags::capable(capabilities, RAY_QUERY) {
+    if flags::capable(capabilities, RAY_TRACING_PIPELINE)
+        | flags::capable(capabilities, RAY_QUERY)
+    {
         return vertex_flags(capabilities, vertex_return, flags::starting_flags(11));
     }
     missing(RAY_QUERY)
@@ -261,7 +315,10 @@ fn non_data_flags(capabilities: u32, types: &[u32], rows: &[u32], o: NonData) ->
         ),
         NonData::Image(dim, arrayed, class) => image_flags(capabilities, dim, arrayed, class),
         NonData::Sampler => Flagged::Flags(flags::starting_flags(10)),
-        NonData::AccelerationStructure(vertex_return) => acceleration_flags(capabilities, vertex_return),
+        NonData::AccelerationStructure(vertex_return) => acceleration_flags(
+            capabilities,
+            vertex_return,
+        ),
         NonData::BindingArray(base, form, _) => binding_array_of(
             records::type_inner(types, base),
             rows::row_word(rows, base, 2),
@@ -319,7 +376,15 @@ fn plain_row(flagged: Flagged, layout: TypeLayout, alignment: u32, immediates: u
                 immediates,
             })
         }
-        Flagged::Refused { number, member, detail } => Judged::Refused { number, member, detail },
+        Flagged::Refused {
+            number,
+            member,
+            detail,
+        } => Judged::Refused {
+            number,
+            member,
+            detail,
+        },
     }
 }
 
@@ -335,8 +400,20 @@ fn array_row(i: u32, stride: u32, base: Row, layout: TypeLayout, flags: u32) -> 
     ensures { λ r. ⌜ judgedResult r ≡ require (isArrayBase (base .flags)) 15 0 0 (ok (arrayRow i stride base layout flags)) ⌝ }
 {
     if is_array_base(base.flags) {
-        let uniform = type_info::array_verdict(MIN_UNIFORM, i, stride, base.alignment, base.uniform);
-        let storage = type_info::array_verdict(MIN_STORAGE, i, stride, base.alignment, base.storage);
+        let uniform = type_info::array_verdict(
+            MIN_UNIFORM,
+            i,
+            stride,
+            base.alignment,
+            base.uniform,
+        );
+        let storage = type_info::array_verdict(
+            MIN_STORAGE,
+            i,
+            stride,
+            base.alignment,
+            base.storage,
+        );
         return Judged::Made(Row {
             size: layout.size,
             alignment: layout.alignment,
@@ -346,14 +423,30 @@ fn array_row(i: u32, stride: u32, base: Row, layout: TypeLayout, flags: u32) -> 
             immediates: base.immediates,
         });
     }
-    Judged::Refused { number: 15, member: 0, detail: 0 }
+    Judged::Refused {
+        number: 15,
+        member: 0,
+        detail: 0,
+    }
 }
 
-fn struct_row(types: &[u32], rows: &[u32], i: u32, layout: TypeLayout, part: &[u32], count: u32, span: u32) -> Judged
+fn struct_row(
+    types: &[u32],
+    rows: &[u32],
+    i: u32,
+    layout: TypeLayout,
+    part: &[u32],
+    count: u32,
+    span: u32,
+) -> Judged
     ensures { λ r. ⌜ judgedResult r ≡ judge 0 (typeInner (now (types .entry))) (rowsIn (now (rows .entry))) i layout (Struct count span) (now (part .entry)) ⌝ }
 {
     if count == 0 {
-        return Judged::Refused { number: 16, member: 0, detail: 0 };
+        return Judged::Refused {
+            number: 16,
+            member: 0,
+            detail: 0,
+        };
     }
     match members::members_of(types, rows, i, part, count, span) {
         Members::Taken(state) => {
@@ -369,12 +462,24 @@ fn struct_row(types: &[u32], rows: &[u32], i: u32, layout: TypeLayout, part: &[u
                 immediates: state.immediates,
             })
         }
-        Members::Refused { number, member } => Judged::Refused { number, member, detail: 0 },
+        Members::Refused { number, member } => Judged::Refused {
+            number,
+            member,
+            detail: 0,
+        },
     }
 }
 
 // The row of type i; rows has those of the types before it, part the struct's member rows.
-fn judge(capabilities: u32, types: &[u32], rows: &[u32], i: u32, layout: TypeLayout, inner: TypeInner, part: &[u32]) -> Judged
+fn judge(
+    capabilities: u32,
+    types: &[u32],
+    rows: &[u32],
+    i: u32,
+    layout: TypeLayout,
+    inner: TypeInner,
+    part: &[u32],
+) -> Judged
     requires { ⌜ InnerBounds inner ⌝ }
     ensures { λ r. ⌜ judgedResult r ≡ judge capabilities (typeInner (now (types .entry))) (rowsIn (now (rows .entry))) i layout inner (now (part .entry)) ⌝ }
 {
@@ -385,16 +490,31 @@ fn judge(capabilities: u32, types: &[u32], rows: &[u32], i: u32, layout: TypeLay
             leaf_verdict_alignment(leaf),
             leaf_immediates(leaf),
         ),
-        TypeInner::Array { base, count: _, stride } => {
+        TypeInner::Array {
+            base,
+            count: _,
+            stride,
+        } => {
             let row = type_info::row_at(rows, base);
             array_row(i, stride, row, layout, flags::array_flags(row.flags))
         }
         TypeInner::RuntimeArray { base, stride } => {
             let row = type_info::row_at(rows, base);
-            array_row(i, stride, row, layout, flags::runtime_array_flags(row.flags))
+            array_row(
+                i,
+                stride,
+                row,
+                layout,
+                flags::runtime_array_flags(row.flags),
+            )
         }
         TypeInner::Struct { count, span } => struct_row(types, rows, i, layout, part, count, span),
-        TypeInner::Other(o) => plain_row(non_data_flags(capabilities, types, rows, o), layout, 1, 0),
+        TypeInner::Other(o) => plain_row(
+            non_data_flags(capabilities, types, rows, o),
+            layout,
+            1,
+            0,
+        ),
     }
 }
 
@@ -418,7 +538,11 @@ fn judge_at(capabilities: u32, types: &[u32], members: &[u32], rows: &mut [u32],
             type_info::put(rows, at, row);
             judged
         }
-        Judged::Refused { number: _, member: _, detail: _ } => judged,
+        Judged::Refused {
+            number: _,
+            member: _,
+            detail: _,
+        } => judged,
     }
 }
 
@@ -434,10 +558,19 @@ fn judge_all(capabilities: u32, types: &[u32], members: &[u32], rows: &mut [u32]
     while i < n {
         match judge_at(capabilities, types, members, rows, i) {
             Judged::Made(_) => {}
-            Judged::Refused { number, member, detail } => {
+            Judged::Refused {
+                number,
+                member,
+                detail,
+            } => {
                 let words = (n as usize) * ROW_WORDS;
                 rows::clear(rows, words);
-                return Outcome::Refused { number, ty: i, member, detail };
+                return Outcome::Refused {
+                    number,
+                    ty: i,
+                    member,
+                    detail,
+                };
             }
         }
         i += 1;
@@ -451,7 +584,12 @@ pub fn check(types: &[u32], members: &[u32], capabilities: u32, rows: &mut [u32]
     ensures { λ _. ⌜ now (rows .exit) ≡ arenaWords capabilities (now (types .entry)) (now (members .entry)) (now (rows .entry)) ⌝ }
 {
     if !records::capabilities_known(capabilities) {
-        return Outcome::Refused { number: 1, ty: 0, member: 0, detail: 0 };
+        return Outcome::Refused {
+            number: 1,
+            ty: 0,
+            member: 0,
+            detail: 0,
+        };
     }
     let laid = layouter::layout(types, members, rows);
     match laid {
@@ -459,6 +597,11 @@ pub fn check(types: &[u32], members: &[u32], capabilities: u32, rows: &mut [u32]
             let n = (types.len() / 6) as u32;
             judge_all(capabilities, types, members, rows, n)
         }
-        Outcome::Refused { number: _, ty: _, member: _, detail: _ } => laid,
+        Outcome::Refused {
+            number: _,
+            ty: _,
+            member: _,
+            detail: _,
+        } => laid,
     }
 }

@@ -9,28 +9,48 @@ pub enum Width {
 }
 
 const FLOAT64: u32 = 0;
+
 const SHADER_FLOAT16: u32 = 1;
+
 const SHADER_INT16: u32 = 2;
+
 const SHADER_INT64: u32 = 3;
+
 const SHADER_FLOAT32_ATOMIC: u32 = 4;
+
 const SHADER_INT64_ATOMIC_MIN_MAX: u32 = 5;
+
 const SHADER_INT64_ATOMIC_ALL_OPS: u32 = 6;
+
 const UINT: u32 = 1;
+
 const FLOAT: u32 = 2;
+
 const BOOL: u32 = 3;
 
 // Allowed where the capability is there, else number 8 with its bit.
 fn with_capability(capable: bool, bit: u32) -> Width
     ensures { λ r. ⌜ widthResult r ≡ allowedWith capable bit ⌝ }
 {
-    if capable { Width::Allowed } else { Width::Refused { number: 8, detail: bit } }
+    if capable {
+        Width::Allowed
+    } else {
+        Width::Refused {
+            number: 8,
+            detail: bit,
+        }
+    }
 }
 
 // Allowed where the width is the only one left, else the number.
 fn only(right: bool, number: u32) -> Width
     ensures { λ r. ⌜ widthResult r ≡ allowedOnly right number ⌝ }
 {
-    if right { Width::Allowed } else { Width::Refused { number, detail: 0 } }
+    if right {
+        Width::Allowed
+    } else {
+        Width::Refused { number, detail: 0 }
+    }
 }
 
 fn integer_width(capabilities: u32, width: u32) -> Width
@@ -69,7 +89,10 @@ pub fn check_width(capabilities: u32, kind: u32, width: u32) -> Width
     if kind == BOOL {
         return only(width == 1, 9);
     }
-    Width::Refused { number: 10, detail: 0 }
+    Width::Refused {
+        number: 10,
+        detail: 0,
+    }
 }
 
 fn integer_atomic(capabilities: u32, width: u32) -> Width
@@ -90,9 +113,15 @@ pub fn atomic_width(capabilities: u32, kind: u32, width: u32) -> Width
         return integer_atomic(capabilities, width);
     }
     if (kind == FLOAT) & (width == 4) {
-        return with_capability(flags::capable(capabilities, SHADER_FLOAT32_ATOMIC), SHADER_FLOAT32_ATOMIC);
+        return with_capability(
+            flags::capable(capabilities, SHADER_FLOAT32_ATOMIC),
+            SHADER_FLOAT32_ATOMIC,
+        );
     }
-    Width::Refused { number: 12, detail: 0 }
+    Width::Refused {
+        number: 12,
+        detail: 0,
+    }
 }
 
 // 0, or 1 plus the scalar kind for an integer or float of width 2.

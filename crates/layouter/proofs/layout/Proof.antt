@@ -16,7 +16,7 @@ layout-tables-requires c κs = let a = c .before .before .before .before .before
 
 returns : tie.Need-returns
 unfolding layoutAnswer layoutWords
-returns c = 
+returns c =
     let fits = sym (c .before .before .before .before .before .tables-fit .ensures) ∙ c .before .before .before .before .if1 .taken in
     let answer = c .before .before .layout-tables .ensures .0 in
     (rw fits answer, rw fits (rw (← answer) (c .before .before .layout-tables .ensures .1)))

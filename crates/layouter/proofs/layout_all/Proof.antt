@@ -18,7 +18,7 @@ use Rattle.layouter.proofs.layout_all.Statement.{statement}
 use Rattle.layouter.proofs.layout_all.Tie as tie
 
 abbrev Inv-loop : tie.InvT-loop
-Inv-loop types members rows₀ n i₀ rows i = 
+Inv-loop types members rows₀ n i₀ rows i =
     (i ≤ n)
     × (firstRefusal (layoutAt (decoded types members)) i ≡ Accepted)
     × (take (i * 14) rows ≡ flat (layoutRowAt types members) i)
@@ -38,15 +38,16 @@ clear-requires : tie.Need-clear-requires Inv-loop μ-loop
 clear-requires c κs = omega (arith, c .before .before .before .before .before .before .layout-at .kept .1 .1 .0)
 
 returns : tie.Need-returns Inv-loop μ-loop
-returns c = 
+returns c =
     let la = c .before .before .before .before .before .before .before .before .before in
     let l = la .before .before .before in
     let a = l .before .before .before .before .args in
     let at = laid-at (now (a .types)) (now (a .members)) (l .loop .rows) (l .loop .i) (la .layout-at .result) (l .loop .inv .2) (la .layout-at .ensures .0) in
     let refused = rw (c .before .before .before .before .before .number .given .1) at (sym at) in
-    let same = rw (c .before .before .before .before .before .number .given .1) at (la .layout-at .ensures .1) in
-    (sym (stays (layoutAt (decoded (now (a .types)) (now (a .members)))) (l .loop .i) (l .loop .inv .1) (rw refused refl) (a .n) (la .before .before .loop-test .taken)),
-    rw (← l .loop .inv .3, ← same) (c .before .before .clear .ensures))
+    let same = rw (c .before .before .before .before .before .number .given .1) at (la .layout-at .ensures .1) in (
+      sym (stays (layoutAt (decoded (now (a .types)) (now (a .members)))) (l .loop .i) (l .loop .inv .1) (rw refused refl) (a .n) (la .before .before .loop-test .taken)),
+      rw (← l .loop .inv .3, ← same) (c .before .before .clear .ensures),
+    )
 
 loop-again : tie.Need-loop-again Inv-loop μ-loop
 loop-again c =

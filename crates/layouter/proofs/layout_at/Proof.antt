@@ -13,12 +13,12 @@ layout-of-requires : tie.Need-layout-of-requires
 layout-of-requires c κs = rw (c .before .before .type-inner .ensures) (c .before .before .before .before .before .before .pre .1)
 
 returns : tie.Need-returns
-returns c = 
+returns c =
     let answer = rw (c .before .before .before .before .before .before .before .before .before .before .type-inner .ensures, c .before .before .before .before .before .before .before .before .before .struct-members .ensures) at (c .before .before .before .before .before .before .before .layout-of .ensures) in
     (rw (c .before .before .before .before .before .laid .given .1) at answer, c .before .before .put-layout .ensures)
 
 returns-2 : tie.Need-returns-2
-returns-2 c = 
+returns-2 c =
     let answer = rw (c .before .before .before .before .before .type-inner .ensures, c .before .before .before .before .struct-members .ensures) at (c .before .before .layout-of .ensures) in
     (answer, rw (c .enum-told .given .1) refl)
 

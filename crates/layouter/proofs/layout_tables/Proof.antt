@@ -10,14 +10,14 @@ use Rattle.layouter.proofs.layout_tables.Statement.{statement}
 use Rattle.layouter.proofs.layout_tables.Tie as tie
 
 layout-all-requires : tie.Need-layout-all-requires
-layout-all-requires c κs = 
+layout-all-requires c κs =
     let a = c .before .before .before .before .before .before .before .args in
     let accepted = sym (c .before .before .before .records-ok .ensures) ∙ c .before .enum-told .given .1 in
     (omega arith, λ i h. record-bounds (now (a .types)) (now (a .members)) i (all-ok (recordAt (now (a .types)) (now (a .members))) (a .n) accepted i h .1))
 
 returns : tie.Need-returns
 unfolding layoutOutcome
-returns c = 
+returns c =
     let a = c .before .before .before .before .before .before .before .before .before .before .args in
     let n = c .before .before .before .before .before .before .before .before .before .before .pre .1 in
     let accepted = sym (c .before .before .before .before .before .before .records-ok .ensures) ∙ c .before .before .before .before .enum-told .given .1 in
@@ -25,7 +25,7 @@ returns c =
 
 returns-2 : tie.Need-returns-2
 unfolding layoutOutcome
-returns-2 c = 
+returns-2 c =
     let a = c .before .before .before .before .before .before .before .before .before .before .args in
     let n = c .before .before .before .before .before .before .before .before .before .before .pre .1 in
     let refused = sym (c .before .before .before .before .before .before .records-ok .ensures) ∙ c .before .before .before .before .enum-told2 .given .1 in

@@ -8,7 +8,7 @@ use Rattle.layouter.proofs.leaf_alignment.Statement.{statement}
 use Rattle.layouter.proofs.leaf_alignment.Tie as tie
 
 mul-product : tie.Need-mul-product
-mul-product c = 
+mul-product c =
     let l = c .before .before .before .before .args .leaf in
     let b = c .before .before .before .before .pre in
     let f : c .before .before .leaf-factor .result ≤ 16 = rw (c .before .before .leaf-factor .ensures) (leaf-factor-within l b) in

@@ -22,14 +22,14 @@ unfolding membersAlignment
 loop-holds c = (search needs, refl)
 
 returns : tie.Need-returns Inv-loop μ-loop
-returns c = 
+returns c =
     let l = c .before .before .before .loop in
     let a = c .before .before .before .before .before .before .args in
     let late = rw (c .before .member-type .ensures) at (c .if1 .taken) in
     sym (member-late (layoutsIn (now (a .rows))) (a .i) (now (a .part)) (l .j) (l .a) (l .inv .1) late (a .count) (c .before .before .loop-test .taken))
 
 loop-again : tie.Need-loop-again Inv-loop μ-loop
-loop-again c = 
+loop-again c =
     let l = c .before .before .before .before .before .loop in
     let a = c .before .before .before .before .before .before .before .before .args in
     let earlier = rw (c .before .before .before .member-type .ensures) at (c .before .before .if1 .left) in
@@ -37,7 +37,7 @@ loop-again c =
     (search needs, rw (c .larger .ensures, c .before .row-word .ensures, c .before .before .before .member-type .ensures) step)
 
 returns-2 : tie.Need-returns-2 Inv-loop μ-loop
-returns-2 c = 
+returns-2 c =
     let l = c .before .loop in
     rw (le-antisymm (l .inv .0) (c .loop-test .left)) at (sym (l .inv .1))
 

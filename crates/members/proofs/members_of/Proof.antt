@@ -25,7 +25,7 @@ unfolding stateAfter boundsAfter uniformAfter storageAfter immediatesAfter previ
 loop-holds c = (search needs, rw (c .start .ensures) refl)
 
 returns : tie.Need-returns Inv-loop μ-loop
-returns c = 
+returns c =
     let m = c .before .before .before in
     let l = c .before .before .before .before .before .before .before .before .before .loop in
     let a = c .before .before .before .before .before .before .before .before .before .before .before .before .before .before .args in
@@ -40,7 +40,7 @@ loop-less : tie.Need-loop-less Inv-loop μ-loop
 loop-less c = omega (arith, c .before .before .before .before .before .before .before .before .loop-test .taken)
 
 loop-again : tie.Need-loop-again Inv-loop μ-loop
-loop-again c = 
+loop-again c =
     let m = c .before .before .before in
     let l = c .before .before .before .before .before .before .before .before .before .loop in
     let a = c .before .before .before .before .before .before .before .before .before .before .before .before .before .before .args in
@@ -48,7 +48,7 @@ loop-again c =
     (omega (arith, c .before .before .before .before .before .before .before .before .loop-test .taken), rw add-one (rw (c .before .next .given .1) at (state-step (typeInner (now (a .types))) (rowsIn (now (a .rows))) (a .i) (a .count) (a .span) (now (a .part)) (l .j) (l .state) (l .inv .1) ∙ sym step)))
 
 returns-2 : tie.Need-returns-2 Inv-loop μ-loop
-returns-2 c = 
+returns-2 c =
     let l = c .before .loop in
     rw (le-antisymm (l .inv .0) (c .loop-test .left)) at (sym (l .inv .1))
 

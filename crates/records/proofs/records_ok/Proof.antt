@@ -22,21 +22,21 @@ loop-holds : tie.Need-loop-holds Inv-loop μ-loop
 loop-holds c = (search needs, refl)
 
 returns : tie.Need-returns Inv-loop μ-loop
-returns c = 
+returns c =
     let l = c .before .before .before .before .loop in
     let r = c .before .before .record-at in
     let a = c .before .before .before .before .before .before .before .args in
     c .enum-told2 .given .1
-        ∙ sym (stays (recordAt (now (a .types)) (now (a .members))) (l .i) (l .inv .1) (sym (r .ensures) ∙ c .enum-told2 .given .1) (a .n) (c .before .before .before .loop-test .taken))
+    ∙ sym (stays (recordAt (now (a .types)) (now (a .members))) (l .i) (l .inv .1) (sym (r .ensures) ∙ c .enum-told2 .given .1) (a .n) (c .before .before .before .loop-test .taken))
 
 loop-again : tie.Need-loop-again Inv-loop μ-loop
-loop-again c = 
+loop-again c =
     let l = c .before .before .before .before .loop in
     let r = c .before .before .record-at in
     (search needs, rw (add-one, l .inv .1) (sym (r .ensures) ∙ c .enum-told .given .1))
 
 returns-2 : tie.Need-returns-2 Inv-loop μ-loop
-returns-2 c = 
+returns-2 c =
     let l = c .before .loop in
     let end : l .i ≡ c .before .before .before .before .args .n = le-antisymm (l .inv .0) (c .loop-test .left) in
     sym (rw end at (l .inv .1))

@@ -8,18 +8,18 @@ use Rattle.records.proofs.struct_members.Statement.{statement}
 use Rattle.records.proofs.struct_members.Tie as tie
 
 returns : tie.Need-returns
-returns c = 
+returns c =
     let a = c .before .before .before .before .before .before .before .args in
     sym (members-outside (now (a .types)) (now (a .members)) (a .i) (c .before .if1 .taken))
 
 returns-2 : tie.Need-returns-2
-returns-2 c = 
+returns-2 c =
     let a = c .before .before .before .before .before .before .before .before .args in
     let kind = c .before .before .before .before .before .type-word .ensures in
     sym (members-no-struct (now (a .types)) (now (a .members)) (a .i) (c .before .before .if1 .left) (λ e. c .before .if2 .taken (kind ∙ e)))
 
 returns-3 : tie.Need-returns-3
-returns-3 c = 
+returns-3 c =
     let a = c .before .before .before .before .before .before .before .before .before .args in
     let kind = c .before .before .before .before .before .before .type-word .ensures in
     let first = c .before .before .before .before .before .type-word2 .ensures in
@@ -27,7 +27,7 @@ returns-3 c =
     sym (members-past (now (a .types)) (now (a .members)) (a .i) (c .before .before .before .if1 .left) (sym kind ∙ c .before .before .if2 .left) (rw (← first, ← count) (c .before .if3 .taken)))
 
 returns-4 : tie.Need-returns-4
-returns-4 c = 
+returns-4 c =
     let a = c .before .before .before .before .before .before .before .before .before .args in
     let kind = c .before .before .before .before .before .before .type-word .ensures in
     let first = c .before .before .before .before .before .type-word2 .ensures in

@@ -17,13 +17,13 @@ returns-2 c = (rw (c .before .before .before .previous .given .1, le-leb _ _ (c 
 
 returns-3 : tie.Need-returns-3
 unfolding distanceOk distanceVerdict
-returns-3 c = 
+returns-3 c =
     let enough = le-leb _ _ (rw (c .before .round-up .ensures) at (c .if3 .taken)) in
     (rw (c .before .before .before .before .before .previous .given .1, le-leb _ _ (c .before .before .before .if1 .left), le-leb _ 4294967295 (c .before .before .if2 .left), enough) refl, λ i j v e. rw (c .before .before .before .before .before .previous .given .1, enough) refl)
 
 returns-4 : tie.Need-returns-4
 unfolding distanceOk distanceVerdict
-returns-4 c = 
+returns-4 c =
     let short = lt-leb _ _ (rw (c .before .before .round-up .ensures) at (c .before .if3 .left)) in
     (rw (c .before .before .before .before .before .before .previous .given .1, le-leb _ _ (c .before .before .before .before .if1 .left), le-leb _ 4294967295 (c .before .before .before .if2 .left), short, lt-leb _ 4294967295 (rw (c .before .before .round-up .ensures) at (c .if4 .taken))) refl, λ i j v e. absurd (false≢true e))
 
@@ -33,10 +33,11 @@ returns-5 c = (rw (c .enum-told .given .1) refl, λ i j v e. rw (c .enum-told .g
 
 returns-6 : tie.Need-returns-6
 unfolding distanceOk distanceVerdict
-returns-6 c = 
-    let short = lt-leb _ _ (rw (c .before .before .round-up .ensures) at (c .before .if3 .left)) in
-    (rw (c .before .before .before .before .before .before .previous .given .1, le-leb _ _ (c .before .before .before .before .if1 .left), le-leb _ 4294967295 (c .before .before .before .if2 .left), short, le-leb _ 4294967295 (rw (c .before .before .round-up .ensures) at (c .if4 .left))) refl,
-    λ i j v e. rw (c .before .before .before .before .before .before .previous .given .1, short, c .before .before .round-up .ensures) refl)
+returns-6 c =
+    let short = lt-leb _ _ (rw (c .before .before .round-up .ensures) at (c .before .if3 .left)) in (
+      rw (c .before .before .before .before .before .before .previous .given .1, le-leb _ _ (c .before .before .before .before .if1 .left), le-leb _ 4294967295 (c .before .before .before .if2 .left), short, le-leb _ 4294967295 (rw (c .before .before .round-up .ensures) at (c .if4 .left))) refl,
+      λ i j v e. rw (c .before .before .before .before .before .before .previous .given .1, short, c .before .before .round-up .ensures) refl,
+    )
 
 pub distance-to-spec : {M : Type 1} → statement M
 distance-to-spec =

@@ -16,23 +16,24 @@ cast-n : tie.Need-cast-n
 cast-n c = let a = c .before .before .before .before .before .before .before .before .before .before .before .args in let ts = now (a .types) in let ms = now (a .members) in let rows = now (a .rows) in let l = laid-out ts ms rows (sym (c .before .before .before .before .layout .ensures .0) ∙ c .enum-told .given .1) in omega (arith, fitting ts ms rows l .types)
 
 judge-all-requires : tie.Need-judge-all-requires
-judge-all-requires c κs = 
+judge-all-requires c κs =
     let a = c .before .before .before .before .before .before .before .before .before .before .before .before .args in let ts = now (a .types) in let ms = now (a .members) in let rows = now (a .rows) in
     let l = laid-out ts ms rows (sym (c .before .before .before .before .before .layout .ensures .0) ∙ c .before .enum-told .given .1) in
     (omega (arith, fitting ts ms rows l .rows, c .before .before .before .before .before .layout .kept .1 .1 .0), (laid-bounds ts ms rows l, rw (c .before .before .before .before .before .layout .ensures .1) (laid-rows ts ms rows l)))
 
 returns-2 : tie.Need-returns-2
 unfolding judgeOutcome
-returns-2 c = 
+returns-2 c =
     let a = c .before .before .before .before .before .before .before .before .before .before .before .before .before .before .before .args in let ts = now (a .types) in let ms = now (a .members) in let rows = now (a .rows) in
     let l = laid-out ts ms rows (sym (c .before .before .before .before .before .before .before .before .layout .ensures .0) ∙ c .before .before .before .before .enum-told .given .1) in
     let known = sym (c .before .before .before .before .before .before .before .before .before .before .before .capabilities-known .ensures) ∙ not-false _ (c .before .before .before .before .before .before .before .before .before .before .if1 .left) in
-    let judged = c .before .before .judge-all .ensures in
-    (judged .0 ∙ sym (answer-judged ts ms rows l (a .capabilities) known),
-    rw (words-judged ts ms rows l (a .capabilities) known, ← c .before .before .before .before .before .before .before .before .layout .ensures .1, ← judged .0) (judged .1))
+    let judged = c .before .before .judge-all .ensures in (
+      judged .0 ∙ sym (answer-judged ts ms rows l (a .capabilities) known),
+      rw (words-judged ts ms rows l (a .capabilities) known, ← c .before .before .before .before .before .before .before .before .layout .ensures .1, ← judged .0) (judged .1),
+    )
 
 returns-3 : tie.Need-returns-3
-returns-3 c = 
+returns-3 c =
     let a = c .before .before .before .before .before .before .before .before .before .before .before .args in let ts = now (a .types) in let ms = now (a .members) in let rows = now (a .rows) in
     let known = sym (c .before .before .before .before .before .before .before .capabilities-known .ensures) ∙ not-false _ (c .before .before .before .before .before .before .if1 .left) in
     let same = refused-same (a .capabilities) ts ms rows known _ _ _ _ (sym (c .before .before .before .before .layout .ensures .0) ∙ c .enum-told2 .given .1) in

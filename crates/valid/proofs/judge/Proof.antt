@@ -17,7 +17,7 @@ returns c = rw (c .before .before .before .before .before .inner .given .1) (rw 
 
 returns-2 : tie.Need-returns-2
 unfolding judge flagsOf rowOf uniformOf storageOf immediatesOf
-returns-2 c = 
+returns-2 c =
     let a = c .before .before .before .before .before .before .before .before .before .args in
     let base = rowsIn (now (a .rows)) (c .before .before .before .before .inner2 .given .0 .0) in
     let answer = rw (c .before .array-flags .ensures, c .before .before .row-at .ensures) at (c .array-row .ensures) in
@@ -25,7 +25,7 @@ returns-2 c =
 
 returns-3 : tie.Need-returns-3
 unfolding judge flagsOf rowOf uniformOf storageOf immediatesOf
-returns-3 c = 
+returns-3 c =
     let a = c .before .before .before .before .before .before .before .before .before .args in
     let base = rowsIn (now (a .rows)) (c .before .before .before .before .inner3 .given .0 .0) in
     let answer = rw (c .before .runtime-array-flags .ensures, c .before .before .row-at2 .ensures) at (c .array-row2 .ensures) in

@@ -18,7 +18,7 @@ use Rattle.valid.proofs.judge_all.Statement.{statement}
 use Rattle.valid.proofs.judge_all.Tie as tie
 
 abbrev Inv-loop : tie.InvT-loop
-Inv-loop capabilities types members rows₀ n i₀ rows i = 
+Inv-loop capabilities types members rows₀ n i₀ rows i =
     (i ≤ n)
     × (firstRefusal (judgedAt capabilities (decoded types members)) i ≡ Accepted)
     × (take (i * 14) rows ≡ flat (rowAt capabilities types members) i)
@@ -38,19 +38,20 @@ clear-requires : tie.Need-clear-requires Inv-loop μ-loop
 clear-requires c κs = omega (arith, c .before .before .before .before .before .before .judge-at .kept .1 .1 .1 .0, c .before .before .before .before .before .before .before .before .before .before .before .before .before .pre .0)
 
 returns : tie.Need-returns Inv-loop μ-loop
-returns c = 
+returns c =
     let ja = c .before .before .before .before .before .before .before .before .before in
     let l = ja .before .before .before in
     let a = l .before .before .before .before .args in
     let own = own-layout (a .capabilities) (now (a .types)) (now (a .members)) (now (a .rows)) (l .loop .rows) (a .n) (l .loop .i) (l .before .before .before .before .pre .1 .1) (ja .before .before .loop-test .taken) (l .loop .inv .3) in
     let at = judged-at (a .capabilities) (now (a .types)) (now (a .members)) (l .loop .rows) (l .loop .i) (ja .judge-at .result) (l .loop .inv .2) own (ja .judge-at .ensures .0) in
     let refused = rw (c .before .before .before .before .before .number .given .1) at (sym at) in
-    let same = rw (c .before .before .before .before .before .number .given .1) at (ja .judge-at .ensures .1) in
-    (sym (stays (judgedAt (a .capabilities) (decoded (now (a .types)) (now (a .members)))) (l .loop .i) (l .loop .inv .1) (rw refused refl) (a .n) (ja .before .before .loop-test .taken)),
-    rw (← drop-later (l .loop .rows) (now (a .rows)) (l .loop .i * 14) (a .n * 14) (l .loop .inv .3) (omega (arith, ja .before .before .loop-test .taken)), ← same) (c .before .before .clear .ensures))
+    let same = rw (c .before .before .before .before .before .number .given .1) at (ja .judge-at .ensures .1) in (
+      sym (stays (judgedAt (a .capabilities) (decoded (now (a .types)) (now (a .members)))) (l .loop .i) (l .loop .inv .1) (rw refused refl) (a .n) (ja .before .before .loop-test .taken)),
+      rw (← drop-later (l .loop .rows) (now (a .rows)) (l .loop .i * 14) (a .n * 14) (l .loop .inv .3) (omega (arith, ja .before .before .loop-test .taken)), ← same) (c .before .before .clear .ensures),
+    )
 
 loop-again : tie.Need-loop-again Inv-loop μ-loop
-loop-again c = 
+loop-again c =
     let ja = c .before .before .before .before in
     let l = ja .before .before .before in
     let a = l .before .before .before .before .args in
@@ -68,7 +69,7 @@ loop-again c =
 
 returns-2 : tie.Need-returns-2 Inv-loop μ-loop
 unfolding arenaRows
-returns-2 c = 
+returns-2 c =
     let l = c .before .loop in
     let n = c .before .before .before .before .before .args .n in
     let end : l .i ≡ n = le-antisymm (l .inv .0) (c .loop-test .left) in

@@ -13,15 +13,15 @@ judge-requires : tie.Need-judge-requires
 judge-requires c κs = rw (c .before .before .before .before .before .before .type-inner .ensures) (c .before .before .before .before .before .before .before .before .before .before .pre .1)
 
 put-requires : tie.Need-put-requires
-put-requires c κs = c .before .before .before .before .before .before .before .before .before .before .before .before .before .before .before .pre .0
+put-requires c κs = omega (arith, c .before .before .before .before .before .before .before .before .before .before .before .before .before .before .before .pre .0)
 
 returns : tie.Need-returns
-returns c = 
+returns c =
     let answer = rw (c .before .before .before .before .before .before .before .before .before .before .before .before .before .before .type-inner .ensures, c .before .before .before .before .before .before .before .before .before .before .before .before .before .struct-members .ensures, c .before .before .before .before .before .before .before .before .before .before .before .row-word .ensures, c .before .before .before .before .before .before .before .before .before .row-word2 .ensures) at (c .before .before .before .before .before .before .before .judge .ensures) in
     (rw (c .before .before .before .before .before .judged .given .1) at answer, c .before .before .put .ensures)
 
 returns-2 : tie.Need-returns-2
-returns-2 c = 
+returns-2 c =
     let answer = rw (c .before .before .before .before .before .before .before .before .before .type-inner .ensures, c .before .before .before .before .before .before .before .before .struct-members .ensures, c .before .before .before .before .before .before .row-word .ensures, c .before .before .before .before .row-word2 .ensures) at (c .before .before .judge .ensures) in
     (answer, rw (c .enum-told .given .1) refl)
 

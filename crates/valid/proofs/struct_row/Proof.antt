@@ -17,7 +17,7 @@ returns c = rw (c .if1 .taken) refl
 
 returns-2 : tie.Need-returns-2
 unfolding judge flagsOf rowOf uniformOf storageOf immediatesOf
-returns-2 c = 
+returns-2 c =
     let a = c .before .before .before .before .before .before .before .before .before .before .before .args in
     let some : 0 < a .count = omega (arith, c .before .before .before .before .before .before .before .if1 .left) in
     let parts = state-parts (typeInner (now (a .types))) (rowsIn (now (a .rows))) (a .i) (a .count) (a .span) (now (a .part)) (a .count) (c .before .before .before .before .state .given .0 .0) (sym (rw (c .before .before .before .before .state .given .1) at (c .before .before .before .before .before .before .members-of .ensures))) in
@@ -25,7 +25,7 @@ returns-2 c =
 
 returns-3 : tie.Need-returns-3
 unfolding judge flagsOf
-returns-3 c = 
+returns-3 c =
     let a = c .before .before .before .before .before .before .before .before .args in
     let some : 0 < a .count = omega (arith, c .before .before .before .before .if1 .left) in
     let error = state-error (typeInner (now (a .types))) (rowsIn (now (a .rows))) (a .i) (a .count) (a .span) (now (a .part)) (a .count) (sym (rw (c .before .number .given .1) at (c .before .before .before .members-of .ensures))) in

@@ -1,0 +1,74 @@
+-- 01, 'The slot word': the walk of a type from an offset. Structs are walked member by member; every other type is taken whole, by its measure.
+-- Assumes nothing.
+use mathlib.Core.Path.{_≡_}
+use mathlib.Core.Bool.{false}
+use mathlib.Core.List.{List}
+use Prim.Native.Nat.{ℕ, zero, suc, _+_, _<_}
+use lib.Dec.{T, leb, ltb}
+use Rattle.records.specs.Result.{Result, ok, pick}
+use Rattle.records.specs.Record.{Decoded, decoded, typeCount, memberType, memberOffset}
+use Rattle.records.specs.Table.{valueAt}
+use Rattle.records.specs.declared.Outcome.{Outcome}
+use Rattle.records.specs.declared.Outcome.the-variants as outcome
+use Rattle.records.specs.declared.TypeInner.{TypeInner}
+use Rattle.records.specs.declared.TypeInner.the-variants.{Plain, Array, RuntimeArray, Struct, Other}
+use Rattle.alignment.specs.Alignment.{most}
+use Rattle.records.specs.Fields.{InnerBounds}
+use Rattle.type_methods.specs.TypeMethods.{sizeOf, trySize}
+use Rattle.valid.specs.Valid.{isStruct}
+use Rattle.valid.specs.Arena.{arenaAnswer}
+use Rattle.slots.specs.declared.Slots.{Slots}
+use Rattle.slots.specs.declared.Slots.the-variants.{Mask, Past}
+use Rattle.slots.specs.declared.SlotsAnswer.{SlotsAnswer}
+use Rattle.slots.specs.declared.SlotsAnswer.the-variants as answer
+use Rattle.slots.specs.Slots.{covers, rangeSlots, join, partAnswer}
+
+-- the first j members of a struct that stands at `offset`; number 25 where an offset sum leaves 32 bits.
+-- earlier: the slots of the types before it, each at an offset
+unfoldable pub membersSlots : (earlier : ℕ → ℕ → Slots) (members : List ℕ) (offset : ℕ) → ℕ → Slots
+membersSlots earlier members offset zero = Mask 0
+membersSlots earlier members offset (suc j) =
+    join (membersSlots earlier members offset j)
+    (pick (leb (offset + memberOffset members j) most) (earlier (memberType members j) (offset + memberOffset members j)) Past)
+
+-- of a type at an offset, by what its record says
+unfoldable pub slotsOf : (earlier : ℕ → ℕ → Slots) → TypeInner → (members : List ℕ) → (offset : ℕ) → Slots
+slotsOf earlier (Plain leaf) members offset = rangeSlots offset (sizeOf (Plain leaf))
+slotsOf earlier (Array base count stride) members offset = rangeSlots offset (sizeOf (Array base count stride))
+slotsOf earlier (RuntimeArray base stride) members offset = rangeSlots offset (sizeOf (RuntimeArray base stride))
+slotsOf earlier (Struct count span) members offset = membersSlots earlier members offset count
+slotsOf earlier (Other o) members offset = rangeSlots offset (sizeOf (Other o))
+
+-- in the place of a type that is not earlier, which no accepted arena has
+abbrev pub noSlots : ℕ → Slots
+noSlots offset = Past
+
+-- of type i, from those of the types before it
+abbrev pub slotsStep : (types : ℕ → Decoded) → (ℕ → ℕ → Slots) → ℕ → Result (ℕ → Slots)
+slotsStep types earlier i = ok (slotsOf earlier (types i .inner) (types i .members))
+
+-- of type ty of an arena at an offset, types in ascending order
+abbrev pub slotsAt : (types : ℕ → Decoded) → (ty offset : ℕ) → Slots
+slotsAt types = valueAt noSlots (slotsStep types)
+
+-- a type that number 4 does not refuse, with fields within their bounds: its measure fits
+pub record Measured (inner : TypeInner) : Type 0 where
+  pub bounds : InnerBounds inner
+  pub size : trySize inner ≡ ok (sizeOf inner)
+
+-- a non-struct part of type ty, which stands at `offset`, covers slot k: the type itself where it is no struct, or a part of a member
+pub data CoveredBy (types : ℕ → Decoded) : (ty offset k : ℕ) → Type 0 where
+  by-whole : {ty offset k : ℕ} → isStruct (types ty .inner) ≡ false → T (covers offset (sizeOf (types ty .inner)) k) → CoveredBy types ty offset k
+  by-member : {ty offset k : ℕ} (count span j : ℕ) → types ty .inner ≡ Struct count span → j < count
+      → CoveredBy types (memberType (types ty .members) j) (offset + memberOffset (types ty .members) j) k
+      → CoveredBy types ty offset k
+
+-- ---- the call: the arena's refusal is passed on; 26 for a type outside the arena; then 25. Both carry zeros only
+abbrev pub typeAnswer : (ts ms : List ℕ) (ty offset : ℕ) → Outcome → SlotsAnswer
+typeAnswer ts ms ty offset outcome.Accepted =
+    pick (ltb ty (typeCount ts)) (partAnswer (slotsAt (decoded ts ms) ty offset)) (answer.Refused 26 0 0 0)
+typeAnswer ts ms ty offset (outcome.Refused number t member detail) = answer.Refused number t member detail
+
+-- the arena is judged first
+unfoldable pub slotsAnswer : (c : ℕ) (ts ms rows : List ℕ) (ty offset : ℕ) → SlotsAnswer
+slotsAnswer c ts ms rows ty offset = typeAnswer ts ms ty offset (arenaAnswer c ts ms rows)

@@ -1,0 +1,67 @@
+-- Why term 3 asks for the strides: without that condition its first part is false. An array of two vec3 of f32 with stride 4 is accepted
+-- and host-shareable, and its leaves overlap.
+-- Assumes nothing.
+use mathlib.Core.Path.{_≡_, refl}
+use mathlib.Core.Logic.{_≢_}
+use mathlib.Core.List.{List, [], _∷_}
+use Prim.Native.Nat.{ℕ, zero, suc, _+_, _≤_, _<_, _∣_}
+use native.Mathlib.Omega.{arith}
+use lib.ListN.{getElem?}
+use lib.Dec.{T}
+use Rattle.records.specs.Record.{Decoded, decoded, innerOf, typeInner, structMembers}
+use Rattle.records.specs.Fields.{tablesFit, fieldsOk, recordAt}
+use Rattle.records.specs.Table.{resultAt, valueAt}
+use Rattle.records.specs.declared.Outcome.the-variants.{Accepted}
+use Rattle.type_methods.specs.TypeMethods.{trySize}
+use Rattle.layouter.specs.Layouter.{membersAlignment, alignmentOf, layoutOf, layoutOutcome}
+use Rattle.width.specs.Width.{integerWidth, floatWidth, checkWidth}
+use Rattle.type_info.specs.Verdict.{alignmentIn, arrayVerdict, shareVerdict, memberVerdict, distanceVerdict, distanceOk, unsizedVerdict, spanVerdict}
+use Rattle.members.specs.Members.{previousOf, memberBounds, boundsAfter, uniformAfter, storageAfter, immediatesAfter}
+use Rattle.valid.specs.Valid.{leafFlags, flagsOf, uniformOf, storageOf, immediatesOf, rowOf, judge}
+use Rattle.valid.specs.Arena.{row, judgeOutcome, arenaOutcome, arena}
+use Rattle.place.specs.declared.Place.the-variants.{At}
+use Rattle.place.specs.Place.{stepOf, placeOf}
+use Rattle.place.specs.Term3.{rowIn, HostShareableData, rewrite, leafMeasure}
+
+abbrev types : List ℕ
+types = 1 ∷ 3 ∷ 2 ∷ 4 ∷ 0 ∷ 0 ∷ 7 ∷ 0 ∷ 0 ∷ 2 ∷ 4 ∷ 0 ∷ []
+
+accepted : arena 0 types [] ≡ Accepted
+unfolding arena arenaOutcome layoutOutcome judgeOutcome tablesFit recordAt fieldsOk typeInner innerOf structMembers resultAt valueAt trySize membersAlignment alignmentOf layoutOf integerWidth floatWidth checkWidth arrayVerdict shareVerdict memberVerdict distanceVerdict distanceOk unsizedVerdict spanVerdict previousOf memberBounds boundsAfter uniformAfter storageAfter immediatesAfter leafFlags flagsOf uniformOf storageOf immediatesOf rowOf judge
+accepted = refl
+
+size : rowIn 0 types [] 0 .size ≡ 12
+unfolding typeInner innerOf structMembers resultAt valueAt trySize membersAlignment alignmentOf layoutOf integerWidth floatWidth checkWidth arrayVerdict shareVerdict memberVerdict distanceVerdict distanceOk unsizedVerdict spanVerdict previousOf memberBounds boundsAfter uniformAfter storageAfter immediatesAfter leafFlags flagsOf uniformOf storageOf immediatesOf rowOf judge
+size = refl
+
+flags : rowIn 0 types [] 1 .flags ≡ 247
+unfolding typeInner innerOf structMembers resultAt valueAt trySize membersAlignment alignmentOf layoutOf integerWidth floatWidth checkWidth arrayVerdict shareVerdict memberVerdict distanceVerdict distanceOk unsizedVerdict spanVerdict previousOf memberBounds boundsAfter uniformAfter storageAfter immediatesAfter leafFlags flagsOf uniformOf storageOf immediatesOf rowOf judge
+flags = refl
+
+shareable : HostShareableData 0 types [] 1
+shareable = record { accepted = accepted; within = omega arith; isData = rw flags tt; hostShareable = rw flags tt }
+
+first : placeOf types [] 1 (0 ∷ []) ≡ At 0 0
+unfolding placeOf stepOf typeInner innerOf structMembers
+first = refl
+
+second : placeOf types [] 1 (1 ∷ []) ≡ At 4 0
+unfolding placeOf stepOf typeInner innerOf structMembers
+second = refl
+
+different : _≢_ {A = List ℕ} (0 ∷ []) (1 ∷ [])
+different e = let z : _≡_ {A = ℕ} 0 1 = cc in omega arith
+
+Others : Type 0
+Others = (c : ℕ) (ts ms : List ℕ) (t : ℕ) → HostShareableData c ts ms t
+    → (steps steps′ : List ℕ) (byte leaf byte′ leaf′ : ℕ)
+    → placeOf ts ms t steps ≡ At byte leaf → placeOf ts ms t steps′ ≡ At byte′ leaf′ → steps ≢ steps′
+    → (buffer bytes : List ℕ) (k : ℕ) → byte′ ≤ k → k < byte′ + leafMeasure (rowIn c ts ms) leaf′
+    → getElem? (rewrite buffer byte (leafMeasure (rowIn c ts ms) leaf) bytes) k ≡ getElem? buffer k
+
+false-without : Others → ⊥
+unfolding Others
+false-without f =
+    let h = f 0 types [] 1 shareable (0 ∷ []) (1 ∷ []) 0 0 4 0 first second different (7 ∷ 7 ∷ 7 ∷ 7 ∷ 7 ∷ []) (8 ∷ 8 ∷ 8 ∷ 8 ∷ 8 ∷ []) 4 (omega arith) (rw size (omega arith)) in
+    let g = rw size at h in
+    let z : _≡_ {A = ℕ} 8 7 = cc in omega arith

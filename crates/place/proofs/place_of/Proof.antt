@@ -1,0 +1,66 @@
+-- `place::place_of` meets its contract. The invariant: the rest of the steps from here lead where all of them lead from the start. Assumes nothing.
+use borrow.Author.Needs.{needs}
+use mathlib.Core.Path.{sym, _∙_}
+use Prim.Native.Nat.{_-_}
+use native.Mathlib.Omega.{arith}
+use lib.ListN.{length}
+use Rattle.place.proofs.LookupLaws.{Looking, no-start, looking-start, looking-fits, looking-ends, looking-step, looking-done}
+use Rattle.place.proofs.place_of.Statement.{statement}
+use Rattle.place.proofs.place_of.Tie as tie
+
+abbrev Inv-loop : tie.InvT-loop
+Inv-loop types members start steps ty₀ byte₀ i₀ ty byte i = Looking types members start steps i ty byte
+
+abbrev μ-loop : tie.MeasureT-loop
+μ-loop types members start steps ty₀ byte₀ i₀ ty byte i = length steps - i
+
+returns : tie.Need-returns Inv-loop μ-loop
+returns c = no-start _ _ _ _ (rw (c .before .type-count .ensures) at (c .if1 .taken))
+
+loop-holds : tie.Need-loop-holds Inv-loop μ-loop
+loop-holds c = looking-start _ _ _ _ (c .before .before .before .before .before .pre .0) (c .before .before .before .before .before .pre .1) (rw (c .before .type-count .ensures) at (c .if1 .left))
+
+add-byte : tie.Need-add-byte Inv-loop μ-loop
+add-byte c = record { fits = omega (arith, looking-fits (looking-step (c .before .before .before .before .before .before .before .before .loop .inv) (c .before .before .before .before .before .before .before .loop-test .taken) (sym (c .before .next .given .1) ∙ (rw (c .before .before .before .before .before .struct-members .ensures, c .before .before .before .before .before .before .type-inner .ensures) at (c .before .before .before .step-of .ensures))))) }
+
+returns-2 : tie.Need-returns-2 Inv-loop μ-loop
+returns-2 c = looking-ends (c .before .before .before .before .before .before .before .loop .inv) (c .before .before .before .before .before .before .loop-test .taken) (sym (c .enum-told .given .1) ∙ (rw (c .before .before .before .before .struct-members .ensures, c .before .before .before .before .before .type-inner .ensures) at (c .before .before .step-of .ensures)))
+
+loop-again : tie.Need-loop-again Inv-loop μ-loop
+loop-again c = looking-step (c .before .before .before .before .before .before .before .before .loop .inv) (c .before .before .before .before .before .before .before .loop-test .taken) (sym (c .before .next .given .1) ∙ (rw (c .before .before .before .before .before .struct-members .ensures, c .before .before .before .before .before .before .type-inner .ensures) at (c .before .before .before .step-of .ensures)))
+
+returns-3 : tie.Need-returns-3 Inv-loop μ-loop
+returns-3 c =
+    let e = rw (c .before .before .type-inner2 .ensures) at (sym (c .before .is-leaf .ensures) ∙ c .if2 .taken) in
+    rw e at (looking-done (c .before .before .before .before .loop .inv) (c .before .before .before .loop-test .left))
+
+returns-4 : tie.Need-returns-4 Inv-loop μ-loop
+returns-4 c =
+    let e = rw (c .before .before .type-inner2 .ensures) at (sym (c .before .is-leaf .ensures) ∙ c .if2 .left) in
+    rw e at (looking-done (c .before .before .before .before .loop .inv) (c .before .before .before .loop-test .left))
+
+pub place-of-spec : {M : Type 1} → statement M
+place-of-spec =
+    tie.close
+    (tie.spec
+    Inv-loop
+    μ-loop
+    (λ c κs. search needs)
+    returns
+    loop-holds
+    (λ c κs. search needs)
+    (λ c κs. search needs)
+    (λ c. search needs)
+    (λ c. search needs)
+    (λ c κs. search needs)
+    (λ c. search needs)
+    add-byte
+    (λ c. search needs)
+    returns-2
+    (λ c. search needs)
+    (λ c. search needs)
+    loop-again
+    (λ c κs. search needs)
+    (λ c κs. search needs)
+    returns-3
+    returns-4)

@@ -1,0 +1,43 @@
+-- `slots::range_slots` meets its contract: the two shifts and the meet give the slots that the part covers. Assumes nothing.
+use borrow.Author.Needs.{needs}
+use mathlib.Core.Path.{refl, sym, ap, _∙_}
+use native.Mathlib.Omega.{arith}
+use Prim.Native.Nat.{_+_, _/_, _<_}
+use borrow.Author.Tests.{ne-eqb, lt-leb, le-leb}
+use Rattle.slots.specs.Slots.{slotBytes, rangeSlots}
+use Rattle.slots.specs.declared.Slots.the-variants.{Mask}
+use Rattle.slots.proofs.RangeLaws.{shifts, range-mask}
+use Rattle.slots.proofs.range_slots.Statement.{statement}
+use Rattle.slots.proofs.range_slots.Tie as tie
+
+returns : tie.Need-returns
+unfolding rangeSlots
+returns c = rw (c .if1 .taken) refl
+
+returns-2 : tie.Need-returns-2
+unfolding rangeSlots
+returns-2 c = let a = c .before .before .args in rw (ne-eqb (a .size) 0 (c .before .if1 .left), lt-leb (a .offset + a .size) slotBytes (c .if2 .taken)) refl
+
+returns-3 : tie.Need-returns-3
+unfolding rangeSlots
+returns-3 c =
+    let a = c .before .before .args in
+    let some : 0 < a .size = omega (arith, c .before .if1 .left) in
+    let lo = a .offset / 4 in
+    let hi = (a .offset + a .size + 3) / 4 in
+    let word = shifts 64 lo hi (omega arith) (omega (arith, c .if2 .left)) in
+    let mask = range-mask (a .offset) (a .size) 64 some (omega (arith, c .if2 .left)) in
+    rw (ne-eqb (a .size) 0 (c .before .if1 .left), le-leb (a .offset + a .size) slotBytes (c .if2 .left)) (ap Mask (word ∙ sym mask))
+
+pub range-slots-spec : {M : Type 1} → statement M
+range-slots-spec =
+    tie.close
+    (tie.spec
+    returns
+    (λ c. search needs)
+    returns-2
+    (λ c. search needs)
+    (λ c. search needs)
+    (λ c. search needs)
+    (λ c. search needs)
+    returns-3)
