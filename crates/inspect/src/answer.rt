@@ -21,9 +21,6 @@ pub struct Session {
     pub stopped: bool,
 }
 
-const TYPE_WORDS: usize = 6;
-const MEMBER_WORDS: usize = 2;
-
 pub fn start() -> Session {
     Session { capabilities: 0, types: 0, members: 0, line: 1, waiting: 0, held: 0, stopped: false }
 }
@@ -70,36 +67,41 @@ fn first_words(words: &[u32], n: usize) -> &[u32] {
     if n <= words.len() { &words[..n] } else { words }
 }
 
-// Whether n more words fit after the first `used`.
-fn has_room(words: &[u32], used: usize, n: usize) -> bool {
-    if used <= words.len() { n <= words.len() - used } else { false }
+// Puts a record after the words in use, if the table has room, and answers how many words are in use then.
+fn add_record(table: &mut [u32], used: usize, words: &[u32]) -> usize {
+    if table.len() < used {
+        return used;
+    }
+    if table.len() - used < words.len() {
+        return used;
+    }
+    let mut i = 0;
+    while i < words.len() {
+        table[used + i] = words[i];
+        i += 1;
+    }
+    used + i
 }
 
-fn add_type(session: Session, types: &mut [u32], out: &mut [u8], record: [u32; 6]) -> Session {
-    let at = session.types;
-    if !has_room(types, at, TYPE_WORDS) {
+fn add_type(session: Session, types: &mut [u32], out: &mut [u8], words: [u32; 6]) -> Session {
+    let used = session.types;
+    let after = add_record(types, used, &words);
+    if after == used {
         return stop(session, out, b"the arena is full, with 1024 types\n");
     }
-    types[at] = record[0];
-    types[at + 1] = record[1];
-    types[at + 2] = record[2];
-    types[at + 3] = record[3];
-    types[at + 4] = record[4];
-    types[at + 5] = record[5];
     let mut s = session;
-    s.types = at + TYPE_WORDS;
+    s.types = after;
     s
 }
 
-fn add_member(session: Session, members: &mut [u32], out: &mut [u8], ty: u32, offset: u32) -> Session {
-    let at = session.members;
-    if !has_room(members, at, MEMBER_WORDS) {
+fn add_member(session: Session, members: &mut [u32], out: &mut [u8], words: [u32; 2]) -> Session {
+    let used = session.members;
+    let after = add_record(members, used, &words);
+    if after == used {
         return stop(session, out, b"the member table is full, with 4096 members\n");
     }
-    members[at] = ty;
-    members[at + 1] = offset;
     let mut s = session;
-    s.members = at + MEMBER_WORDS;
+    s.members = after;
     s
 }
 
@@ -167,7 +169,7 @@ pub fn answer(line: &[u8], session: Session, types: &mut [u32], members: &mut [u
         Line::Nothing => session,
         Line::Capabilities(word) => with_capabilities(session, word),
         Line::TypeRecord { kind, a, b, c, d, e } => add_type(session, types, out, [kind, a, b, c, d, e]),
-        Line::MemberRecord { ty, offset } => add_member(session, members, out, ty, offset),
+        Line::MemberRecord { ty, offset } => add_member(session, members, out, [ty, offset]),
         Line::Check => check(session, types, members, rows, out),
         Line::Members(ty) => members_of(session, types, members, out, ty),
         Line::Slots { ty, offset } => slots_of(session, types, members, rows, out, ty, offset),

@@ -82,7 +82,7 @@ pub fn put_members(out: &mut [u8], at: usize, part: &[u32]) -> usize {
     let mut end = put_text(out, at, b"members");
     let mut i = 0;
     while i < part.len() {
-        end = put_next(out, end, part[i] as u64);
+        end = put_next(out, end, records::word_at(part, i) as u64);
         i += 1;
     }
     put_byte(out, end, b'\n')
