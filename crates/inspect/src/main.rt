@@ -5,6 +5,15 @@ mod output;
 use answer::Session;
 ghost use Prim.Native.Nat.{_≤_};
 ghost use lib.ListN.{length};
+ghost use Rattle.inspect.specs.Held.{heldIn};
+
+// What a read left in the buffer, and how many bytes that are.
+pub enum Input {
+    Held(usize),
+    Ended(usize),
+    Full,
+    Failed,
+}
 
 const STDIN: i32 = 0;
 
@@ -45,13 +54,14 @@ fn answer_lines(input: &[u8], session: Session, types: &mut [u32], members: &mut
     let mut at: usize = 0;
     let mut end = text::run_end(input, at, text::Class::Line);
     while end < input.len() {
-        s = answer::answer(&input[at..end], s, types, members, rows, numbers, out);
+        let start = at;
+        at = end + 1;
+        s = answer::answer(&input[start..end], s, types, members, rows, numbers, out);
         let stopped = s.stopped;
         if stopped {
             return with_held(s, 0);
         }
         s = next_line(s);
-        at = end + 1;
         end = text::run_end(input, at, text::Class::Line);
     }
     with_held(s, input.len() - at)
@@ -66,27 +76,44 @@ fn answer_last(input: &[u8], session: Session, types: &mut [u32], members: &mut 
     s
 }
 
-// Reads once, and answers the lines that are whole.
-fn turn(buffer: &mut [u8], session: Session, types: &mut [u32], members: &mut [u32], rows: &mut [u32], numbers: &mut [u32], out: &mut [u8]) -> Session
+// Answers the whole lines of the buffer, and keeps the rest.
+fn answer_input(buffer: &mut [u8], end: usize, session: Session, types: &mut [u32], members: &mut [u32], rows: &mut [u32], numbers: &mut [u32], out: &mut [u8]) -> Session
+    requires { ⌜ end ≤ length (now buffer) ⌝ }
     requires { ⌜ 1025 ≤ length (now numbers) ⌝ }
 {
-    let held = session.held;
-    if buffer.len() <= held {
-        return answer::stop(session, out, b"longer than 65535 bytes\n");
-    }
-    let got = libc::read(STDIN, &mut buffer[held..]);
-    if got < 0 {
-        return answer::stop(session, out, b"the input cannot be read\n");
-    }
-    let more = io::count(got, &buffer[held..]);
-    if more == 0 {
-        return answer_last(&buffer[..held], session, types, members, rows, numbers, out);
-    }
-    let end = held + more;
     let s = answer_lines(&buffer[..end], session, types, members, rows, numbers, out);
     let left = s.held;
     keep_rest(buffer, end - left, end);
     s
+}
+
+// Reads once, after the bytes that are held.
+fn read_more(buffer: &mut [u8], held: usize) -> Input
+    ensures { λ r. ⌜ heldIn r ≤ length (now (buffer .entry)) ⌝ }
+{
+    if buffer.len() <= held {
+        return Input::Full;
+    }
+    let got = libc::read(STDIN, &mut buffer[held..]);
+    if got < 0 {
+        return Input::Failed;
+    }
+    let more = io::count(got, &buffer[held..]);
+    if more == 0 {
+        return Input::Ended(held);
+    }
+    Input::Held(held + more)
+}
+
+fn turn(buffer: &mut [u8], session: Session, types: &mut [u32], members: &mut [u32], rows: &mut [u32], numbers: &mut [u32], out: &mut [u8]) -> Session
+    requires { ⌜ 1025 ≤ length (now numbers) ⌝ }
+{
+    match read_more(buffer, session.held) {
+        Input::Held(end) => answer_input(buffer, end, session, types, members, rows, numbers, out),
+        Input::Ended(end) => answer_last(&buffer[..end], session, types, members, rows, numbers, out),
+        Input::Full => answer::stop(session, out, b"longer than 65535 bytes\n"),
+        Input::Failed => answer::stop(session, out, b"the input cannot be read\n"),
+    }
 }
 
 // Writes the answers that wait.
