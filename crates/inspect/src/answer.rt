@@ -22,7 +22,15 @@ pub struct Session {
 }
 
 pub fn start() -> Session {
-    Session { capabilities: 0, types: 0, members: 0, line: 1, waiting: 0, held: 0, stopped: false }
+    Session {
+        capabilities: 0,
+        types: 0,
+        members: 0,
+        line: 1,
+        waiting: 0,
+        held: 0,
+        stopped: false,
+    }
 }
 
 fn cleared(session: Session) -> Session {
@@ -98,14 +106,24 @@ fn add_member(session: Session, members: &mut [u32], out: &mut [u8], words: [u32
     let used = session.members;
     let after = add_record(members, used, &words);
     if after == used {
-        return stop(session, out, b"the member table is full, with 4096 members\n");
+        return stop(
+            session,
+            out,
+            b"the member table is full, with 4096 members\n",
+        );
     }
     let mut s = session;
     s.members = after;
     s
 }
 
-fn check(session: Session, types: &[u32], members: &[u32], rows: &mut [u32], out: &mut [u8]) -> Session {
+fn check(
+    session: Session,
+    types: &[u32],
+    members: &[u32],
+    rows: &mut [u32],
+    out: &mut [u8],
+) -> Session {
     let at = session.waiting;
     let t = first_words(types, session.types);
     let m = first_words(members, session.members);
@@ -114,13 +132,27 @@ fn check(session: Session, types: &[u32], members: &[u32], rows: &mut [u32], out
             let n = records::type_count(t) as u32;
             with_waiting(session, output::put_rows(out, at, rows, n))
         }
-        Outcome::Refused { number, ty, member, detail } => {
-            with_waiting(session, output::put_refusal(out, at, number, ty, member, detail))
+        Outcome::Refused {
+            number,
+            ty,
+            member,
+            detail,
+        } => {
+            with_waiting(
+                session,
+                output::put_refusal(out, at, number, ty, member, detail),
+            )
         }
     }
 }
 
-fn members_of(session: Session, types: &[u32], members: &[u32], out: &mut [u8], ty: u32) -> Session {
+fn members_of(
+    session: Session,
+    types: &[u32],
+    members: &[u32],
+    out: &mut [u8],
+    ty: u32,
+) -> Session {
     let t = first_words(types, session.types);
     let m = first_words(members, session.members);
     let part = records::struct_members(t, m, ty);
@@ -131,26 +163,65 @@ fn show_slots(session: Session, out: &mut [u8], answer: SlotsAnswer) -> Session 
     let at = session.waiting;
     match answer {
         SlotsAnswer::Slots(mask) => with_waiting(session, output::put_slots(out, at, mask)),
-        SlotsAnswer::Refused { number, ty, member, detail } => {
-            with_waiting(session, output::put_refusal(out, at, number, ty, member, detail))
+        SlotsAnswer::Refused {
+            number,
+            ty,
+            member,
+            detail,
+        } => {
+            with_waiting(
+                session,
+                output::put_refusal(out, at, number, ty, member, detail),
+            )
         }
     }
 }
 
-fn slots_of(session: Session, types: &[u32], members: &[u32], rows: &mut [u32], out: &mut [u8], ty: u32, offset: u32) -> Session {
+fn slots_of(
+    session: Session,
+    types: &[u32],
+    members: &[u32],
+    rows: &mut [u32],
+    out: &mut [u8],
+    ty: u32,
+    offset: u32,
+) -> Session {
     let t = first_words(types, session.types);
     let m = first_words(members, session.members);
-    show_slots(session, out, immediates::immediate_slots(t, m, session.capabilities, rows, ty, offset))
+    show_slots(
+        session,
+        out,
+        immediates::immediate_slots(t, m, session.capabilities, rows, ty, offset),
+    )
 }
 
-fn place_of(session: Session, types: &[u32], members: &[u32], rows: &mut [u32], out: &mut [u8], start: u32, steps: &[u32]) -> Session {
+fn place_of(
+    session: Session,
+    types: &[u32],
+    members: &[u32],
+    rows: &mut [u32],
+    out: &mut [u8],
+    start: u32,
+    steps: &[u32],
+) -> Session {
     let at = session.waiting;
     let t = first_words(types, session.types);
     let m = first_words(members, session.members);
     match place::lookup(t, m, session.capabilities, rows, start, steps) {
-        PlaceAnswer::Found { byte, leaf } => with_waiting(session, output::put_place(out, at, byte, leaf)),
-        PlaceAnswer::Refused { number, ty, member, detail } => {
-            with_waiting(session, output::put_refusal(out, at, number, ty, member, detail))
+        PlaceAnswer::Found { byte, leaf } => with_waiting(
+            session,
+            output::put_place(out, at, byte, leaf),
+        ),
+        PlaceAnswer::Refused {
+            number,
+            ty,
+            member,
+            detail,
+        } => {
+            with_waiting(
+                session,
+                output::put_refusal(out, at, number, ty, member, detail),
+            )
         }
     }
 }
@@ -158,24 +229,51 @@ fn place_of(session: Session, types: &[u32], members: &[u32], rows: &mut [u32], 
 // The steps of a place, which stand after its start.
 fn steps_of(numbers: &[u32], steps: u32) -> &[u32] {
     let end = steps as usize + 1;
-    if end <= numbers.len() { &numbers[1..end] } else { &numbers[..0] }
+    if end <= numbers.len() {
+        &numbers[1..end]
+    } else {
+        &numbers[..0]
+    }
 }
 
 // Answers a line.
-pub fn answer(line: &[u8], session: Session, types: &mut [u32], members: &mut [u32], rows: &mut [u32], numbers: &mut [u32], out: &mut [u8]) -> Session
+pub fn answer(
+    line: &[u8],
+    session: Session,
+    types: &mut [u32],
+    members: &mut [u32],
+    rows: &mut [u32],
+    numbers: &mut [u32],
+    out: &mut [u8],
+) -> Session
     requires { ⌜ 1025 ≤ length (now numbers) ⌝ }
 {
     match text::read_line(line, numbers) {
         Line::Nothing => session,
         Line::Capabilities(word) => with_capabilities(session, word),
-        Line::TypeRecord { kind, a, b, c, d, e } => add_type(session, types, out, [kind, a, b, c, d, e]),
+        Line::TypeRecord {
+            kind,
+            a,
+            b,
+            c,
+            d,
+            e,
+        } => add_type(session, types, out, [kind, a, b, c, d, e]),
         Line::MemberRecord { ty, offset } => add_member(session, members, out, [ty, offset]),
         Line::Check => check(session, types, members, rows, out),
         Line::Members(ty) => members_of(session, types, members, out, ty),
         Line::Slots { ty, offset } => slots_of(session, types, members, rows, out, ty, offset),
         Line::Range { offset, size } => show_slots(session, out, slots::range(offset, size)),
         Line::Place { start, steps } => {
-            place_of(session, types, members, rows, out, start, steps_of(numbers, steps))
+            place_of(
+                session,
+                types,
+                members,
+                rows,
+                out,
+                start,
+                steps_of(numbers, steps),
+            )
         }
         Line::Clear => cleared(session),
         Line::Wrong(reason) => stop_by(session, out, reason),

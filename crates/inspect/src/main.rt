@@ -46,7 +46,15 @@ fn with_held(session: Session, held: usize) -> Session
 }
 
 // Answers the whole lines of the input, and says how many bytes are left.
-fn answer_lines(input: &[u8], session: Session, types: &mut [u32], members: &mut [u32], rows: &mut [u32], numbers: &mut [u32], out: &mut [u8]) -> Session
+fn answer_lines(
+    input: &[u8],
+    session: Session,
+    types: &mut [u32],
+    members: &mut [u32],
+    rows: &mut [u32],
+    numbers: &mut [u32],
+    out: &mut [u8],
+) -> Session
     requires { ⌜ 1025 ≤ length (now numbers) ⌝ }
     ensures { λ r. ⌜ r .held ≤ length (now (input .entry)) ⌝ }
 {
@@ -68,7 +76,15 @@ fn answer_lines(input: &[u8], session: Session, types: &mut [u32], members: &mut
 }
 
 // A last line without a newline is a line.
-fn answer_last(input: &[u8], session: Session, types: &mut [u32], members: &mut [u32], rows: &mut [u32], numbers: &mut [u32], out: &mut [u8]) -> Session
+fn answer_last(
+    input: &[u8],
+    session: Session,
+    types: &mut [u32],
+    members: &mut [u32],
+    rows: &mut [u32],
+    numbers: &mut [u32],
+    out: &mut [u8],
+) -> Session
     requires { ⌜ 1025 ≤ length (now numbers) ⌝ }
 {
     let mut s = answer::answer(input, session, types, members, rows, numbers, out);
@@ -77,7 +93,16 @@ fn answer_last(input: &[u8], session: Session, types: &mut [u32], members: &mut 
 }
 
 // Answers the whole lines of the buffer, and keeps the rest.
-fn answer_input(buffer: &mut [u8], end: usize, session: Session, types: &mut [u32], members: &mut [u32], rows: &mut [u32], numbers: &mut [u32], out: &mut [u8]) -> Session
+fn answer_input(
+    buffer: &mut [u8],
+    end: usize,
+    session: Session,
+    types: &mut [u32],
+    members: &mut [u32],
+    rows: &mut [u32],
+    numbers: &mut [u32],
+    out: &mut [u8],
+) -> Session
     requires { ⌜ end ≤ length (now buffer) ⌝ }
     requires { ⌜ 1025 ≤ length (now numbers) ⌝ }
 {
@@ -105,12 +130,28 @@ fn read_more(buffer: &mut [u8], held: usize) -> Input
     Input::Held(held + more)
 }
 
-fn turn(buffer: &mut [u8], session: Session, types: &mut [u32], members: &mut [u32], rows: &mut [u32], numbers: &mut [u32], out: &mut [u8]) -> Session
+fn turn(
+    buffer: &mut [u8],
+    session: Session,
+    types: &mut [u32],
+    members: &mut [u32],
+    rows: &mut [u32],
+    numbers: &mut [u32],
+    out: &mut [u8],
+) -> Session
     requires { ⌜ 1025 ≤ length (now numbers) ⌝ }
 {
     match read_more(buffer, session.held) {
         Input::Held(end) => answer_input(buffer, end, session, types, members, rows, numbers, out),
-        Input::Ended(end) => answer_last(&buffer[..end], session, types, members, rows, numbers, out),
+        Input::Ended(end) => answer_last(
+            &buffer[..end],
+            session,
+            types,
+            members,
+            rows,
+            numbers,
+            out,
+        ),
         Input::Full => answer::stop(session, out, b"longer than 65535 bytes\n"),
         Input::Failed => answer::stop(session, out, b"the input cannot be read\n"),
     }
@@ -127,7 +168,14 @@ fn flushed(session: Session, out: &[u8]) -> Session {
 }
 
 // A proved loop has to end, and nothing says that the input does: the turns are counted down from a number that no run uses up.
-fn run(buffer: &mut [u8], types: &mut [u32], members: &mut [u32], rows: &mut [u32], numbers: &mut [u32], out: &mut [u8])
+fn run(
+    buffer: &mut [u8],
+    types: &mut [u32],
+    members: &mut [u32],
+    rows: &mut [u32],
+    numbers: &mut [u32],
+    out: &mut [u8],
+)
     requires { ⌜ 1025 ≤ length (now numbers) ⌝ }
 {
     let mut s = answer::start();
@@ -150,5 +198,12 @@ fn main() {
     let mut numbers = [0u32; 1025];
     let mut buffer = [0u8; 65536];
     let mut out = [0u8; 65536];
-    run(&mut buffer, &mut types, &mut members, &mut rows, &mut numbers, &mut out);
+    run(
+        &mut buffer,
+        &mut types,
+        &mut members,
+        &mut rows,
+        &mut numbers,
+        &mut out,
+    );
 }

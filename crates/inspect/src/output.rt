@@ -47,7 +47,14 @@ fn put_next(out: &mut [u8], at: usize, n: u64) -> usize {
     put_number(out, end, n)
 }
 
-pub fn put_refusal(out: &mut [u8], at: usize, number: u32, ty: u32, member: u32, detail: u32) -> usize {
+pub fn put_refusal(
+    out: &mut [u8],
+    at: usize,
+    number: u32,
+    ty: u32,
+    member: u32,
+    detail: u32,
+) -> usize {
     let a = put_text(out, at, b"refused");
     let b = put_next(out, a, number as u64);
     let c = put_next(out, b, ty as u64);

@@ -1,3 +1,4 @@
 pub mod WordLaws
 pub mod NumberLaws
 pub mod LineLaws
+pub mod Examples

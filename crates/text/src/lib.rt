@@ -68,24 +68,49 @@ pub enum Count {
 pub enum Line {
     Nothing,
     Capabilities(u32),
-    TypeRecord { kind: u32, a: u32, b: u32, c: u32, d: u32, e: u32 },
-    MemberRecord { ty: u32, offset: u32 },
+    TypeRecord {
+        kind: u32,
+        a: u32,
+        b: u32,
+        c: u32,
+        d: u32,
+        e: u32,
+    },
+    MemberRecord {
+        ty: u32,
+        offset: u32,
+    },
     Check,
     Members(u32),
-    Slots { ty: u32, offset: u32 },
-    Range { offset: u32, size: u32 },
+    Slots {
+        ty: u32,
+        offset: u32,
+    },
+    Range {
+        offset: u32,
+        size: u32,
+    },
     // The steps stand after the start among the numbers read.
-    Place { start: u32, steps: u32 },
+    Place {
+        start: u32,
+        steps: u32,
+    },
     Clear,
     Wrong(Reason),
 }
 
 const SPACE: u8 = 32;
+
 const TAB: u8 = 9;
+
 const RETURN: u8 = 13;
+
 const NEWLINE: u8 = 10;
+
 const HASH: u8 = 35;
+
 const ZERO: u8 = 48;
+
 const NINE: u8 = 57;
 // One above the largest number.
 const ABOVE: u64 = 4294967296;

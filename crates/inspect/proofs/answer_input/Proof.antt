@@ -9,7 +9,7 @@ slice-aggregate-answer-lines : tie.Need-slice-aggregate-answer-lines
 slice-aggregate-answer-lines c = let a = c .before .before .before .before .before .before .before .args in omega (arith, length-take-le (a .end) (now (a .buffer)) (c .before .before .before .before .before .before .before .pre .0))
 
 sub-keep-rest : tie.Need-sub-keep-rest
-sub-keep-rest c = 
+sub-keep-rest c =
     let a = c .before .before .before .before .before .before .before .before .before .before .before .before .before .before .before .before .before .before .before .before .before .before .before .before .args in
     omega (arith, c .before .before .before .before .before .before .before .before .before .before .before .answer-lines .ensures, length-take-le (a .end) (now (a .buffer)) (c .before .before .before .before .before .before .before .before .before .before .before .before .before .before .before .before .before .before .before .before .before .before .before .before .pre .0))
 

@@ -20,17 +20,18 @@ loop-less : tie.Need-loop-less Inv-loop μ-loop
 loop-less c = omega (arith, c .before .before .before .before .before .before .before .before .before .before .before .before .before .before .before .before .before .before .before .before .loop-test .taken, c .before .before .before .before .before .before .before .before .before .before .before .before .before .before .before .before .before .before .before .before .before .loop .inv .0)
 
 loop-again : tie.Need-loop-again Inv-loop μ-loop
-loop-again c = 
+loop-again c =
     let i = c .before .before .before .before .before .before .before .before .before .before .before .before .before .before .before .before .before .before .before .before .before .loop .inv in
-    let k = c .before .before .before .before .before .before .before .before .before .before .before .before .before .answer .kept in
-    (c .run-end2 .ensures .1 .0,
-    c .run-end2 .ensures .1 .1,
-    omega (arith, i .2, k .1 .1 .1 .1 .1 .0),
-    omega (arith, i .3, k .1 .1 .0),
-    omega (arith, i .4, k .1 .1 .1 .0),
-    omega (arith, i .5, k .1 .1 .1 .1 .0),
-    omega (arith, i .6, k .1 .1 .1 .1 .1 .0),
-    omega (arith, i .7, k .1 .1 .1 .1 .1 .1 .0))
+    let k = c .before .before .before .before .before .before .before .before .before .before .before .before .before .answer .kept in (
+      c .run-end2 .ensures .1 .0,
+      c .run-end2 .ensures .1 .1,
+      omega (arith, i .2, k .1 .1 .1 .1 .1 .0),
+      omega (arith, i .3, k .1 .1 .0),
+      omega (arith, i .4, k .1 .1 .1 .0),
+      omega (arith, i .5, k .1 .1 .1 .1 .0),
+      omega (arith, i .6, k .1 .1 .1 .1 .1 .0),
+      omega (arith, i .7, k .1 .1 .1 .1 .1 .1 .0),
+    )
 
 pub answer-lines-spec : {M : Type 1} → statement M
 answer-lines-spec =

@@ -14,16 +14,17 @@ abbrev μ-loop : tie.MeasureT-loop
 μ-loop buffer₀ types₀ members₀ rows₀ numbers₀ out₀ s₀ turns₀ buffer types members rows numbers out s turns = turns
 
 loop-again : tie.Need-loop-again Inv-loop μ-loop
-loop-again c = 
+loop-again c =
     let i = c .before .before .before .before .before .before .before .before .before .before .before .before .before .before .before .before .before .before .before .before .before .before .before .loop .inv in
-    let k = c .before .before .before .before .before .before .before .before .before .before .before .before .before .before .before .turn .kept in
-    (omega (arith, i .0, k .1 .1 .1 .1 .1 .0),
-    omega (arith, i .1, k .0),
-    omega (arith, i .2, k .1 .1 .0),
-    omega (arith, i .3, k .1 .1 .1 .0),
-    omega (arith, i .4, k .1 .1 .1 .1 .0),
-    omega (arith, i .5, k .1 .1 .1 .1 .1 .0),
-    omega (arith, i .6, k .1 .1 .1 .1 .1 .1 .0))
+    let k = c .before .before .before .before .before .before .before .before .before .before .before .before .before .before .before .turn .kept in (
+      omega (arith, i .0, k .1 .1 .1 .1 .1 .0),
+      omega (arith, i .1, k .0),
+      omega (arith, i .2, k .1 .1 .0),
+      omega (arith, i .3, k .1 .1 .1 .0),
+      omega (arith, i .4, k .1 .1 .1 .1 .0),
+      omega (arith, i .5, k .1 .1 .1 .1 .1 .0),
+      omega (arith, i .6, k .1 .1 .1 .1 .1 .1 .0),
+    )
 
 pub run-spec : {M : Type 1} → statement M
 run-spec =

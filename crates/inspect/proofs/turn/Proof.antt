@@ -6,19 +6,19 @@ use Rattle.inspect.proofs.turn.Statement.{statement}
 use Rattle.inspect.proofs.turn.Tie as tie
 
 answer-input-requires : tie.Need-answer-input-requires
-answer-input-requires c κs = 
+answer-input-requires c κs =
     let r = c .before .before .before .before .before .before .before .before .before .before .before .read-more in
     let w = rw (c .before .before .before .before .before .before .before .end .given .1) at (r .ensures) in
     (omega (arith, w, r .kept .0), c .before .before .before .before .before .before .before .before .before .before .before .before .before .before .before .before .before .before .before .pre)
 
 slice-reshare-prefix-answer-last : tie.Need-slice-reshare-prefix-answer-last
-slice-reshare-prefix-answer-last c = 
+slice-reshare-prefix-answer-last c =
     let r = c .before .before .before .before .before .read-more in
     let w = rw (c .before .end2 .given .1) at (r .ensures) in
     omega (arith, w, r .kept .0)
 
 slice-aggregate-answer-last : tie.Need-slice-aggregate-answer-last
-slice-aggregate-answer-last c = 
+slice-aggregate-answer-last c =
     let r = c .before .before .before .before .before .before .read-more in
     let w = rw (c .before .before .end2 .given .1) at (r .ensures) in
     omega (arith, length-take-le (c .before .before .end2 .given .0 .0) (r .last .0) (omega (arith, w, r .kept .0)))

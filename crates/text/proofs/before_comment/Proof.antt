@@ -13,7 +13,7 @@ slice-aggregate-result c = omega (arith, length-take-le (c .before .run-end .res
 
 returns : tie.Need-returns
 unfolding beforeComment
-returns c = 
+returns c =
     let e : c .before .run-end .result ≡ runOf (isIn Text) (now (c .before .before .before .args .line)) = omega (arith, c .before .run-end .ensures .0) in
     rw e
 

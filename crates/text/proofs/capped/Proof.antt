@@ -26,18 +26,19 @@ add-next : tie.Need-add-next Inv-loop μ-loop
 add-next c = omega (arith, c .before .before .before .loop .inv .1, c .digit-of .ensures .1)
 
 loop-again : tie.Need-loop-again Inv-loop μ-loop
-loop-again c = 
+loop-again c =
     let a = c .before .before .before .before .before .before .args in
     let l = c .before .before .before .before .loop in
     let m = decimal-more (now (a .word)) (l .i) (l .n) (c .before .before .before .loop-test .taken) in
-    let next = l .n * 10 + (getD (now (a .word)) (l .i) 0 - 48) in
-    (search needs,
-    omega (arith, c .least .ensures),
-    rw (c .least .ensures, c .before .digit-of .ensures .0)
-    (decimal-capped next 4294967296 (drop (l .i + 1) (now (a .word))) ∙ rw m at (l .inv .2)))
+    let next = l .n * 10 + (getD (now (a .word)) (l .i) 0 - 48) in (
+      search needs,
+      omega (arith, c .least .ensures),
+      rw (c .least .ensures, c .before .digit-of .ensures .0)
+          (decimal-capped next 4294967296 (drop (l .i + 1) (now (a .word))) ∙ rw m at (l .inv .2)),
+    )
 
 returns : tie.Need-returns Inv-loop μ-loop
-returns c = 
+returns c =
     let l = c .before .loop in
     let d = decimal-done (now (c .before .before .before .args .word)) (l .i) (l .n) (c .loop-test .left) in
     omega (arith, rw d at (l .inv .2))

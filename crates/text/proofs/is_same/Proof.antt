@@ -25,17 +25,17 @@ shared-slice-read-if2-2 : tie.Need-shared-slice-read-if2-2 Inv-loop μ-loop
 shared-slice-read-if2-2 c = omega (arith, c .before .before .before .before .if1 .left)
 
 returns-2 : tie.Need-returns-2 Inv-loop μ-loop
-returns-2 c = 
+returns-2 c =
     let l = c .before .before .before .before .loop in
     sym (same-stop _ _ (l .i) (c .before .before .before .loop-test .taken) (omega (arith, c .before .before .before .before .before .if1 .left)) (c .if2 .taken)) ∙ l .inv .1
 
 loop-again : tie.Need-loop-again Inv-loop μ-loop
-loop-again c = 
+loop-again c =
     let l = c .before .before .before .before .loop in
     (search needs, sym (same-more _ _ (l .i) (c .before .before .before .loop-test .taken) (omega (arith, c .before .before .before .before .before .if1 .left)) (c .if2 .left)) ∙ l .inv .1)
 
 returns-3 : tie.Need-returns-3 Inv-loop μ-loop
-returns-3 c = 
+returns-3 c =
     let l = c .before .loop in
     sym (same-done _ _ (l .i) (c .loop-test .left) (omega (arith, c .before .before .if1 .left))) ∙ l .inv .1
 

@@ -7,12 +7,12 @@ use Rattle.text.proofs.next_word.Statement.{statement}
 use Rattle.text.proofs.next_word.Tie as tie
 
 returns : tie.Need-returns
-returns c = 
+returns c =
     let a = c .before .before .before .args in
     word-at-end (now (a .s)) (a .at) (c .before .run-end .result) (c .before .run-end .ensures .0) (omega (arith, c .if1 .taken))
 
 returns-2 : tie.Need-returns-2
-returns-2 c = 
+returns-2 c =
     let a = c .before .before .before .before .args in
     let r = c .before .before .run-end in
     let found = word-found (now (a .s)) (a .at) (r .result) (r .ensures .0) (c .run-end2 .result) (omega (arith, r .ensures .1, c .before .if1 .left)) (c .run-end2 .ensures .0) in

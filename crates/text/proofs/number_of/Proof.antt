@@ -15,20 +15,20 @@ returns c = rw (le-ltb 0 (length (now (c .before .before .args .word))) (omega (
 
 returns-2 : tie.Need-returns-2
 unfolding numberOf
-returns-2 c = 
+returns-2 c =
     let w = now (c .before .before .before .before .args .word) in
     rw (lt-ltb 0 (length w) (omega (arith, c .before .before .if1 .left)), sym (c .before .all-digits .ensures) ∙ not-true _ (c .if2 .taken))
 
 returns-3 : tie.Need-returns-3
 unfolding numberOf
-returns-3 c = 
+returns-3 c =
     let w = now (c .before .before .before .before .before .before .args .word) in
     let e : c .before .capped .result ≡ decimal 0 w = omega (arith, c .before .capped .ensures, c .if3 .taken) in
     rw (lt-ltb 0 (length w) (omega (arith, c .before .before .before .before .if1 .left)), sym (c .before .before .before .all-digits .ensures) ∙ not-false _ (c .before .before .if2 .left), le-leb (decimal 0 w) 4294967295 (omega (arith, e, c .if3 .taken)), e)
 
 returns-4 : tie.Need-returns-4
 unfolding numberOf
-returns-4 c = 
+returns-4 c =
     let w = now (c .before .before .before .before .before .before .args .word) in
     rw (lt-ltb 0 (length w) (omega (arith, c .before .before .before .before .if1 .left)), sym (c .before .before .before .all-digits .ensures) ∙ not-false _ (c .before .before .if2 .left), lt-leb (decimal 0 w) 4294967295 (omega (arith, c .before .capped .ensures, c .if3 .left)))
 

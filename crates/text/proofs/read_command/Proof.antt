@@ -12,7 +12,7 @@ use Rattle.text.proofs.read_command.Statement.{statement}
 use Rattle.text.proofs.read_command.Tie as tie
 
 returns : tie.Need-returns
-returns c = 
+returns c =
     let a = c .before .before .before .before .before .before .before .before .before .before .before .before .args in
     let r = c .before .before .before .before .before .before .before .read-numbers in
     let k = c .before .before .before .count .given .0 .0 in
@@ -23,7 +23,7 @@ returns c =
     rw (arguments-few (a .command) (words (drop (a .at) (now (a .s)))) k xs all within (omega (arith, c .if1 .taken, c .before .least-of .ensures))) (refl, refl)
 
 slice-reshare-prefix-line-by : tie.Need-slice-reshare-prefix-line-by
-slice-reshare-prefix-line-by c = 
+slice-reshare-prefix-line-by c =
     let a = c .before .before .before .before .before .before .before .before .before .before .before .before .args in
     let r = c .before .before .before .before .before .before .before .read-numbers in
     let k = c .before .before .before .count .given .0 .0 in
@@ -34,7 +34,7 @@ slice-reshare-prefix-line-by c =
     within
 
 slice-aggregate-line-by : tie.Need-slice-aggregate-line-by
-slice-aggregate-line-by c = 
+slice-aggregate-line-by c =
     let a = c .before .before .before .before .before .before .before .before .before .before .before .before .before .args in
     let r = c .before .before .before .before .before .before .before .before .read-numbers in
     let k = c .before .before .before .before .count .given .0 .0 in
@@ -45,7 +45,7 @@ slice-aggregate-line-by c =
     sym (length-take-le k xs within)
 
 line-by-requires : tie.Need-line-by-requires
-line-by-requires c κs = 
+line-by-requires c κs =
     let a = c .before .before .before .before .before .before .before .before .before .before .before .before .before .args in
     let r = c .before .before .before .before .before .before .before .before .read-numbers in
     let k = c .before .before .before .before .count .given .0 .0 in
@@ -56,7 +56,7 @@ line-by-requires c κs =
     rw (length-take-le k xs within) (omega (arith, c .before .if1 .left, c .before .before .least-of .ensures), omega (arith, few, c .before .before .before .before .before .before .before .before .before .before .most-of .ensures .1))
 
 returns-2 : tie.Need-returns-2
-returns-2 c = 
+returns-2 c =
     let a = c .before .before .before .before .before .before .before .before .before .before .before .before .before .before .args in
     let r = c .before .before .before .before .before .before .before .before .before .read-numbers in
     let k = c .before .before .before .before .before .count .given .0 .0 in
@@ -67,7 +67,7 @@ returns-2 c =
     rw (arguments-read (a .command) (words (drop (a .at) (now (a .s)))) k xs all within (omega (arith, c .before .before .if1 .left, c .before .before .before .least-of .ensures))) (c .line-by .ensures, holds-take k xs within)
 
 returns-3 : tie.Need-returns-3
-returns-3 c = 
+returns-3 c =
     let a = c .before .before .before .before .before .before .before .before .before .before .args in
     let told = rw (c .before .reason .given .1, c .before .before .before .before .before .before .before .most-of .ensures .0) at (c .before .before .before .before .before .read-numbers .ensures .0) in
     rw (arguments-wrong (a .command) (words (drop (a .at) (now (a .s)))) (c .before .reason .given .0 .0) told) (refl, refl)

@@ -6,32 +6,32 @@ use Rattle.text.proofs.read_line.Statement.{statement}
 use Rattle.text.proofs.read_line.Tie as tie
 
 sub-command-of : tie.Need-sub-command-of
-sub-command-of c = 
+sub-command-of c =
     let w = rw (c .before .start .given .1) at (c .before .before .before .next-word .ensures) in
     omega (arith, w .0)
 
 part-command-of-start : tie.Need-part-command-of-start
-part-command-of-start c = 
+part-command-of-start c =
     let w = rw (c .before .start .given .1) at (c .before .before .before .next-word .ensures) in
     omega (arith, w .0)
 
 part-command-of-end : tie.Need-part-command-of-end
-part-command-of-end c = 
+part-command-of-end c =
     let w = rw (c .before .start .given .1) at (c .before .before .before .next-word .ensures) in
     w .1
 
 read-command-requires : tie.Need-read-command-requires
-read-command-requires c κs = 
+read-command-requires c κs =
     let w = rw (c .before .before .before .before .start .given .1) at (c .before .before .before .before .before .before .next-word .ensures) in
     (w .1, c .before .before .before .before .before .before .before .before .before .before .pre)
 
 returns : tie.Need-returns
-returns c = 
+returns c =
     let none = rw (c .enum-told .given .1) at (c .before .before .next-word .ensures) in
     rw (← c .before .before .before .text-of .ensures, none) (refl, refl)
 
 returns-2 : tie.Need-returns-2
-returns-2 c = 
+returns-2 c =
     let w = rw (c .before .before .before .before .before .before .before .start .given .1) at (c .before .before .before .before .before .before .before .before .before .next-word .ensures) in
     rw (← c .before .before .before .before .before .before .before .before .before .before .text-of .ensures, w .2, ← c .before .before .before .before .command-of .ensures) (c .before .before .read-command .ensures)
 

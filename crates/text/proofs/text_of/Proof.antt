@@ -13,7 +13,7 @@ use Rattle.text.proofs.text_of.Tie as tie
 
 returns : tie.Need-returns
 unfolding withoutReturn
-returns c = 
+returns c =
     let a = now (c .before .before .before .args .line) in
     let none : getD a (length a - 1) 0 ≡ 0 = List·getD-eq-default a 0 (omega (arith, c .before .if1 .taken)) in
     rw (c .before-comment .ensures, none) refl
