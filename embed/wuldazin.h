@@ -175,7 +175,8 @@ void wuldazin_range(uint32_t offset, uint32_t size,
 
 /* The immediate slots of type ty that stands at offset. Judges the arena first. mask: one word, 0 on a refusal. Numbers 1 to 26.
  * The walk visits every member of every nested struct anew: in an arena whose structs hold others several times over, it may double
- * with each level. Do not call it on tables of unknown origin without a limit on time. No other call has this. */
+ * with each level. Do not call it on tables of unknown origin without a limit on time. No other call has this. It recurses, at most
+ * once a type: 200 KB of stack. */
 void wuldazin_slots(const uint32_t *types, size_t types_length,
                     const uint32_t *members, size_t members_length,
                     uint32_t capabilities,

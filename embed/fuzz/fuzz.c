@@ -202,7 +202,8 @@ static void grow(Tables *t, uint32_t count) {
     static uint32_t row[ROWS_MOST];
     uint32_t found[4];
     t->types_length = t->members_length = 0;
-    while (t->types_length < 6 * count) {
+    for (uint32_t tries = 0; t->types_length < 6 * count; tries++) {
+        require(tries < 1000 + 100 * count, "no arena is accepted");
         size_t types_length = t->types_length, members_length = t->members_length;
         propose(t, row);
         wuldazin_check(t->types, t->types_length, t->members, t->members_length, 8191, row, ROWS_MOST, found, 4);
@@ -223,10 +224,33 @@ static void nest(Tables *t) {
     }
 }
 
+/* One word away from refusals that are seldom met by chance. */
+static void hand_made(Tables *t) {
+    static const uint32_t records[] = {
+        0, 2, 4, 0, 0, 0,  /* f32 */
+        7, 0, 1, 0, 4, 0,  /* array<f32> */
+        8, 0, 2, 8, 0, 0,  /* struct { f32, array<f32> } */
+        5, 2, 4, 0, 0, 0,  /* pointer to it in Storage */
+        9, 1, 0, 2, 0, 0,  /* external image */
+        9, 1, 0, 0, 0, 0,  /* sampled image */
+        13, 5, 0, 4, 0, 0, /* binding array of it */
+    };
+    memcpy(t->types, records, sizeof records);
+    memcpy(t->members, (uint32_t[]){0, 0, 1, 4}, 16);
+    t->types_length = sizeof records / 4, t->members_length = 4;
+}
+
 /* Templates 0 to 2 are full, up to 11 of middle size, the others small. */
 static void make_templates(void) {
     nest(templates);
-    for (uint32_t k = 1; k < TEMPLATES; k++) grow(templates + k, k < 3 ? 1024 : k < 12 ? 30 * k : 1 + below(20));
+    for (uint32_t k = 1; k < TEMPLATES - 1; k++) grow(templates + k, k < 3 ? 1024 : k < 12 ? 30 * k : 1 + below(20));
+    hand_made(templates + TEMPLATES - 1);
+    for (Tables *t = templates; t < templates + TEMPLATES; t++) {
+        static uint32_t row[ROWS_MOST];
+        uint32_t found[4];
+        wuldazin_check(t->types, t->types_length, t->members, t->members_length, 8191, row, ROWS_MOST, found, 4);
+        require(found[0] == 0, "a template is refused");
+    }
 }
 
 static void random_words(uint32_t *words, size_t length, bool small) {

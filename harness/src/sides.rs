@@ -107,8 +107,8 @@ fn last_struct_in_slots(arena: &Arena) -> u32 {
     let rows = print::reference_of(arena).rows.unwrap();
     let records = arena.types.chunks_exact(TYPE_WORDS);
     let fits = |record: &[u32], row: &Row| record[0] == kind::STRUCT && row[0] <= SLOT_BYTES;
-    let pairs = records.zip(&rows).enumerate();
-    let found = pairs.filter(|(_, (record, row))| fits(record, row)).last();
+    let mut pairs = records.zip(&rows).enumerate();
+    let found = pairs.rfind(|(_, (record, row))| fits(record, row));
     found.map_or(0, |(number, _)| number as u32)
 }
 

@@ -140,7 +140,8 @@ pub fn range(offset: u32, size: u32) -> Result<u64, Refusal> {
 /// The immediate slots of type `ty` that stands at `offset`. Judges the arena first. Numbers 1 to 26.
 ///
 /// The walk visits every member of every nested struct anew: where structs hold others several times over, it may double
-/// with each level. Do not call it on tables of unknown origin without a limit on time.
+/// with each level. Do not call it on tables of unknown origin without a limit on time. It recurses, at most once a type:
+/// 200 KB of stack.
 pub fn slots(
     types: &[u32],
     members: &[u32],
