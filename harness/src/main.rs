@@ -25,6 +25,8 @@ mod leaves;
 mod marked;
 #[cfg(feature = "members")]
 mod member_calls;
+#[cfg(all(feature = "slots", feature = "place"))]
+mod member_records;
 mod members;
 #[cfg(feature = "mock")]
 mod mock;
@@ -61,6 +63,7 @@ const USAGE: &str = "usage: layout COUNT [SEED]
        place COUNT [SEED]                       (feature place)
        members COUNT [SEED]                     (feature members)
        replay COUNT [SEED [STDIN STDOUT]]       (features slots, place, members)
+       member_records COUNT SEED FOLDER         (features slots, place)
        bench                                    (features check, slots, place)
        theorem COUNT [SEED] | histogram COUNT [SEED] | show SEED INDEX";
 
@@ -74,8 +77,7 @@ fn main() -> ExitCode {
         return ExitCode::SUCCESS;
     }
     let (Some(command), Some(first)) = (command, number(1)) else {
-        eprintln!("{USAGE}");
-        return ExitCode::from(2);
+        return usage();
     };
     let second = number(2);
     let seed = second.unwrap_or(1);
@@ -93,6 +95,11 @@ fn main() -> ExitCode {
         "members" => member_calls::members(first, seed),
         #[cfg(all(feature = "slots", feature = "place", feature = "members"))]
         "replay" => replay::replay(first, seed, words.get(3..).unwrap_or_default()),
+        #[cfg(all(feature = "slots", feature = "place"))]
+        "member_records" => match words.get(3) {
+            Some(folder) => member_records::member_records(first, seed, folder),
+            None => return usage(),
+        },
         "theorem" => theorem::theorem(first, seed),
         "histogram" => {
             compare::histogram(first, seed);
@@ -103,10 +110,12 @@ fn main() -> ExitCode {
             print::arena_and_reference(&generator::arena(first, index));
             true
         }
-        _ => {
-            eprintln!("{USAGE}");
-            return ExitCode::from(2);
-        }
+        _ => return usage(),
     };
     ExitCode::from(u8::from(!agreed))
+}
+
+fn usage() -> ExitCode {
+    eprintln!("{USAGE}");
+    ExitCode::from(2)
 }
