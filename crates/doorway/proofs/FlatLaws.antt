@@ -2,7 +2,7 @@
 -- Assumes nothing.
 use mathlib.Core.Path.{_≡_, refl, sym, ap, _∙_, subst}
 use mathlib.Core.Bool.{Bool, true, false}
-use Prim.Native.Nat.{ℕ, zero, suc, _+_, _*_, _<_, _≤_}
+use Prim.Native.Nat.{ℕ, suc, _+_, _*_, _<_, _≤_}
 use native.Mathlib.Nat.{le-refl}
 use native.Mathlib.Numerals.{add-one}
 use native.Mathlib.Omega.{arith}
@@ -10,7 +10,7 @@ use mathlib.Core.List.{List, [], _∷_, _++_}
 use lib.Dec.{leb}
 use lib.ListN.{length, getD, set, take}
 use lib.Seq.{take-suc, take-suc-set, append-snoc, lt-length-set, take-length, length-take-le}
-use borrow.Author.Tests.{leb-true, leb-false, lt-leb, le-leb}
+use borrow.Author.Tests.{leb-true, leb-false}
 use Rattle.records.specs.Result.{pick}
 use Rattle.doorway.specs.Flat.{flat}
 use Rattle.doorway.specs.declared.Member.{Member}
