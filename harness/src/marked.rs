@@ -1,7 +1,7 @@
 //! The marked examples of 01, tried on the reference.
 
 use crate::records::*;
-use crate::{reference, slots, translate};
+use crate::{members, place, reference, slots, translate};
 
 const E: [u32; 6] = [kind::SCALAR, 2, 4, 0, 0, 0];
 const V: [u32; 6] = [kind::VECTOR, 3, 2, 4, 0, 0];
@@ -79,4 +79,41 @@ fn m12_ranges() {
     assert_eq!(slots::of_range(3, 2), Ok(3));
     assert_eq!(slots::of_range(252, 4), Ok(1 << 63));
     assert_eq!(slots::of_range(252, 5), Err(25));
+}
+
+/// Slot k is set when the range covers one of the bytes 4k to 4k + 3.
+#[test]
+fn small_ranges_by_their_bytes() {
+    for offset in 0..300 {
+        for size in 0..300 {
+            let bytes = offset..offset + size;
+            let expected = match bytes.end <= 256 || size == 0 {
+                true => Ok(bytes.fold(0, |mask, byte| mask | 1u64 << (byte / 4))),
+                false => Err(25),
+            };
+            assert_eq!(slots::of_range(offset, size), expected);
+        }
+    }
+}
+
+#[test]
+fn places_and_parts_of_m1() {
+    let runtime = [kind::ARRAY, 2, DYNAMIC, 0, 16, 0];
+    let types = [E, V, structure(0, 2, 16), runtime];
+    let types = types.as_flattened();
+    let rows = [1, 0, 0, 12];
+    let place = |start, steps: &[u32]| place::of(types, &rows, start, steps);
+    assert_eq!(place(2, &[0]), Some((0, 1)));
+    assert_eq!(place(2, &[1]), Some((12, 0)));
+    assert_eq!(
+        place(3, &[u32::MAX, 1]),
+        Some((16 * u64::from(u32::MAX) + 12, 0))
+    );
+    assert_eq!(place(0, &[]), Some((0, 0)));
+    for (start, steps) in [(2, &[][..]), (2, &[2]), (2, &[1, 0]), (3, &[7]), (4, &[])] {
+        assert_eq!(place(start, steps), None);
+    }
+    let part = |number| members::part(types, &rows, number);
+    assert_eq!([part(2), part(1), part(4)], [[0, 4], [0, 0], [0, 0]]);
+    assert_eq!(members::part(types, &rows[..3], 2), [0, 0]);
 }

@@ -1,17 +1,58 @@
--- 01, 'The refusal': an answer as four words, number, type, member, detail; zeros for an accepted arena.
+-- What the calls for C leave in the buffers that they are lent. An answer is four words, number, type, member, detail; zeros for an accepted one.
+-- A buffer that is too short for its words is left as it was.
 -- Assumes nothing.
 use mathlib.Core.List.{List, [], _∷_, _++_}
-use Prim.Native.Nat.{ℕ}
-use lib.Dec.{leb}
+use Prim.Native.Nat.{ℕ, _*_}
+use lib.Dec.{eqb, leb}
 use lib.ListN.{length, drop}
 use Rattle.records.specs.Result.{pick}
+use Rattle.records.specs.Record.{typeWord, memberWords, structMembers}
 use Rattle.records.specs.declared.Outcome.{Outcome}
 use Rattle.records.specs.declared.Outcome.the-variants.{Accepted, Refused}
+use Rattle.immediates.specs.declared.SlotsAnswer.{SlotsAnswer}
+use Rattle.immediates.specs.declared.SlotsAnswer.the-variants as slots
+use Rattle.place.specs.declared.PlaceAnswer.{PlaceAnswer}
+use Rattle.place.specs.declared.PlaceAnswer.the-variants as place
 
+-- ---- 01's number and values for each answer
 abbrev pub answerWords : Outcome → List ℕ
 answerWords Accepted = 0 ∷ 0 ∷ 0 ∷ 0 ∷ []
 answerWords (Refused number ty member detail) = number ∷ ty ∷ member ∷ detail ∷ []
 
--- the lent words with the answer in the first four; words too few for it are left as they were
+abbrev pub slotsOutcome : SlotsAnswer → Outcome
+slotsOutcome (slots.Slots mask) = Accepted
+slotsOutcome (slots.Refused number ty member detail) = Refused number ty member detail
+
+abbrev pub placeOutcome : PlaceAnswer → Outcome
+placeOutcome (place.Found byte leaf) = Accepted
+placeOutcome (place.Refused number ty member detail) = Refused number ty member detail
+
+-- ---- the words beside it; zeros on a refusal
+abbrev pub maskOf : SlotsAnswer → ℕ
+maskOf (slots.Slots mask) = mask
+maskOf (slots.Refused number ty member detail) = 0
+
+abbrev pub byteOf : PlaceAnswer → ℕ
+byteOf (place.Found byte leaf) = byte
+byteOf (place.Refused number ty member detail) = 0
+
+abbrev pub leafOf : PlaceAnswer → ℕ
+leafOf (place.Found byte leaf) = leaf
+leafOf (place.Refused number ty member detail) = 0
+
+-- the part of the member table that a struct's rows are: its first word, 0 for an empty part, and how many words it has
+abbrev pub partStart : (ts ms : List ℕ) → ℕ → ℕ
+partStart ts ms ty = pick (eqb (length (structMembers ts ms ty)) 0) 0 (typeWord ts ty 1 * memberWords)
+
+abbrev pub partLength : (ts ms : List ℕ) → ℕ → ℕ
+partLength ts ms ty = length (structMembers ts ms ty)
+
+-- ---- lent words with an answer in the first ones
 unfoldable pub withAnswer : List ℕ → Outcome → List ℕ
 withAnswer words outcome = pick (leb 4 (length words)) (answerWords outcome ++ drop 4 words) words
+
+unfoldable pub withOne : List ℕ → ℕ → List ℕ
+withOne words a = pick (leb 1 (length words)) (a ∷ drop 1 words) words
+
+unfoldable pub withTwo : List ℕ → (a b : ℕ) → List ℕ
+withTwo words a b = pick (leb 2 (length words)) (a ∷ b ∷ drop 2 words) words

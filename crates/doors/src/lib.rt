@@ -1,12 +1,20 @@
 // The static library: the public calls with C's calling convention. A slice is a pointer and a length.
+use immediates::SlotsAnswer;
+use place::PlaceAnswer;
 use records::Outcome;
 ghost use mathlib.Core.Path.{_≡_};
 ghost use mathlib.Core.List.{_∷_};
-ghost use Prim.Native.Nat.{_≤_};
+ghost use Prim.Native.Nat.{_*_, _≤_};
+ghost use lib.Dec.{eqb};
+ghost use Rattle.records.specs.Result.{pick};
+ghost use Rattle.records.specs.Record.{typeWord};
 ghost use lib.ListN.{length, drop};
 ghost use Rattle.layouter.specs.Layouter.{layoutAnswer, layoutWords};
 ghost use Rattle.valid.specs.Arena.{arenaAnswer, arenaWords};
-ghost use Rattle.doors.specs.Doors.{withAnswer};
+ghost use Rattle.immediates.specs.Slots.{rangeSlots};
+ghost use Rattle.immediates.specs.Walk.{partAnswer, slotsAnswer};
+ghost use Rattle.place.specs.Place.{lookupAnswer};
+ghost use Rattle.doors.specs.Doors.{slotsOutcome, placeOutcome, maskOf, byteOf, leafOf, partStart, partLength, withAnswer, withOne, withTwo};
 
 fn put_four(answer: &mut [u32], a: u32, b: u32, c: u32, d: u32)
     requires { ⌜ 4 ≤ length (now answer) ⌝ }
@@ -33,6 +41,70 @@ fn put_answer(answer: &mut [u32], outcome: Outcome)
             member,
             detail,
         } => put_four(answer, number, ty, member, detail),
+    }
+}
+
+fn put_one(words: &mut [u64], a: u64)
+    ensures { λ _. ⌜ now (words .exit) ≡ withOne (now (words .entry)) a ⌝ }
+{
+    if words.len() < 1 {
+        return;
+    }
+    words[0] = a;
+}
+
+fn put_two(words: &mut [u64], a: u64, b: u64)
+    ensures { λ _. ⌜ now (words .exit) ≡ withTwo (now (words .entry)) a b ⌝ }
+{
+    if words.len() < 2 {
+        return;
+    }
+    words[0] = a;
+    words[1] = b;
+}
+
+fn slots_outcome(slots: SlotsAnswer) -> Outcome
+    ensures { λ r. ⌜ r ≡ slotsOutcome slots ⌝ }
+{
+    match slots {
+        SlotsAnswer::Slots(_) => Outcome::Accepted,
+        SlotsAnswer::Refused { number, ty, member, detail } => Outcome::Refused { number, ty, member, detail },
+    }
+}
+
+fn mask_of(slots: SlotsAnswer) -> u64
+    ensures { λ r. ⌜ r ≡ maskOf slots ⌝ }
+{
+    match slots {
+        SlotsAnswer::Slots(mask) => mask,
+        SlotsAnswer::Refused { number: _, ty: _, member: _, detail: _ } => 0,
+    }
+}
+
+fn place_outcome(place: PlaceAnswer) -> Outcome
+    ensures { λ r. ⌜ r ≡ placeOutcome place ⌝ }
+{
+    match place {
+        PlaceAnswer::Found { byte: _, leaf: _ } => Outcome::Accepted,
+        PlaceAnswer::Refused { number, ty, member, detail } => Outcome::Refused { number, ty, member, detail },
+    }
+}
+
+fn byte_of(place: PlaceAnswer) -> u64
+    ensures { λ r. ⌜ r ≡ byteOf place ⌝ }
+{
+    match place {
+        PlaceAnswer::Found { byte, leaf: _ } => byte,
+        PlaceAnswer::Refused { number: _, ty: _, member: _, detail: _ } => 0,
+    }
+}
+
+fn leaf_of(place: PlaceAnswer) -> u32
+    ensures { λ r. ⌜ r ≡ leafOf place ⌝ }
+{
+    match place {
+        PlaceAnswer::Found { byte: _, leaf } => leaf,
+        PlaceAnswer::Refused { number: _, ty: _, member: _, detail: _ } => 0,
     }
 }
 
@@ -65,4 +137,58 @@ pub extern "C" fn wuldazin_check(
 {
     let outcome = valid::check(types, members, capabilities, rows);
     put_answer(answer, outcome);
+}
+
+// The slots of a range given as two numbers.
+#[no_mangle]
+pub extern "C" fn wuldazin_range(offset: u32, size: u32, mask: &mut [u64], answer: &mut [u32])
+    ensures { λ _. ⌜ now (mask .exit) ≡ withOne (now (mask .entry)) (maskOf (partAnswer (rangeSlots offset size))) ⌝ }
+    ensures { λ _. ⌜ now (answer .exit) ≡ withAnswer (now (answer .entry)) (slotsOutcome (partAnswer (rangeSlots offset size))) ⌝ }
+{
+    let slots = immediates::range(offset, size);
+    put_one(mask, mask_of(slots));
+    put_answer(answer, slots_outcome(slots));
+}
+
+// The slots of a type of an arena from an offset on.
+#[no_mangle]
+pub extern "C" fn wuldazin_slots(types: &[u32], members: &[u32], capabilities: u32, rows: &mut [u32], ty: u32, offset: u32, mask: &mut [u64], answer: &mut [u32])
+    ensures { λ _. ⌜ now (rows .exit) ≡ arenaWords capabilities (now (types .entry)) (now (members .entry)) (now (rows .entry)) ⌝ }
+    ensures { λ _. ⌜ now (mask .exit) ≡ withOne (now (mask .entry)) (maskOf (slotsAnswer capabilities (now (types .entry)) (now (members .entry)) (now (rows .entry)) ty offset)) ⌝ }
+    ensures { λ _. ⌜ now (answer .exit) ≡ withAnswer (now (answer .entry)) (slotsOutcome (slotsAnswer capabilities (now (types .entry)) (now (members .entry)) (now (rows .entry)) ty offset)) ⌝ }
+{
+    let slots = immediates::immediate_slots(types, members, capabilities, rows, ty, offset);
+    put_one(mask, mask_of(slots));
+    put_answer(answer, slots_outcome(slots));
+}
+
+// The byte place and the type of the leaf that steps lead to.
+#[no_mangle]
+pub extern "C" fn wuldazin_place(types: &[u32], members: &[u32], capabilities: u32, rows: &mut [u32], start: u32, steps: &[u32], place: &mut [u64], answer: &mut [u32])
+    ensures { λ _. ⌜ now (rows .exit) ≡ arenaWords capabilities (now (types .entry)) (now (members .entry)) (now (rows .entry)) ⌝ }
+    ensures { λ _. ⌜ now (place .exit) ≡ withTwo (now (place .entry)) (byteOf (lookupAnswer capabilities (now (types .entry)) (now (members .entry)) (now (rows .entry)) start (now (steps .entry)))) (leafOf (lookupAnswer capabilities (now (types .entry)) (now (members .entry)) (now (rows .entry)) start (now (steps .entry)))) ⌝ }
+    ensures { λ _. ⌜ now (answer .exit) ≡ withAnswer (now (answer .entry)) (placeOutcome (lookupAnswer capabilities (now (types .entry)) (now (members .entry)) (now (rows .entry)) start (now (steps .entry)))) ⌝ }
+{
+    let found = place::lookup(types, members, capabilities, rows, start, steps);
+    put_two(place, byte_of(found), leaf_of(found) as u64);
+    put_answer(answer, place_outcome(found));
+}
+
+// The part of the member table that the rows of struct ty are: its first word and how many words it has.
+#[no_mangle]
+pub extern "C" fn wuldazin_members(types: &[u32], members: &[u32], ty: u32, part: &mut [u64])
+    ensures { λ _. ⌜ now (part .exit) ≡ withTwo (now (part .entry)) (partStart (now (types .entry)) (now (members .entry)) ty) (partLength (now (types .entry)) (now (members .entry)) ty) ⌝ }
+{
+    let rows = records::struct_members(types, members, ty);
+    let count = rows.len();
+    put_two(part, part_start(types, ty, count), count as u64);
+}
+
+fn part_start(types: &[u32], ty: u32, count: usize) -> u64
+    ensures { λ r. ⌜ r ≡ pick (eqb count 0) 0 (typeWord (now (types .entry)) ty 1 * 2) ⌝ }
+{
+    if count == 0 {
+        return 0;
+    }
+    (records::type_word(types, ty, 1) as u64) * 2
 }

@@ -20,13 +20,13 @@ use Rattle.records.proofs.TableLaws.{also-accepted, all-ok}
 use Rattle.records.proofs.RecordLaws.{record-bounds}
 use Rattle.type_methods.specs.TypeMethods.{mostSize, sizeOf, trySize}
 use Rattle.layouter.specs.Layouter.{noLayout, layoutStep, layoutAt, layoutOutcome}
-use Rattle.layouter.proofs.AcceptedLaws.{layout-parts}
+use Rattle.layouter.proofs.LayoutAccepted.{layout-parts}
 use Rattle.valid.specs.Arena.{judgeOutcome, arenaFits, arenaOutcome, arenaAnswer}
-use Rattle.immediates.specs.declared.Slots.{Slots}
-use Rattle.immediates.specs.declared.Slots.the-variants.{Mask, Past}
-use Rattle.immediates.specs.declared.SlotsAnswer.{SlotsAnswer}
-use Rattle.immediates.specs.declared.SlotsAnswer.the-variants as answer
-use Rattle.immediates.specs.Walk.{Measured, slotsAt, partAnswer, typeAnswer, slotsAnswer}
+use Rattle.slots.specs.declared.Slots.{Slots}
+use Rattle.slots.specs.declared.Slots.the-variants.{Mask, Past}
+use Rattle.slots.specs.declared.SlotsAnswer.the-variants as answer
+use Rattle.slots.specs.Slots.{partAnswer}
+use Rattle.immediates.specs.Walk.{Measured, slotsAt, typeAnswer, slotsAnswer}
 
 -- a size that is accepted is the measure
 measured : (inner : TypeInner) (size : ℕ) → trySize inner ≡ ok size → trySize inner ≡ ok (sizeOf inner)
@@ -79,11 +79,12 @@ pub answer-refused : (c : ℕ) (ts ms rows : List ℕ) (ty offset : ℕ) {number
 unfolding slotsAnswer
 answer-refused c ts ms rows ty offset e = rw e refl
 
--- a mask comes from the walk of a type of an accepted arena
+-- an answered mask is the part's
 part-mask : (o : Slots) (m : ℕ) → partAnswer o ≡ answer.Slots m → o ≡ Mask m
 part-mask (Mask x) m e = let q : x ≡ m = cc in rw q refl
 part-mask Past m e = let z : _≡_ {A = ℕ} 0 1 = cc in absurd (omega arith)
 
+-- it comes from an accepted arena and a type of it
 type-mask : (ts ms : List ℕ) (ty offset : ℕ) (o : Outcome) (m : ℕ) → typeAnswer ts ms ty offset o ≡ answer.Slots m
     → slotsAt (decoded ts ms) ty offset ≡ Mask m
 type-mask ts ms ty offset Accepted m e = go (ltb ty (typeCount ts)) e
@@ -94,6 +95,7 @@ type-mask ts ms ty offset Accepted m e = go (ltb ty (typeCount ts)) e
     go false q = let z : _≡_ {A = ℕ} 0 1 = cc in absurd (omega arith)
 type-mask ts ms ty offset (Refused number t position detail) m e = let z : _≡_ {A = ℕ} 0 1 = cc in absurd (omega arith)
 
+-- a mask that the call answers is that of the walk
 pub answer-mask : (c : ℕ) (ts ms rows : List ℕ) (ty offset m : ℕ) → slotsAnswer c ts ms rows ty offset ≡ answer.Slots m
     → slotsAt (decoded ts ms) ty offset ≡ Mask m
 unfolding slotsAnswer

@@ -1,100 +1,35 @@
--- The meaning of masks slot by slot: a range, contains, difference and union, and the walk of a type.
+-- The meaning of a walk slot by slot: slot k of its mask is set exactly where a non-struct part covers one of bytes 4k to 4k+3.
 -- Assumes nothing.
-use mathlib.Core.Path.{_≡_, refl, sym, ap, subst, _∙_}
-use mathlib.Core.Bool.{Bool, true, false, _&&_, _||_, not}
+use mathlib.Core.Path.{_≡_, refl, sym, ap, _∙_}
+use mathlib.Core.Bool.{Bool, true, false, _||_, not}
 use mathlib.Core.Logic.{_⊎_, inl, inr, ⊎-elim}
 use mathlib.Core.List.{List}
-use Prim.Native.Nat.{ℕ, zero, suc, _+_, _/_, _%_, _^_, _<_, _≤_}
-use native.Mathlib.Nat.{not-suc-le-zero, zero-div}
+use Prim.Native.Nat.{ℕ, zero, suc, _+_, _<_, _≤_}
+use native.Mathlib.Nat.{not-suc-le-zero}
 use native.Mathlib.Decide.{ℕ-discrete, decLe}
 use native.Mathlib.Omega.{arith}
-use lib.Dec.{T, eqb, leb}
-use borrow.Author.Tests.{eqb-true}
+use lib.Dec.{T, leb}
 use Rattle.records.specs.Result.{pick}
-use Rattle.records.specs.Record.{Decoded, decoded, typeCount, memberType, memberOffset}
+use Rattle.records.specs.Record.{Decoded, decoded, memberType, memberOffset}
 use Rattle.records.specs.Table.{table}
 use Rattle.records.specs.declared.TypeInner.{TypeInner}
 use Rattle.records.specs.declared.TypeInner.the-variants.{Plain, Array, RuntimeArray, Struct, Other}
-use Rattle.records.proofs.ResultLaws.{true-T, T-true, and-left, and-right, or-cases}
+use Rattle.records.proofs.ResultLaws.{or-cases}
 use Rattle.alignment.specs.Alignment.{most}
 use Rattle.flags.specs.Flags.{bit}
 use Rattle.type_methods.specs.TypeMethods.{sizeOf}
 use Rattle.valid.specs.Valid.{isStruct}
-use Rattle.immediates.specs.declared.Slots.{Slots}
-use Rattle.immediates.specs.declared.Slots.the-variants.{Mask, Past}
-use Rattle.immediates.specs.declared.SlotsAnswer.{SlotsAnswer}
-use Rattle.immediates.specs.declared.SlotsAnswer.the-variants as answer
-use Rattle.immediates.specs.Slots.{slotCount, slotBytes, covers, maskOf, rangeSlots, containsBelow, contains, difference, union, join}
+use Rattle.slots.specs.declared.Slots.{Slots}
+use Rattle.slots.specs.declared.Slots.the-variants.{Mask, Past}
+use Rattle.slots.specs.declared.SlotsAnswer.the-variants as answer
+use Rattle.slots.specs.Slots.{slotCount, covers, rangeSlots, union, join}
 use Rattle.immediates.specs.Walk.{CoveredBy, by-whole, by-member, noSlots, slotsStep, slotsOf, slotsAt, membersSlots, slotsAnswer}
-use Rattle.immediates.proofs.MaskLaws.{bit-mask}
-use Rattle.immediates.proofs.RangeLaws.{or-left, or-right, covers-nothing}
+use Rattle.slots.proofs.RangeLaws.{or-left, or-right}
+use Rattle.slots.proofs.SlotBits.{union-slot, zero-bit, mask-inj, range-slot}
 use Rattle.immediates.proofs.CallLaws.{answer-mask}
 use Rattle.immediates.proofs.WalkLaws.{earlier-slots, later-slots, slots-by-record}
 
--- ---- difference, union and contains
-module _ (this other k : ℕ) (h : k < slotCount) where
-  -- a slot of this that is not in other
-  pub difference-slot : bit (difference this other) k ≡ (bit this k && not (bit other k))
-  difference-slot = bit-mask (λ i. bit this i && not (bit other i)) slotCount k h
-
-  -- a slot of one or the other
-  pub union-slot : bit (union this other) k ≡ (bit this k || bit other k)
-  union-slot = bit-mask (λ i. bit this i || bit other i) slotCount k h
-
--- where the first n slots are contained, each slot of other is one of this
-contains-each : (this other n : ℕ) → T (containsBelow this other n) → (k : ℕ) → k < n → T (bit other k) → T (bit this k)
-unfolding containsBelow
-contains-each this other zero t k h o = absurd (not-suc-le-zero h)
-contains-each this other (suc n) t k h o =
-    go (contains-each this other n (and-left (containsBelow this other n) (not (bit other n) || bit this n) t))
-    (and-right (containsBelow this other n) (not (bit other n) || bit this n) t) (ℕ-discrete k n)
-  where
-    implied : (a b : Bool) → T (not a || b) → T a → T b
-    implied true b t u = t
-    implied false b t u = absurd u
-    go : ((i : ℕ) → i < n → T (bit other i) → T (bit this i)) → T (not (bit other n) || bit this n) → Dec (k ≡ n) → T (bit this k)
-    go ih last (yes e) = rw e (implied (bit other n) (bit this n) last (rw e at o))
-    go ih last (no e) = ih k (omega arith) o
-
--- and the other way round
-each-contains : (this other n : ℕ) → ((k : ℕ) → k < n → T (bit other k) → T (bit this k)) → T (containsBelow this other n)
-unfolding containsBelow
-each-contains this other zero all = tt
-each-contains this other (suc n) all =
-    joined (containsBelow this other n) (bit other n) (bit this n) (each-contains this other n (λ k h. all k (omega arith))) (all n (omega arith))
-  where
-    joined : (a b c : Bool) → T a → (T b → T c) → T (a && (not b || c))
-    joined true true c t f = f tt
-    joined true false c t f = tt
-    joined false b c t f = t
-
--- contains: every slot of other is one of this
-pub contains-slots : (this other : ℕ) → T (contains this other) → (k : ℕ) → k < slotCount → T (bit other k) → T (bit this k)
-contains-slots this other = contains-each this other slotCount
-
-pub slots-contains : (this other : ℕ) → ((k : ℕ) → k < slotCount → T (bit other k) → T (bit this k)) → T (contains this other)
-slots-contains this other = each-contains this other slotCount
-
--- ---- a range
--- no bit of 0 is set
-zero-bit : (k : ℕ) → bit 0 k ≡ false
-zero-bit k = rw (zero-div (2 ^ k)) refl
-
-mask-inj : {a b : ℕ} → Mask a ≡ Mask b → a ≡ b
-mask-inj {a} {b} e = cc
-
--- slot k of a range is set just where the part covers it
-pub range-slot : (offset size m : ℕ) → rangeSlots offset size ≡ Mask m → (k : ℕ) → k < slotCount → bit m k ≡ covers offset size k
-unfolding rangeSlots
-range-slot offset size m e k h = go (eqb size 0) refl (leb (offset + size) slotBytes) e
-  where
-    go : (b : Bool) → eqb size 0 ≡ b → (d : Bool) → pick b (Mask 0) (pick d (Mask (maskOf (covers offset size) slotCount)) Past) ≡ Mask m
-        → bit m k ≡ covers offset size k
-    go true z d q = rw (← mask-inj q, eqb-true size 0 z) (zero-bit k ∙ sym (covers-nothing offset k))
-    go false z true q = rw (← mask-inj q) (bit-mask (covers offset size) slotCount k h)
-    go false z false q = let x : _≡_ {A = ℕ} 0 1 = cc in absurd (omega arith)
-
--- ---- the walk
+-- ---- the parts of a struct
 -- the two masks that are joined
 joined-parts : (a b : Slots) (m : ℕ) → join a b ≡ Mask m → (x : ℕ) × (y : ℕ) × (a ≡ Mask x) × (b ≡ Mask y) × (m ≡ union x y)
 joined-parts (Mask x) (Mask y) m e = (x, y, refl, refl, sym (mask-inj e))
@@ -168,11 +103,12 @@ struct-cases (Struct count span) = inr (count, span, refl)
 struct-cases (Other o) = inl refl
 
 module _ (types : ℕ → Decoded) where
-  -- the slots of a type that is no struct, and of a struct
+  -- the slots of a type that is no struct
   at-whole : (ty offset : ℕ) → isStruct (types ty .inner) ≡ false → slotsAt types ty offset ≡ rangeSlots offset (sizeOf (types ty .inner))
   at-whole ty offset e =
       slots-by-record types ty offset ∙ slots-whole (table noSlots (slotsStep types) ty) (types ty .inner) (types ty .members) offset e
 
+  -- the slots of a struct
   at-struct : (ty offset count span : ℕ) → types ty .inner ≡ Struct count span
       → slotsAt types ty offset ≡ membersSlots (table noSlots (slotsStep types) ty) (types ty .members) offset count
   unfolding slotsOf

@@ -1,23 +1,20 @@
 -- Laws of the walk: the members of a struct one by one, and the slots of a type by what its record says.
 -- Assumes nothing.
-use mathlib.Core.Path.{_≡_, refl, sym, ap, _∙_}
+use mathlib.Core.Path.{_≡_, refl, ap}
 use mathlib.Core.Bool.{Bool, true, false}
 use mathlib.Core.List.{List}
-use Prim.Native.Nat.{ℕ, zero, suc, _+_, _<_, _≤_}
+use Prim.Native.Nat.{ℕ, suc, _+_, _<_, _≤_}
 use native.Mathlib.Decide.{le-ind}
 use lib.Dec.{leb}
 use borrow.Author.Tests.{le-leb, lt-leb}
 use Rattle.records.specs.Result.{pick}
 use Rattle.records.specs.Record.{Decoded, memberType, memberOffset}
 use Rattle.records.specs.Table.{table, valueAt}
-use Rattle.records.specs.declared.TypeInner.{TypeInner}
-use Rattle.records.specs.declared.TypeInner.the-variants.{Plain, Array, RuntimeArray, Struct, Other}
 use Rattle.records.proofs.TableLaws.{table-value, table-above}
 use Rattle.alignment.specs.Alignment.{most}
-use Rattle.type_methods.specs.TypeMethods.{sizeOf}
-use Rattle.immediates.specs.declared.Slots.{Slots}
-use Rattle.immediates.specs.declared.Slots.the-variants.{Mask, Past}
-use Rattle.immediates.specs.Slots.{rangeSlots, join}
+use Rattle.slots.specs.declared.Slots.{Slots}
+use Rattle.slots.specs.declared.Slots.the-variants.{Mask, Past}
+use Rattle.slots.specs.Slots.{join}
 use Rattle.immediates.specs.Walk.{noSlots, slotsStep, slotsOf, slotsAt, membersSlots}
 
 -- a part that is refused refuses both

@@ -17,11 +17,11 @@ use Rattle.records.specs.Fields.{InnerBounds}
 use Rattle.type_methods.specs.TypeMethods.{sizeOf, trySize}
 use Rattle.valid.specs.Valid.{isStruct}
 use Rattle.valid.specs.Arena.{arenaAnswer}
-use Rattle.immediates.specs.declared.Slots.{Slots}
-use Rattle.immediates.specs.declared.Slots.the-variants.{Mask, Past}
-use Rattle.immediates.specs.declared.SlotsAnswer.{SlotsAnswer}
-use Rattle.immediates.specs.declared.SlotsAnswer.the-variants as answer
-use Rattle.immediates.specs.Slots.{covers, rangeSlots, join}
+use Rattle.slots.specs.declared.Slots.{Slots}
+use Rattle.slots.specs.declared.Slots.the-variants.{Mask, Past}
+use Rattle.slots.specs.declared.SlotsAnswer.{SlotsAnswer}
+use Rattle.slots.specs.declared.SlotsAnswer.the-variants as answer
+use Rattle.slots.specs.Slots.{covers, rangeSlots, join, partAnswer}
 
 -- the first j members of a struct that stands at `offset`; number 25 where an offset sum leaves 32 bits.
 -- earlier: the slots of the types before it, each at an offset
@@ -31,6 +31,7 @@ membersSlots earlier members offset (suc j) =
     join (membersSlots earlier members offset j)
     (pick (leb (offset + memberOffset members j) most) (earlier (memberType members j) (offset + memberOffset members j)) Past)
 
+-- of a type at an offset, by what its record says
 unfoldable pub slotsOf : (earlier : ℕ → ℕ → Slots) → TypeInner → (members : List ℕ) → (offset : ℕ) → Slots
 slotsOf earlier (Plain leaf) members offset = rangeSlots offset (sizeOf (Plain leaf))
 slotsOf earlier (Array base count stride) members offset = rangeSlots offset (sizeOf (Array base count stride))
@@ -42,10 +43,11 @@ slotsOf earlier (Other o) members offset = rangeSlots offset (sizeOf (Other o))
 abbrev pub noSlots : ℕ → Slots
 noSlots offset = Past
 
+-- of type i, from those of the types before it
 abbrev pub slotsStep : (types : ℕ → Decoded) → (ℕ → ℕ → Slots) → ℕ → Result (ℕ → Slots)
 slotsStep types earlier i = ok (slotsOf earlier (types i .inner) (types i .members))
 
--- of type ty at an offset, from those of the types before it
+-- of type ty of an arena at an offset, types in ascending order
 abbrev pub slotsAt : (types : ℕ → Decoded) → (ty offset : ℕ) → Slots
 slotsAt types = valueAt noSlots (slotsStep types)
 
@@ -61,15 +63,12 @@ pub data CoveredBy (types : ℕ → Decoded) : (ty offset k : ℕ) → Type 0 wh
       → CoveredBy types (memberType (types ty .members) j) (offset + memberOffset (types ty .members) j) k
       → CoveredBy types ty offset k
 
--- ---- the call: the arena's refusal is passed on; 26 for a type outside the arena; then 25. 25 and 26 carry zeros only
-abbrev pub partAnswer : Slots → SlotsAnswer
-partAnswer (Mask mask) = answer.Slots mask
-partAnswer Past = answer.Refused 25 0 0 0
-
+-- ---- the call: the arena's refusal is passed on; 26 for a type outside the arena; then 25. Both carry zeros only
 abbrev pub typeAnswer : (ts ms : List ℕ) (ty offset : ℕ) → Outcome → SlotsAnswer
 typeAnswer ts ms ty offset outcome.Accepted =
     pick (ltb ty (typeCount ts)) (partAnswer (slotsAt (decoded ts ms) ty offset)) (answer.Refused 26 0 0 0)
 typeAnswer ts ms ty offset (outcome.Refused number t member detail) = answer.Refused number t member detail
 
+-- the arena is judged first
 unfoldable pub slotsAnswer : (c : ℕ) (ts ms rows : List ℕ) (ty offset : ℕ) → SlotsAnswer
 slotsAnswer c ts ms rows ty offset = typeAnswer ts ms ty offset (arenaAnswer c ts ms rows)

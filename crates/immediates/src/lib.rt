@@ -1,5 +1,6 @@
-// ImmediateSlots of naga's valid/immediates.rs.
+// The walk of a type: from_type of naga's valid/immediates.rs.
 use records::{Outcome, TypeInner};
+use slots::{Slots, SlotsAnswer};
 use type_methods::Size;
 ghost use mathlib.Core.Path.{_≡_};
 ghost use Prim.Native.Nat.{ℕ, _≤_};
@@ -7,95 +8,10 @@ ghost use Rattle.records.specs.Record.{decoded, typeInner, structMembers};
 ghost use Rattle.type_methods.specs.TypeMethods.{sizeOf};
 ghost use Rattle.records.specs.Table.{table};
 ghost use Rattle.valid.specs.Arena.{arenaWords};
-ghost use Rattle.immediates.specs.Slots.{rangeSlots, contains, difference, union, join};
-ghost use Rattle.immediates.specs.Walk.{Measured, noSlots, slotsStep, membersSlots, slotsAt, partAnswer, slotsAnswer};
+ghost use Rattle.slots.specs.Slots.{rangeSlots};
+ghost use Rattle.immediates.specs.Walk.{Measured, noSlots, slotsStep, membersSlots, slotsAt, slotsAnswer};
 
-// The slots that a part covers. Past: number 25, a nonempty part ends past byte 256 or an offset sum leaves 32 bits.
-pub enum Slots {
-    Mask(u64),
-    Past,
-}
-
-pub enum SlotsAnswer {
-    Slots(u64),
-    Refused {
-        number: u32,
-        ty: u32,
-        member: u32,
-        detail: u32,
-    },
-}
-
-const ALL: u64 = 18446744073709551615;
-const SLOT_BYTES: u64 = 256;
 const MOST: u64 = 4294967295;
-
-// from_range: the slots of the bytes from offset on.
-fn range_slots(offset: u32, size: u32) -> Slots
-    ensures { λ r. ⌜ r ≡ rangeSlots offset size ⌝ }
-{
-    if size == 0 {
-        return Slots::Mask(0);
-    }
-    let end = (offset as u64) + (size as u64);
-    if SLOT_BYTES < end {
-        return Slots::Past;
-    }
-    let lo = (offset as u64) / 4;
-    let hi = (end + 3) / 4;
-    let from = ALL << lo;
-    let rest = 64 - hi;
-    let below = ALL >> rest;
-    Slots::Mask(from & below)
-}
-
-// The slots of a range given as two numbers; it has no arena.
-pub fn range(offset: u32, size: u32) -> SlotsAnswer
-    ensures { λ r. ⌜ r ≡ partAnswer (rangeSlots offset size) ⌝ }
-{
-    part_answer(range_slots(offset, size))
-}
-
-// Whether every slot of other is one of this.
-pub fn contains_all(this: u64, other: u64) -> bool
-    ensures { λ r. ⌜ r ≡ contains this other ⌝ }
-{
-    other & !this == 0
-}
-
-// The slots of this that are not in other.
-pub fn difference_of(this: u64, other: u64) -> u64
-    ensures { λ r. ⌜ r ≡ difference this other ⌝ }
-{
-    this & !other
-}
-
-pub fn union_of(this: u64, other: u64) -> u64
-    ensures { λ r. ⌜ r ≡ union this other ⌝ }
-{
-    this | other
-}
-
-fn join_parts(a: Slots, b: Slots) -> Slots
-    ensures { λ r. ⌜ r ≡ join a b ⌝ }
-{
-    match a {
-        Slots::Mask(x) => match b {
-            Slots::Mask(y) => Slots::Mask(union_of(x, y)),
-            Slots::Past => Slots::Past,
-        },
-        Slots::Past => Slots::Past,
-    }
-}
-
-fn part_answer(part: Slots) -> SlotsAnswer
-    ensures { λ r. ⌜ r ≡ partAnswer part ⌝ }
-{
-    match part {
-        Slots::Mask(mask) => SlotsAnswer::Slots(mask),
-        Slots::Past => SlotsAnswer::Refused { number: 25, ty: 0, member: 0, detail: 0 },
-    }
-}
 
 // What a type that is no struct measures.
 fn measure_slots(inner: TypeInner, offset: u32) -> Slots
@@ -103,7 +19,7 @@ fn measure_slots(inner: TypeInner, offset: u32) -> Slots
     ensures { λ r. ⌜ r ≡ rangeSlots offset (sizeOf inner) ⌝ }
 {
     match type_methods::try_size(inner) {
-        Size::Bytes(size) => range_slots(offset, size),
+        Size::Bytes(size) => slots::range_slots(offset, size),
         Size::TooLarge => Slots::Past,
     }
 }
@@ -141,7 +57,7 @@ fn members_slots(types: &[u32], members: &[u32], ty: u32, offset: u32, count: u3
             return Slots::Past;
         }
         let at = sum as u32;
-        slots = join_parts(slots, type_slots(types, members, t, at));
+        slots = slots::join_parts(slots, type_slots(types, members, t, at));
         j += 1;
     }
     slots
@@ -157,7 +73,7 @@ pub fn immediate_slots(types: &[u32], members: &[u32], capabilities: u32, rows: 
             if types.len() / 6 <= ty as usize {
                 return SlotsAnswer::Refused { number: 26, ty: 0, member: 0, detail: 0 };
             }
-            part_answer(type_slots(types, members, ty, offset))
+            slots::part_answer(type_slots(types, members, ty, offset))
         }
         Outcome::Refused { number, ty, member, detail } => SlotsAnswer::Refused { number, ty, member, detail },
     }

@@ -20,7 +20,7 @@ use Rattle.immediates.proofs.+members_slots+type_slots.Lts-members_slot
 use Rattle.immediates.proofs.type_slots.Reads as type-slots
 use Rattle.immediates.proofs.type_slots.Kinds as type-slots-kinds
 use Rattle.immediates.proofs.+members_slots+type_slots.Lts-type_slots as type-slots-lts
-use Rattle.immediates.proofs.join_parts.Reads as join-parts-reads
+use Rattle.slots.proofs.join_parts.Reads as join-parts-reads
 use Rattle.immediates.proofs.measure_slots.Reads as measure-slots-reads
 use Rattle.records.proofs.member_offset.Reads as member-offset-reads
 use Rattle.records.proofs.member_type.Reads as member-type-reads
@@ -74,7 +74,7 @@ unfolding membersSlots
 members-slots-loop-holds t c = (search needs, refl)
 
 members-slots-returns : (t : ℕ) → members-slots-lts.Need-returns (members-slots-claims t) (members-slots-at t) members-slots.Post members-slots-Inv-loop members-slots-μ-loop
-members-slots-returns t c = 
+members-slots-returns t c =
     let l = c .before .before .before .before .loop in
     let a = c .before .before .before .before .before .before .before .before .args in
     let same = c .before .before .before .before .before .struct-members .ensures in
@@ -82,7 +82,7 @@ members-slots-returns t c =
     sym (members-sum-past (table noSlots (slotsStep (decoded (now (a .types)) (now (a .members)))) (a .ty)) (structMembers (now (a .types)) (now (a .members)) (a .ty)) (a .offset) (l .j) sum (a .count) (c .before .before .before .loop-test .taken))
 
 members-slots-returns-2 : (t : ℕ) → members-slots-lts.Need-returns-2 (members-slots-claims t) (members-slots-at t) members-slots.Post members-slots-Inv-loop members-slots-μ-loop
-members-slots-returns-2 t c = 
+members-slots-returns-2 t c =
     let l = c .before .before .before .before .before .loop in
     let a = c .before .before .before .before .before .before .before .before .before .args in
     let same = c .before .before .before .before .before .before .struct-members .ensures in
@@ -91,12 +91,12 @@ members-slots-returns-2 t c =
     sym (members-part-past (table noSlots (slotsStep (decoded (now (a .types)) (now (a .members)))) (a .ty)) (structMembers (now (a .types)) (now (a .members)) (a .ty)) (a .offset) (l .j) refused (a .count) (c .before .before .before .before .loop-test .taken))
 
 members-slots-type-slots-requires : (t : ℕ) → members-slots-lts.Need-type-slots-requires (members-slots-claims t) (members-slots-at t) members-slots.Post members-slots-Inv-loop members-slots-μ-loop
-members-slots-type-slots-requires t c κs = 
+members-slots-type-slots-requires t c κs =
     let s = c .before .before .before .before .before .before .before .before .before in
     (omega (arith, c .if2 .left, s .pre .0), λ i h. s .pre .1 i (omega (arith, h, c .if2 .left)))
 
 members-slots-loop-again : (t : ℕ) → members-slots-lts.Need-loop-again (members-slots-claims t) (members-slots-at t) members-slots.Post members-slots-Inv-loop members-slots-μ-loop
-members-slots-loop-again t c = 
+members-slots-loop-again t c =
     let l = c .before .before .before .before .before .before .before .loop in
     let a = c .before .before .before .before .before .before .before .before .before .before .before .args in
     let same = c .before .before .before .before .before .before .before .before .struct-members .ensures in
@@ -109,7 +109,7 @@ members-slots-loop-again t c =
     (omega (arith, c .before .before .before .before .before .before .loop-test .taken), rw (add-one, same, step, ← part) (rw (l .inv .1, same) at (c .join-parts .ensures)))
 
 members-slots-returns-3 : (t : ℕ) → members-slots-lts.Need-returns-3 (members-slots-claims t) (members-slots-at t) members-slots.Post members-slots-Inv-loop members-slots-μ-loop
-members-slots-returns-3 t c = 
+members-slots-returns-3 t c =
     let l = c .before .loop in
     rw (← c .before .before .struct-members .ensures, ← le-antisymm (l .inv .0) (c .loop-test .left)) (l .inv .1)
 
@@ -123,7 +123,7 @@ type-slots-measure-slots-requires-3 : (t : ℕ) → type-slots-lts.Need-measure-
 type-slots-measure-slots-requires-3 t c κs = rw (c .before .before .type-inner .ensures) (c .before .before .before .before .before .pre .1 (c .before .before .before .before .before .args .ty) (le-refl (c .before .before .before .before .before .args .ty)))
 
 type-slots-members-slots-requires : (t : ℕ) → type-slots-lts.Need-members-slots-requires (type-slots-claims t) (type-slots-at t) type-slots.Post
-type-slots-members-slots-requires t c κs = 
+type-slots-members-slots-requires t c κs =
     let s = c .before .before .before .before .before .before in
     (omega (arith, s .pre .0), s .pre .1)
 
@@ -132,35 +132,35 @@ type-slots-measure-slots-requires-4 t c κs = rw (c .before .before .type-inner 
 
 type-slots-returns : (t : ℕ) → type-slots-lts.Need-returns (type-slots-claims t) (type-slots-at t) type-slots.Post
 unfolding slotsOf
-type-slots-returns t c = 
+type-slots-returns t c =
     let a = c .before .before .before .before .before .before .args in
     let inner = sym (c .before .before .before .type-inner .ensures) ∙ c .before .enum-told .given .1 in
     c .measure-slots .ensures ∙ rw (c .before .enum-told .given .1) (sym (slots-by-record (decoded (now (a .types)) (now (a .members))) (a .ty) (a .offset) ∙ rw inner refl))
 
 type-slots-returns-2 : (t : ℕ) → type-slots-lts.Need-returns-2 (type-slots-claims t) (type-slots-at t) type-slots.Post
 unfolding slotsOf
-type-slots-returns-2 t c = 
+type-slots-returns-2 t c =
     let a = c .before .before .before .before .before .before .args in
     let inner = sym (c .before .before .before .type-inner .ensures) ∙ c .before .enum-told2 .given .1 in
     c .measure-slots2 .ensures ∙ rw (c .before .enum-told2 .given .1) (sym (slots-by-record (decoded (now (a .types)) (now (a .members))) (a .ty) (a .offset) ∙ rw inner refl))
 
 type-slots-returns-3 : (t : ℕ) → type-slots-lts.Need-returns-3 (type-slots-claims t) (type-slots-at t) type-slots.Post
 unfolding slotsOf
-type-slots-returns-3 t c = 
+type-slots-returns-3 t c =
     let a = c .before .before .before .before .before .before .args in
     let inner = sym (c .before .before .before .type-inner .ensures) ∙ c .before .enum-told3 .given .1 in
     c .measure-slots3 .ensures ∙ rw (c .before .enum-told3 .given .1) (sym (slots-by-record (decoded (now (a .types)) (now (a .members))) (a .ty) (a .offset) ∙ rw inner refl))
 
 type-slots-returns-4 : (t : ℕ) → type-slots-lts.Need-returns-4 (type-slots-claims t) (type-slots-at t) type-slots.Post
 unfolding slotsOf
-type-slots-returns-4 t c = 
+type-slots-returns-4 t c =
     let a = c .before .before .before .before .before .before .before .args in
     let inner = sym (c .before .before .before .before .type-inner .ensures) ∙ c .before .before .inner .given .1 in
     c .members-slots .ensures ∙ sym (slots-by-record (decoded (now (a .types)) (now (a .members))) (a .ty) (a .offset) ∙ rw inner refl)
 
 type-slots-returns-5 : (t : ℕ) → type-slots-lts.Need-returns-5 (type-slots-claims t) (type-slots-at t) type-slots.Post
 unfolding slotsOf
-type-slots-returns-5 t c = 
+type-slots-returns-5 t c =
     let a = c .before .before .before .before .before .before .args in
     let inner = sym (c .before .before .before .type-inner .ensures) ∙ c .before .enum-told4 .given .1 in
     c .measure-slots4 .ensures ∙ rw (c .before .enum-told4 .given .1) (sym (slots-by-record (decoded (now (a .types)) (now (a .members))) (a .ty) (a .offset) ∙ rw inner refl))

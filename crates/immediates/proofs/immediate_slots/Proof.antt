@@ -1,35 +1,35 @@
 -- `immediates::immediate_slots` meets its contract: the walk comes after the arena check and leaves the rows as they are. Assumes nothing.
 use borrow.Author.Needs.{needs}
-use mathlib.Core.Path.{_≡_, refl, sym, ap, _∙_}
+use mathlib.Core.Path.{sym, ap, _∙_}
 use native.Mathlib.Omega.{arith}
 use denote.Ref.{now}
-use Rattle.immediates.specs.Walk.{partAnswer}
+use Rattle.slots.specs.Slots.{partAnswer}
 use Rattle.immediates.proofs.CallLaws.{accepted-measured, answer-walked, answer-outside, answer-refused}
 use Rattle.immediates.proofs.immediate_slots.Statement.{statement}
 use Rattle.immediates.proofs.immediate_slots.Tie as tie
 
 returns : tie.Need-returns
-returns c = 
+returns c =
     let a = c .before .before .before .before .before .before .before .before .before .before .args in
     let check = c .before .before .before .before .before .check .ensures in
     let accepted = sym (check .0) ∙ c .before .enum-told .given .1 in
     (sym (answer-outside (a .capabilities) (now (a .types)) (now (a .members)) (now (a .rows)) accepted (a .ty) (a .offset) (c .if1 .taken)), check .1)
 
 type-slots-requires : tie.Need-type-slots-requires
-type-slots-requires c κs = 
+type-slots-requires c κs =
     let a = c .before .before .before .before .before .before .before .before .before .before .args in
     let accepted = sym (c .before .before .before .before .before .check .ensures .0) ∙ c .before .enum-told .given .1 in
     λ i h. accepted-measured (a .capabilities) (now (a .types)) (now (a .members)) (now (a .rows)) accepted i (omega (arith, h, c .if1 .left))
 
 returns-2 : tie.Need-returns-2
-returns-2 c = 
+returns-2 c =
     let a = c .before .before .before .before .before .before .before .before .before .before .before .before .args in
     let check = c .before .before .before .before .before .before .before .check .ensures in
     let accepted = sym (check .0) ∙ c .before .before .before .enum-told .given .1 in
     (c .part-answer .ensures ∙ ap partAnswer (c .before .type-slots .ensures) ∙ sym (answer-walked (a .capabilities) (now (a .types)) (now (a .members)) (now (a .rows)) accepted (a .ty) (a .offset) (c .before .before .if1 .left)), check .1)
 
 returns-3 : tie.Need-returns-3
-returns-3 c = 
+returns-3 c =
     let a = c .before .before .before .before .before .before .before .before .before .before .args in
     let check = c .before .before .before .before .before .check .ensures in
     let refused = sym (check .0) ∙ c .before .number .given .1 in

@@ -5,13 +5,16 @@ use Prim.Native.Nat.{ℕ, zero, suc, _+_, _*_, _^_}
 use lib.Dec.{eqb, leb, ltb}
 use Rattle.records.specs.Result.{pick}
 use Rattle.flags.specs.Flags.{bit}
-use Rattle.immediates.specs.declared.Slots.{Slots}
-use Rattle.immediates.specs.declared.Slots.the-variants.{Mask, Past}
+use Rattle.slots.specs.declared.Slots.{Slots}
+use Rattle.slots.specs.declared.Slots.the-variants.{Mask, Past}
+use Rattle.slots.specs.declared.SlotsAnswer.{SlotsAnswer}
+use Rattle.slots.specs.declared.SlotsAnswer.the-variants as answer
 
--- how many slots there are, and how many bytes they have
+-- how many slots there are
 abbrev pub slotCount : ℕ
 slotCount = 64
 
+-- the bytes that the slots have
 abbrev pub slotBytes : ℕ
 slotBytes = 256
 
@@ -40,12 +43,15 @@ unfoldable pub containsBelow : (this other n : ℕ) → Bool
 containsBelow this other zero = true
 containsBelow this other (suc k) = containsBelow this other k && (not (bit other k) || bit this k)
 
+-- every slot of `other` is one of `this`
 abbrev pub contains : (this other : ℕ) → Bool
 contains this other = containsBelow this other slotCount
 
+-- the slots of `this` that are not in `other`
 abbrev pub difference : (this other : ℕ) → ℕ
 difference this other = maskOf (λ k. bit this k && not (bit other k)) slotCount
 
+-- the slots of either
 abbrev pub union : (this other : ℕ) → ℕ
 union this other = maskOf (λ k. bit this k || bit other k) slotCount
 
@@ -54,3 +60,8 @@ abbrev pub join : Slots → Slots → Slots
 join (Mask a) (Mask b) = Mask (union a b)
 join (Mask a) Past = Past
 join Past other = Past
+
+-- a part as the answer of a call; 25 carries zeros only
+abbrev pub partAnswer : Slots → SlotsAnswer
+partAnswer (Mask mask) = answer.Slots mask
+partAnswer Past = answer.Refused 25 0 0 0

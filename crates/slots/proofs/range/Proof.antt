@@ -1,9 +1,9 @@
--- `immediates::range` meets its contract. Assumes nothing.
+-- `slots::range` meets its contract. Assumes nothing.
 use borrow.Author.Needs.{needs}
-use mathlib.Core.Path.{_≡_, refl, sym, ap, _∙_}
-use Rattle.immediates.specs.Walk.{partAnswer}
-use Rattle.immediates.proofs.range.Statement.{statement}
-use Rattle.immediates.proofs.range.Tie as tie
+use mathlib.Core.Path.{ap, _∙_}
+use Rattle.slots.specs.Slots.{partAnswer}
+use Rattle.slots.proofs.range.Statement.{statement}
+use Rattle.slots.proofs.range.Tie as tie
 
 returns : tie.Need-returns
 returns c = c .part-answer .ensures ∙ ap partAnswer (c .before .range-slots .ensures)

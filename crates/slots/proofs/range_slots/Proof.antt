@@ -1,14 +1,14 @@
--- `immediates::range_slots` meets its contract: the two shifts and the meet give the slots that the part covers. Assumes nothing.
+-- `slots::range_slots` meets its contract: the two shifts and the meet give the slots that the part covers. Assumes nothing.
 use borrow.Author.Needs.{needs}
-use mathlib.Core.Path.{_≡_, refl, sym, ap, _∙_}
+use mathlib.Core.Path.{refl, sym, ap, _∙_}
 use native.Mathlib.Omega.{arith}
 use Prim.Native.Nat.{_+_, _/_, _<_}
 use borrow.Author.Tests.{ne-eqb, lt-leb, le-leb}
-use Rattle.immediates.specs.Slots.{slotBytes, rangeSlots}
-use Rattle.immediates.specs.declared.Slots.the-variants.{Mask}
-use Rattle.immediates.proofs.RangeLaws.{shifts, range-mask}
-use Rattle.immediates.proofs.range_slots.Statement.{statement}
-use Rattle.immediates.proofs.range_slots.Tie as tie
+use Rattle.slots.specs.Slots.{slotBytes, rangeSlots}
+use Rattle.slots.specs.declared.Slots.the-variants.{Mask}
+use Rattle.slots.proofs.RangeLaws.{shifts, range-mask}
+use Rattle.slots.proofs.range_slots.Statement.{statement}
+use Rattle.slots.proofs.range_slots.Tie as tie
 
 returns : tie.Need-returns
 unfolding rangeSlots
@@ -20,7 +20,7 @@ returns-2 c = let a = c .before .before .args in rw (ne-eqb (a .size) 0 (c .befo
 
 returns-3 : tie.Need-returns-3
 unfolding rangeSlots
-returns-3 c = 
+returns-3 c =
     let a = c .before .before .args in
     let some : 0 < a .size = omega (arith, c .before .if1 .left) in
     let lo = a .offset / 4 in

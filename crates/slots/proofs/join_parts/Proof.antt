@@ -1,8 +1,8 @@
--- `immediates::join_parts` meets its contract. Assumes nothing.
+-- `slots::join_parts` meets its contract. Assumes nothing.
 use borrow.Author.Needs.{needs}
-use mathlib.Core.Path.{_≡_, refl, sym, ap, _∙_}
-use Rattle.immediates.proofs.join_parts.Statement.{statement}
-use Rattle.immediates.proofs.join_parts.Tie as tie
+use mathlib.Core.Path.{refl}
+use Rattle.slots.proofs.join_parts.Statement.{statement}
+use Rattle.slots.proofs.join_parts.Tie as tie
 
 returns : tie.Need-returns
 returns c = rw (c .before .before .before .before .before .a .given .1, c .before .before .b .given .1, c .union-of .ensures) refl

@@ -1,23 +1,24 @@
 -- The shifts of a range: the mask of the slots that a part covers is that of the slots from offset / 4 up to the end, rounded up.
 -- Assumes nothing.
-use mathlib.Core.Path.{_≡_, refl, sym, ap, _∙_}
-use mathlib.Core.Bool.{Bool, true, false, _&&_, _||_}
+use mathlib.Core.Path.{_≡_, refl, _∙_}
+use mathlib.Core.Bool.{Bool, true, false, _||_}
 use Prim.Native.Nat.{ℕ, zero, suc, _+_, _-_, _*_, _/_, _%_, _^_, _<_, _≤_, zero-le}
 use native.Mathlib.Nat.{le-refl, add-zero, pow-suc, add-mul, mul-assoc}
 use native.Mathlib.Decide.{le-ind, decLe}
 use native.Mathlib.Omega.{arith}
-use lib.Dec.{T, leb, ltb, lt→ltb, le→leb}
-use lib.Pow.{pow-pos, pow-mono, pow-add, pow-sub-lt, ones-split, high-ones, ones-lt, high, low, mod-mod-pow}
+use lib.Dec.{T}
+use lib.Pow.{pow-pos, pow-add, pow-sub-lt, ones-split, high-ones, ones-lt, high, low, mod-mod-pow}
 use lib.Bits.{bitAnd, and-mask}
 use Rattle.records.proofs.ResultLaws.{T-true}
 use borrow.Author.Tests.{lt-ltb, le-ltb, le-leb, lt-leb}
-use Rattle.immediates.specs.Slots.{inPart, covers, maskOf}
+use Rattle.slots.specs.Slots.{inPart, covers, maskOf}
 
 -- ---- masks of runs of slots
 -- one slot more
 one-set : (a b p q r : ℕ) → a + q ≡ b + p → r ≡ p * 2 → a + p + q ≡ b + r
 one-set a b p q r e d = omega arith
 
+-- one more on the right
 le-step : {m n : ℕ} → m ≤ n → m ≤ suc n
 le-step h = omega arith
 
@@ -61,27 +62,30 @@ past-part offset size b h = rw (le-leb offset b (omega arith), le-ltb b (offset 
 in-part : (offset size b : ℕ) → offset ≤ b → b < offset + size → T (inPart offset size b)
 in-part offset size b h l = rw (le-leb offset b h, lt-ltb b (offset + size) l) tt
 
--- one of two tests
+-- the first of two tests
 pub or-left : (a b : Bool) → T a → T (a || b)
 or-left true b t = tt
 or-left false b t = absurd t
 
+-- the second of two tests
 pub or-right : (a b : Bool) → T b → T (a || b)
 or-right true b t = tt
 or-right false b t = t
 
 module _ (offset size k : ℕ) where
+  -- a slot that ends before the part
   pub covers-before : 4 * k + 4 ≤ offset → covers offset size k ≡ false
   unfolding covers
   covers-before h =
       rw (before-part offset size (4 * k) (omega arith), before-part offset size (4 * k + 1) (omega arith), before-part offset size (4 * k + 2) (omega arith), before-part offset size (4 * k + 3) (omega arith)) refl
 
+  -- a slot that begins at the end of the part or past it
   pub covers-after : offset + size ≤ 4 * k → covers offset size k ≡ false
   unfolding covers
   covers-after h =
       rw (past-part offset size (4 * k) (omega arith), past-part offset size (4 * k + 1) (omega arith), past-part offset size (4 * k + 2) (omega arith), past-part offset size (4 * k + 3) (omega arith)) refl
 
-  -- the first byte of the slot that is at the offset or past it
+  -- a slot that meets the part: the first of its bytes that is at the offset or past it is one of the part's
   pub covers-within : offset < 4 * k + 4 → 4 * k < offset + size → 0 < size → covers offset size k ≡ true
   unfolding covers
   covers-within h l s =
@@ -90,12 +94,16 @@ module _ (offset size k : ℕ) where
     where
       b0 : Bool
       b0 = inPart offset size (4 * k)
+
       b1 : Bool
       b1 = inPart offset size (4 * k + 1)
+
       b2 : Bool
       b2 = inPart offset size (4 * k + 2)
+
       b3 : Bool
       b3 = inPart offset size (4 * k + 3)
+
       go : Dec (offset ≤ 4 * k) → Dec (offset ≤ 4 * k + 1) → Dec (offset ≤ 4 * k + 2) → T (b0 || b1 || b2 || b3)
       go (yes p) q r = or-left (b0 || b1 || b2) b3 (or-left (b0 || b1) b2 (or-left b0 b1 (in-part offset size (4 * k) p l)))
       go (no p) (yes q) r = or-left (b0 || b1 || b2) b3 (or-left (b0 || b1) b2 (or-right b0 b1 (in-part offset size (4 * k + 1) q (omega arith))))

@@ -1,8 +1,8 @@
--- `immediates::part_answer` meets its contract. Assumes nothing.
+-- `slots::part_answer` meets its contract. Assumes nothing.
 use borrow.Author.Needs.{needs}
-use mathlib.Core.Path.{_≡_, refl, sym, ap, _∙_}
-use Rattle.immediates.proofs.part_answer.Statement.{statement}
-use Rattle.immediates.proofs.part_answer.Tie as tie
+use mathlib.Core.Path.{refl}
+use Rattle.slots.proofs.part_answer.Statement.{statement}
+use Rattle.slots.proofs.part_answer.Tie as tie
 
 returns : tie.Need-returns
 returns c = rw (c .before .part .given .1) refl

@@ -2,7 +2,7 @@
 -- Assumes nothing.
 use mathlib.Core.Path.{_≡_, refl, sym, ap, _∙_}
 use mathlib.Core.Bool.{Bool, true, false, _&&_, _||_, not}
-use Prim.Native.Nat.{ℕ, zero, suc, _+_, _-_, _*_, _/_, _%_, _^_, _<_, _≤_, min, max}
+use Prim.Native.Nat.{ℕ, zero, suc, _+_, _-_, _*_, _/_, _%_, _^_, _<_, min, max}
 use native.Mathlib.Nat.{not-suc-le-zero, add-zero, lt-of-le-of-lt, mod-lt, mod-eq-of-lt, mod-one, pow-suc, zero-lt-suc}
 use native.Mathlib.Numerals.{one-add}
 use native.Mathlib.Decide.{ℕ-discrete}
@@ -10,10 +10,10 @@ use native.Mathlib.Omega.{arith}
 use lib.Dec.{eqb}
 use lib.Pow.{pow-pos, mod-pow-add}
 use lib.Bits.{bitAnd, bitOr, and-shr, and-step, and-le-l, or-shr, or-step, or-lt}
-use borrow.Author.Tests.{eqb-true, eqb-false, eq-eqb, ne-eqb}
+use borrow.Author.Tests.{ne-eqb}
 use Rattle.records.specs.Result.{pick}
 use Rattle.flags.specs.Flags.{bit}
-use Rattle.immediates.specs.Slots.{maskOf, containsBelow}
+use Rattle.slots.specs.Slots.{maskOf, containsBelow}
 
 -- equal tests make equal masks
 pub mask-same : (f g : ℕ → Bool) (n : ℕ) → ((k : ℕ) → k < n → f k ≡ g k) → maskOf f n ≡ maskOf g n
@@ -74,6 +74,7 @@ pub bit-mask : (f : ℕ → Bool) (n k : ℕ) → k < n → bit (maskOf f n) k �
 bit-mask f n k h = mask-test (bit (maskOf f n)) f n (number-mask (maskOf f n) n (mask-lt f n)) k h
 
 -- ---- meet, join and complement
+-- the smaller of two digits
 and-digit : (a b : ℕ) → a < 2 → b < 2 → eqb (min a b) 1 ≡ (eqb a 1 && eqb b 1)
 and-digit zero zero h l = refl
 and-digit zero (suc zero) h l = refl
@@ -83,6 +84,7 @@ and-digit (suc (suc a)) b h l = absurd (omega arith)
 and-digit zero (suc (suc b)) h l = absurd (omega arith)
 and-digit (suc zero) (suc (suc b)) h l = absurd (omega arith)
 
+-- the larger of two digits
 or-digit : (a b : ℕ) → a < 2 → b < 2 → eqb (max a b) 1 ≡ (eqb a 1 || eqb b 1)
 or-digit zero zero h l = refl
 or-digit zero (suc zero) h l = refl
@@ -110,11 +112,12 @@ bit-join x y k =
     let low : bitOr a b % 2 ≡ max (a % 2) (b % 2) = omega arith in
     rw (or-shr x y k, low) (or-digit (a % 2) (b % 2) (mod-lt a (zero-lt-suc 1)) (mod-lt b (zero-lt-suc 1)))
 
--- a mask and the mask of the opposite test have all n bits together
+-- one more slot of a mask and of the mask of the opposite test
 opposite-more : (a b p q : ℕ) → a + b + 1 ≡ p → q ≡ p * 2 → (t : Bool) → (a + pick (not t) p 0) + (b + pick t p 0) + 1 ≡ q
 opposite-more a b p q h e true = omega arith
 opposite-more a b p q h e false = omega arith
 
+-- a mask and the mask of the opposite test have all n bits together
 opposite : (f : ℕ → Bool) (n : ℕ) → maskOf (λ k. not (f k)) n + maskOf f n + 1 ≡ 2 ^ n
 unfolding maskOf
 opposite f zero = refl
@@ -130,10 +133,12 @@ bit-complement x n k h l =
     rw same (bit-mask (λ i. not (bit x i)) n k l)
 
 -- ---- contains
+-- both, where the second is true
 and-true : (b : Bool) → (b && true) ≡ b
 and-true true = refl
 and-true false = refl
 
+-- both, where the second is false
 and-false : (b : Bool) → (b && false) ≡ false
 and-false true = refl
 and-false false = refl

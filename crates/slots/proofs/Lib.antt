@@ -1,0 +1,3 @@
+pub mod MaskLaws
+pub mod RangeLaws
+pub mod SlotBits
