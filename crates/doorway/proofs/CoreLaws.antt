@@ -10,6 +10,10 @@ use borrow.Author.Tests.{lt-leb}
 use Rattle.records.specs.Fields.{tablesFit}
 use Rattle.records.specs.declared.Outcome.the-variants as outcome
 use Rattle.valid.specs.Arena.{arenaFits, arenaAnswer, arenaWords}
+use Rattle.place.specs.Place.{lookupAnswer}
+use Rattle.place.specs.declared.PlaceAnswer.the-variants as place
+use Rattle.slots.specs.declared.SlotsAnswer.the-variants as slots
+use Rattle.immediates.specs.Walk.{slotsAnswer}
 
 not-both : (a : Bool) → (a && false) ≡ false
 not-both true = refl
@@ -29,3 +33,11 @@ module _ (c : ℕ) (ts rows ms : List ℕ) (long : 8192 < length ms) where
   pub words-refuses : arenaWords c ts ms rows ≡ rows
   unfolding arenaWords
   words-refuses = simp unfits
+
+  pub lookup-refuses : (start : ℕ) (steps : List ℕ) → lookupAnswer c ts ms rows start steps ≡ place.Refused 1 0 0 0
+  unfolding lookupAnswer
+  lookup-refuses start steps = simp answer-refuses
+
+  pub slots-refuses : (ty offset : ℕ) → slotsAnswer c ts ms rows ty offset ≡ slots.Refused 1 0 0 0
+  unfolding slotsAnswer
+  slots-refuses ty offset = simp answer-refuses
