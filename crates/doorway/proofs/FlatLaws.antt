@@ -22,7 +22,7 @@ none = record { ty = 0; offset = 0 }
 pub flat-append : (xs ys : List Member) → flat (xs ++ ys) ≡ flat xs ++ flat ys
 unfolding flat
 flat-append [] ys = refl
-flat-append (x ∷ xs) ys = ap (λ (ws : List ℕ). x .ty ∷ x .offset ∷ ws) (flat-append xs ys)
+flat-append (x ∷ xs) ys = rw (flat-append xs ys) refl
 
 pub length-flat : (ms : List Member) → length (flat ms) ≡ length ms * 2
 unfolding flat
@@ -43,9 +43,13 @@ module _ (ys : List Member) (ws : List ℕ) (i : ℕ) where
   abbrev pub stored : List ℕ
   stored = set (set ws (i * 2) (m .ty)) (i * 2 + 1) (m .offset)
 
-  taken : i < length ys → flat (take (i + 1) ys) ≡ flat (take i ys) ++ (m .ty ∷ m .offset ∷ [])
-  unfolding flat
+  taken : i < length ys → flat (take (i + 1) ys) ≡ flat (take i ys) ++ flat (m ∷ [])
   taken l = ap (λ (k : ℕ). flat (take k ys)) (add-one i) ∙ ap flat (take-suc ys i none l) ∙ flat-append (take i ys) (m ∷ [])
+
+  -- type, then offset
+  in-order : flat (m ∷ []) ≡ m .ty ∷ m .offset ∷ []
+  unfolding flat
+  in-order = refl
 
   put-two : i * 2 + 1 < length ws → take ((i + 1) * 2) stored ≡ take (i * 2) ws ++ (m .ty ∷ m .offset ∷ [])
   put-two l =
@@ -55,7 +59,7 @@ module _ (ys : List Member) (ws : List ℕ) (i : ℕ) where
       ∙ append-snoc (take (i * 2) ws) (m .ty) (m .offset ∷ [])
 
   pub one-more : i < length ys → i * 2 + 1 < length ws → take (i * 2) ws ≡ flat (take i ys) → take ((i + 1) * 2) stored ≡ flat (take (i + 1) ys)
-  one-more l l′ e = put-two l′ ∙ ap (λ (xs : List ℕ). xs ++ (m .ty ∷ m .offset ∷ [])) e ∙ sym (taken l)
+  one-more l l′ e = put-two l′ ∙ ap (λ (xs : List ℕ). xs ++ (m .ty ∷ m .offset ∷ [])) e ∙ sym (taken l ∙ ap (λ (xs : List ℕ). flat (take i ys) ++ xs) in-order)
 
 pub none-yet : (ys : List Member) (ws : List ℕ) → take (0 * 2) ws ≡ flat (take 0 ys)
 unfolding flat
