@@ -11,6 +11,8 @@
     allow(dead_code)
 )]
 
+#[cfg(all(feature = "check", feature = "slots", feature = "place"))]
+mod bench;
 mod builder;
 mod compare;
 mod damage;
@@ -36,9 +38,16 @@ mod random;
 mod recipes;
 mod records;
 mod reference;
+#[cfg(all(feature = "slots", feature = "place", feature = "members"))]
+mod replay;
+#[cfg(all(feature = "check", feature = "slots", feature = "place"))]
+mod sides;
+mod sized;
 #[cfg(feature = "slots")]
 mod slot_calls;
 mod slots;
+#[cfg(all(feature = "check", feature = "slots", feature = "place"))]
+mod stopwatch;
 mod tables;
 mod theorem;
 mod translate;
@@ -51,12 +60,19 @@ const USAGE: &str = "usage: layout COUNT [SEED]
        range COUNT [SEED] | slots COUNT [SEED]  (feature slots)
        place COUNT [SEED]                       (feature place)
        members COUNT [SEED]                     (feature members)
+       replay COUNT [SEED [STDIN STDOUT]]       (features slots, place, members)
+       bench                                    (features check, slots, place)
        theorem COUNT [SEED] | histogram COUNT [SEED] | show SEED INDEX";
 
 fn main() -> ExitCode {
     let words: Vec<String> = std::env::args().skip(1).collect();
     let number = |at: usize| words.get(at).and_then(|word| word.parse::<u64>().ok());
     let command = words.first().map(String::as_str);
+    #[cfg(all(feature = "check", feature = "slots", feature = "place"))]
+    if command == Some("bench") {
+        bench::bench();
+        return ExitCode::SUCCESS;
+    }
     let (Some(command), Some(first)) = (command, number(1)) else {
         eprintln!("{USAGE}");
         return ExitCode::from(2);
@@ -75,6 +91,8 @@ fn main() -> ExitCode {
         "place" => place_calls::place(first, seed),
         #[cfg(feature = "members")]
         "members" => member_calls::members(first, seed),
+        #[cfg(all(feature = "slots", feature = "place", feature = "members"))]
+        "replay" => replay::replay(first, seed, words.get(3..).unwrap_or_default()),
         "theorem" => theorem::theorem(first, seed),
         "histogram" => {
             compare::histogram(first, seed);

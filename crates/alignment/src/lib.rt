@@ -3,6 +3,9 @@ ghost use mathlib.Core.Path.{_≡_};
 ghost use Prim.Native.Nat.{_*_, max};
 ghost use Rattle.alignment.specs.Alignment.{powerOfTwo, vectorAlignment, isAligned, roundUp};
 
+// The largest number of 32 bits.
+pub const MOST: u64 = 4294967295;
+
 // Alignment::new on a width: whether it is one.
 pub fn power_of_two(w: u32) -> bool
     ensures { λ r. ⌜ r ≡ powerOfTwo w ⌝ }

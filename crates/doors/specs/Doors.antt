@@ -9,8 +9,8 @@ use Rattle.records.specs.Result.{pick}
 use Rattle.records.specs.Record.{typeWord, memberWords, structMembers}
 use Rattle.records.specs.declared.Outcome.{Outcome}
 use Rattle.records.specs.declared.Outcome.the-variants.{Accepted, Refused}
-use Rattle.immediates.specs.declared.SlotsAnswer.{SlotsAnswer}
-use Rattle.immediates.specs.declared.SlotsAnswer.the-variants as slots
+use Rattle.slots.specs.declared.SlotsAnswer.{SlotsAnswer}
+use Rattle.slots.specs.declared.SlotsAnswer.the-variants as slots
 use Rattle.place.specs.declared.PlaceAnswer.{PlaceAnswer}
 use Rattle.place.specs.declared.PlaceAnswer.the-variants as place
 

@@ -20,7 +20,12 @@ use Rattle.type_info.specs.Verdict.{arrayVerdict, shareVerdict, memberVerdict, 
 use Rattle.members.specs.Members.{previousOf, memberBounds, boundsAfter, uniformAfter, storageAfter, immediatesAfter}
 use Rattle.valid.specs.Valid.{leafFlags, nonDataFlags, flagsOf, uniformOf, storageOf, immediatesOf, rowOf, judge}
 use Rattle.valid.specs.Arena.{judgeOutcome, arenaOutcome, arenaAnswer, arenaRows, arenaWords}
-use Rattle.marked.specs.Marked.{Words, Example, made, left, AllLeft, Holds, marked}
+use Rattle.slots.specs.declared.SlotsAnswer.{SlotsAnswer}
+use Rattle.slots.specs.declared.SlotsAnswer.the-variants as slots
+use Rattle.slots.specs.declared.SlotsAnswer.the-variants.{Slots}
+use Rattle.slots.specs.Slots.{covers, maskOf, rangeSlots, partAnswer}
+use Rattle.immediates.specs.Walk.{membersSlots, slotsOf, slotsAnswer}
+use Rattle.marked.specs.Marked.{Words, Example, lent, made, left, AllLeft, Holds, Case, arenaCase, slotsCase, rangeCase, CaseHolds, marked}
 
 -- ---- the test
 sameList : List ℕ → List ℕ → Bool
@@ -42,9 +47,20 @@ allLeft x (w ∷ ws) = sameList (left x w) (w .words) && allLeft x ws
 holds : Example → Bool
 holds x = sameOutcome (made x) (x .answer) && allLeft x (x .rows)
 
-every : List Example → Bool
+sameSlots : SlotsAnswer → SlotsAnswer → Bool
+sameSlots (Slots a) (Slots b) = eqb a b
+sameSlots (Slots a) (slots.Refused n t m d) = false
+sameSlots (slots.Refused n t m d) (Slots b) = false
+sameSlots (slots.Refused n t m d) (slots.Refused n′ t′ m′ d′) = eqb n n′ && eqb t t′ && eqb m m′ && eqb d d′
+
+caseHolds : Case → Bool
+caseHolds (arenaCase x) = holds x
+caseHolds (slotsCase x ty offset expected) = sameSlots (slotsAnswer (x .capabilities) (x .types) (x .members) (lent x) ty offset) expected
+caseHolds (rangeCase offset size expected) = sameSlots (partAnswer (rangeSlots offset size)) expected
+
+every : List Case → Bool
 every [] = true
-every (x ∷ xs) = holds x && every xs
+every (x ∷ xs) = caseHolds x && every xs
 
 -- ---- the law
 list-same : (xs ys : List ℕ) → T (sameList xs ys) → xs ≡ ys
@@ -54,19 +70,32 @@ list-same [] (y ∷ ys) t = absurd t
 list-same (x ∷ xs) [] t = absurd t
 list-same (x ∷ xs) (y ∷ ys) t = rw (eqb→eq x y (and-left (eqb x y) (sameList xs ys) t), list-same xs ys (and-right (eqb x y) (sameList xs ys) t)) refl
 
+-- four numbers that pass the test are the same
+four-same : (n u m d n′ u′ m′ d′ : ℕ) → T (eqb n n′ && eqb u u′ && eqb m m′ && eqb d d′) → (n ≡ n′) × (u ≡ u′) × (m ≡ m′) × (d ≡ d′)
+four-same n u m d n′ u′ m′ d′ t =
+    let t3 = and-left (eqb n n′ && eqb u u′ && eqb m m′) (eqb d d′) t in
+    let t2 = and-left (eqb n n′ && eqb u u′) (eqb m m′) t3 in (
+      eqb→eq n n′ (and-left (eqb n n′) (eqb u u′) t2),
+      eqb→eq u u′ (and-right (eqb n n′) (eqb u u′) t2),
+      eqb→eq m m′ (and-right (eqb n n′ && eqb u u′) (eqb m m′) t3),
+      eqb→eq d d′ (and-right (eqb n n′ && eqb u u′ && eqb m m′) (eqb d d′) t),
+    )
+
 outcome-same : (a b : Outcome) → T (sameOutcome a b) → a ≡ b
 unfolding sameOutcome
 outcome-same Accepted Accepted t = refl
 outcome-same Accepted (Refused n u m d) t = absurd t
 outcome-same (Refused n u m d) Accepted t = absurd t
 outcome-same (Refused n u m d) (Refused n′ u′ m′ d′) t =
-    let t3 = and-left (eqb n n′ && eqb u u′ && eqb m m′) (eqb d d′) t in
-    let t2 = and-left (eqb n n′ && eqb u u′) (eqb m m′) t3 in
-    let e1 = eqb→eq n n′ (and-left (eqb n n′) (eqb u u′) t2) in
-    let e2 = eqb→eq u u′ (and-right (eqb n n′) (eqb u u′) t2) in
-    let e3 = eqb→eq m m′ (and-right (eqb n n′ && eqb u u′) (eqb m m′) t3) in
-    let e4 = eqb→eq d d′ (and-right (eqb n n′ && eqb u u′ && eqb m m′) (eqb d d′) t) in
-    rw (e1, e2, e3, e4) refl
+    let e = four-same n u m d n′ u′ m′ d′ t in rw (e .0, e .1, e .2, e .3) refl
+
+slots-same : (a b : SlotsAnswer) → T (sameSlots a b) → a ≡ b
+unfolding sameSlots
+slots-same (Slots a) (Slots b) t = ap Slots (eqb→eq a b t)
+slots-same (Slots a) (slots.Refused n u m d) t = absurd t
+slots-same (slots.Refused n u m d) (Slots b) t = absurd t
+slots-same (slots.Refused n u m d) (slots.Refused n′ u′ m′ d′) t =
+    let e = four-same n u m d n′ u′ m′ d′ t in rw (e .0, e .1, e .2, e .3) refl
 
 all-left : (x : Example) (ws : List Words) → T (allLeft x ws) → AllLeft x ws
 unfolding allLeft
@@ -83,21 +112,27 @@ example-holds x t = (
   all-left x (x .rows) (and-right (sameOutcome (made x) (x .answer)) (allLeft x (x .rows)) t),
 )
 
--- what each row of a table says
-pub AllHold : List Example → Type 0
-AllHold [] = Unit {0}
-AllHold (x ∷ xs) = Holds x × AllHold xs
+case-holds : (x : Case) → T (caseHolds x) → CaseHolds x
+unfolding caseHolds
+case-holds (arenaCase x) t = example-holds x t
+case-holds (slotsCase x ty offset expected) t = slots-same (slotsAnswer (x .capabilities) (x .types) (x .members) (lent x) ty offset) expected t
+case-holds (rangeCase offset size expected) t = slots-same (partAnswer (rangeSlots offset size)) expected t
 
-all-hold : (xs : List Example) → T (every xs) → AllHold xs
+-- what each row of a table says
+pub AllHold : List Case → Type 0
+AllHold [] = Unit {0}
+AllHold (x ∷ xs) = CaseHolds x × AllHold xs
+
+all-hold : (xs : List Case) → T (every xs) → AllHold xs
 unfolding every AllHold
 all-hold [] t = tt
-all-hold (x ∷ xs) t = (example-holds x (and-left (holds x) (every xs) t), all-hold xs (and-right (holds x) (every xs) t))
+all-hold (x ∷ xs) t = (case-holds x (and-left (caseHolds x) (every xs) t), all-hold xs (and-right (caseHolds x) (every xs) t))
 
 -- the computed test over the whole table
 test : T (every marked)
-unfolding every holds allLeft sameOutcome sameList marked arenaAnswer arenaWords arenaOutcome judgeOutcome arenaRows layoutOutcome tablesFit recordAt fieldsOk resultAt valueAt typeInner innerOf structMembers layoutOf trySize alignmentOf membersAlignment judge flagsOf rowOf leafFlags nonDataFlags uniformOf storageOf immediatesOf checkWidth integerWidth floatWidth boundsAfter memberBounds previousOf uniformAfter storageAfter immediatesAfter arrayVerdict shareVerdict memberVerdict distanceVerdict distanceOk unsizedVerdict spanVerdict wordsOf
+unfolding every caseHolds holds allLeft sameOutcome sameSlots sameList marked arenaAnswer arenaWords arenaOutcome judgeOutcome arenaRows layoutOutcome tablesFit recordAt fieldsOk resultAt valueAt typeInner innerOf structMembers layoutOf trySize alignmentOf membersAlignment judge flagsOf rowOf leafFlags nonDataFlags uniformOf storageOf immediatesOf checkWidth integerWidth floatWidth boundsAfter memberBounds previousOf uniformAfter storageAfter immediatesAfter arrayVerdict shareVerdict memberVerdict distanceVerdict distanceOk unsizedVerdict spanVerdict wordsOf slotsAnswer slotsOf membersSlots rangeSlots covers maskOf
 test = tt
 
--- M1 and M3 to M11 hold
+-- M1 to M12 hold
 pub marked-hold : AllHold marked
 marked-hold = all-hold marked test

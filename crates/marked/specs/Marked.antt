@@ -1,4 +1,4 @@
--- 01, 'Marked examples of layouts': M1 to M11 as rows of one table.
+-- 01, 'Marked examples of layouts': M1 to M12 as rows of one table.
 -- Assumes nothing.
 use mathlib.Core.Path.{_≡_}
 use mathlib.Core.Bool.{Bool, true, false, _&&_}
@@ -11,6 +11,11 @@ use Rattle.records.specs.Fields.{rowWords}
 use Rattle.records.specs.declared.Outcome.{Outcome}
 use Rattle.records.specs.declared.Outcome.the-variants.{Accepted, Refused}
 use Rattle.valid.specs.Arena.{arenaAnswer, arenaWords}
+use Rattle.slots.specs.declared.SlotsAnswer.{SlotsAnswer}
+use Rattle.slots.specs.declared.SlotsAnswer.the-variants as slots
+use Rattle.slots.specs.declared.SlotsAnswer.the-variants.{Slots}
+use Rattle.slots.specs.Slots.{rangeSlots, partAnswer}
+use Rattle.immediates.specs.Walk.{slotsAnswer}
 
 -- ---- the records that the examples are made of
 -- E stands for f32, V3 for 01's V, vec3 of f32, S for a struct
@@ -72,6 +77,17 @@ AllLeft x (w ∷ ws) = (left x w ≡ w .words) × AllLeft x ws
 abbrev pub Holds : Example → Type 0
 Holds x = (made x ≡ x .answer) × AllLeft x (x .rows)
 
+-- a row of the table: an arena; the slots of a type of an arena from an offset; a range given as two numbers
+pub data Case : Type 0 where
+  arenaCase : Example → Case
+  slotsCase : Example → (ty offset : ℕ) → SlotsAnswer → Case
+  rangeCase : (offset size : ℕ) → SlotsAnswer → Case
+
+abbrev pub CaseHolds : Case → Type 0
+CaseHolds (arenaCase x) = Holds x
+CaseHolds (slotsCase x ty offset expected) = slotsAnswer (x .capabilities) (x .types) (x .members) (lent x) ty offset ≡ expected
+CaseHolds (rangeCase offset size expected) = partAnswer (rangeSlots offset size) ≡ expected
+
 -- ---- the table
 abbrev pub accepted : (types members : List ℕ) → List Words → Example
 accepted types members rows = record { capabilities = 0; types = types; members = members; answer = Accepted; rows = rows }
@@ -87,31 +103,39 @@ refused types members number ty member detail =
       rows = row 0 0 (replicate (typeCount types * rowWords) 0 ++ 7 ∷ []) ∷ [];
     }
 
-unfoldable pub marked : List Example
+unfoldable pub marked : List Case
 marked =
     -- M1: the card program's lines; the word past the rows stays
-    accepted (pair 16) (pairMembers 12)
+    arenaCase
+    (accepted (pair 16) (pairMembers 12)
     (row 0 0 (4 ∷ 4 ∷ 255 ∷ 0 ∷ 4 ∷ 0 ∷ 0 ∷ 0 ∷ 0 ∷ 4 ∷ 0 ∷ 0 ∷ 0 ∷ 0 ∷ [])
     ∷ row 1 0 (12 ∷ 16 ∷ 255 ∷ 0 ∷ 16 ∷ 0 ∷ 0 ∷ 0 ∷ 0 ∷ 16 ∷ 0 ∷ 0 ∷ 0 ∷ 0 ∷ [])
-    ∷ row 2 0 (16 ∷ 16 ∷ 247 ∷ 0 ∷ 16 ∷ 0 ∷ 0 ∷ 0 ∷ 0 ∷ 16 ∷ 0 ∷ 0 ∷ 0 ∷ 0 ∷ 7 ∷ []) ∷ [])
+    ∷ row 2 0 (16 ∷ 16 ∷ 247 ∷ 0 ∷ 16 ∷ 0 ∷ 0 ∷ 0 ∷ 0 ∷ 16 ∷ 0 ∷ 0 ∷ 0 ∷ 0 ∷ 7 ∷ []) ∷ []))
+    -- M2: M1's struct, slots from 0: 15
+    ∷ slotsCase (accepted (pair 16) (pairMembers 12) []) 2 0 (Slots 15)
     -- M3: span 20: both verdicts 2, type 2, value 20, bound 16
-    ∷ accepted (pair 20) (pairMembers 12) (row 2 3 (2 ∷ 2 ∷ 0 ∷ 20 ∷ 16 ∷ 2 ∷ 2 ∷ 0 ∷ 20 ∷ 16 ∷ []) ∷ [])
+    ∷ arenaCase (accepted (pair 20) (pairMembers 12) (row 2 3 (2 ∷ 2 ∷ 0 ∷ 20 ∷ 16 ∷ 2 ∷ 2 ∷ 0 ∷ 20 ∷ 16 ∷ []) ∷ []))
     -- M4: E at 8: 18, member 1
-    ∷ refused (pair 16) (pairMembers 8) 18 2 1 0
+    ∷ arenaCase (refused (pair 16) (pairMembers 8) 18 2 1 0)
     -- M5: E at 0: accepted, flags 231
-    ∷ accepted (pair 16) (pairMembers 0) (row 2 2 (231 ∷ []) ∷ [])
+    ∷ arenaCase (accepted (pair 16) (pairMembers 0) (row 2 2 (231 ∷ []) ∷ []))
     -- M6: span 15: 19, member 1
-    ∷ refused (pair 15) (pairMembers 12) 19 2 1 0
+    ∷ arenaCase (refused (pair 15) (pairMembers 12) 19 2 1 0)
     -- M7: E counted 3, stride 4: storage Ok 4, uniform code 1, bound 16
-    ∷ accepted (E ++ counted 0 3 4) [] (row 1 3 (1 ∷ []) ∷ row 1 7 (16 ∷ []) ∷ row 1 8 (0 ∷ 4 ∷ []) ∷ [])
+    ∷ arenaCase (accepted (E ++ counted 0 3 4) [] (row 1 3 (1 ∷ []) ∷ row 1 7 (16 ∷ []) ∷ row 1 8 (0 ∷ 4 ∷ []) ∷ []))
     -- M8: stride 2: count 1,073,741,823 accepted, 1,073,741,824 gives 4
-    ∷ accepted (E ++ counted 0 1073741823 2) [] []
-    ∷ refused (E ++ counted 0 1073741824 2) [] 4 1 0 0
+    ∷ arenaCase (accepted (E ++ counted 0 1073741823 2) [] [])
+    ∷ arenaCase (refused (E ++ counted 0 1073741824 2) [] 4 1 0 0)
     -- M9: S{E} span 4 at 0, E at 4, span 16: uniform code 4, bound 16; storage Ok 4
-    ∷ accepted (E ++ S 0 1 4 ++ S 1 2 16) (0 ∷ 0 ∷ 1 ∷ 0 ∷ 0 ∷ 4 ∷ []) (row 2 3 (4 ∷ []) ∷ row 2 7 (16 ∷ []) ∷ row 2 8 (0 ∷ 4 ∷ []) ∷ [])
+    ∷ arenaCase (accepted (E ++ S 0 1 4 ++ S 1 2 16) (0 ∷ 0 ∷ 1 ∷ 0 ∷ 0 ∷ 4 ∷ []) (row 2 3 (4 ∷ []) ∷ row 2 7 (16 ∷ []) ∷ row 2 8 (0 ∷ 4 ∷ []) ∷ []))
     -- M10: E at 0, S{E} at 16, E at 0, span 32: 21, member 2
-    ∷ refused (E ++ S 0 1 4 ++ S 1 3 32) (0 ∷ 0 ∷ 0 ∷ 0 ∷ 1 ∷ 16 ∷ 0 ∷ 0 ∷ []) 21 2 2 0
+    ∷ arenaCase (refused (E ++ S 0 1 4 ++ S 1 3 32) (0 ∷ 0 ∷ 0 ∷ 0 ∷ 1 ∷ 16 ∷ 0 ∷ 0 ∷ []) 21 2 2 0)
     -- M11: f16 without bit 1: 8, detail 1; with it: immediates word 3
-    ∷ refused f16 [] 8 0 0 1
-    ∷ record { capabilities = 2; types = f16; members = []; answer = Accepted; rows = row 0 13 (3 ∷ []) ∷ [] }
+    ∷ arenaCase (refused f16 [] 8 0 0 1)
+    ∷ arenaCase (record { capabilities = 2; types = f16; members = []; answer = Accepted; rows = row 0 13 (3 ∷ []) ∷ [] })
+    -- M12: ranges (offset, size): (300, 0) gives 0; (3, 2) gives 3; (252, 4) gives bit 63 alone; (252, 5) gives 25
+    ∷ rangeCase 300 0 (Slots 0)
+    ∷ rangeCase 3 2 (Slots 3)
+    ∷ rangeCase 252 4 (Slots 9223372036854775808)
+    ∷ rangeCase 252 5 (slots.Refused 25 0 0 0)
     ∷ []

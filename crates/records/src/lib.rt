@@ -47,17 +47,30 @@ pub enum Outcome {
     },
 }
 
-const TYPE_WORDS: usize = 6;
+pub const TYPE_WORDS: usize = 6;
 
-const MEMBER_WORDS: usize = 2;
+pub const MEMBER_WORDS: usize = 2;
 
-const ROW_WORDS: usize = 14;
+pub const ROW_WORDS: usize = 14;
 
 const MOST_TYPES: usize = 1024;
 
 const MOST_MEMBERS: usize = 4096;
 // Bits 0 to 12.
 const ALL_CAPABILITIES: u32 = 8191;
+
+// The sets that fields lie in, by their largest number.
+const MOST_SCALAR_KIND: u32 = 5;
+
+const MOST_WIDTH: u32 = 255;
+
+const MOST_SPACE: u32 = 9;
+
+const MOST_DIM: u32 = 3;
+
+const MOST_CLASS: u32 = 3;
+
+const MOST_ROLE: u32 = 2;
 
 const STRUCT_KIND: u32 = 8;
 
@@ -189,19 +202,31 @@ fn fields_ok(rows: usize, kind: u32, a: u32, b: u32, c: u32, d: u32, e: u32) -> 
     ensures { λ r. ⌜ r ≡ fieldsOk rows kind a b c d e ⌝ }
 {
     match kind {
-        0 => ((a <= 5) & (b <= 255)) & (c == 0) & (d == 0) & (e == 0),
-        1 => ((2 <= a) & (a <= 4)) & ((b <= 5) & (c <= 255)) & (d == 0) & (e == 0),
-        2 => ((2 <= a) & (a <= 4)) & ((2 <= b) & (b <= 4)) & ((c <= 5) & (d <= 255)) & (e == 0),
-        3 => ((a == 8) | (a == 16)) & ((b == 8) | (b == 16)) & ((c <= 5) & (d <= 255)) & (e <= 2),
-        4 => ((a <= 5) & (b <= 255)) & (c == 0) & (d == 0) & (e == 0),
-        5 => (b <= 9) & (c == 0) & (d == 0) & (e == 0),
-        6 => ((a <= 5) & (b <= 255)) & (c <= 9) & (d == 0) & (e == 0),
+        0 => ((a <= MOST_SCALAR_KIND) & (b <= MOST_WIDTH)) & (c == 0) & (d == 0) & (e == 0),
+        1 => ((2 <= a) & (a <= 4))
+            & ((b <= MOST_SCALAR_KIND) & (c <= MOST_WIDTH))
+            & (d == 0)
+            & (e == 0),
+        2 => ((2 <= a) & (a <= 4))
+            & ((2 <= b) & (b <= 4))
+            & ((c <= MOST_SCALAR_KIND) & (d <= MOST_WIDTH))
+            & (e == 0),
+        3 => ((a == 8) | (a == 16))
+            & ((b == 8) | (b == 16))
+            & ((c <= MOST_SCALAR_KIND) & (d <= MOST_WIDTH))
+            & (e <= MOST_ROLE),
+        4 => ((a <= MOST_SCALAR_KIND) & (b <= MOST_WIDTH)) & (c == 0) & (d == 0) & (e == 0),
+        5 => (b <= MOST_SPACE) & (c == 0) & (d == 0) & (e == 0),
+        6 => ((a <= MOST_SCALAR_KIND) & (b <= MOST_WIDTH))
+            & (c <= MOST_SPACE)
+            & (d == 0)
+            & (e == 0),
         7 => ((b == 0) & (1 <= c) | (b == 1) & (c == 0)) & (e == 0),
         8 => {
             let last = a as usize + b as usize;
             (last <= rows) & (d == 0) & (e == 0)
         }
-        9 => (a <= 3) & (b <= 1) & (c <= 3) & (d == 0) & (e == 0),
+        9 => (a <= MOST_DIM) & (b <= 1) & (c <= MOST_CLASS) & (d == 0) & (e == 0),
         10 => (a == 0) & (b == 0) & (c == 0) & (d == 0) & (e == 0),
         11 => (a <= 1) & (b == 0) & (c == 0) & (d == 0) & (e == 0),
         12 => (a <= 1) & (b == 0) & (c == 0) & (d == 0) & (e == 0),

@@ -40,9 +40,9 @@ pub enum Distance {
     Overflow,
 }
 
-const MIN_UNIFORM: u32 = 16;
+pub const MIN_UNIFORM: u32 = 16;
 
-const MOST: u64 = 4294967295;
+pub const MIN_STORAGE: u32 = 1;
 
 // The verdict in words j to j + 4 of row k.
 fn verdict_at(rows: &[u32], k: u32, j: u32) -> Verdict
@@ -213,7 +213,7 @@ pub fn distance_to(previous: Previous, offset: u32) -> Distance
                 return Distance::Overflow;
             }
             let sum = (span as u64) + 15;
-            if MOST < sum {
+            if alignment::MOST < sum {
                 return Distance::Overflow;
             }
             let min = alignment::round_up(MIN_UNIFORM, span);
@@ -222,7 +222,7 @@ pub fn distance_to(previous: Previous, offset: u32) -> Distance
                 return Distance::Enough;
             }
             let expected = (at as u64) + min;
-            if MOST < expected {
+            if alignment::MOST < expected {
                 return Distance::Overflow;
             }
             let bound = expected as u32;

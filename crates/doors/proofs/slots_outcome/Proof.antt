@@ -3,7 +3,7 @@ use Rattle.doors.proofs.slots_outcome.Statement.{statement}
 use Rattle.doors.proofs.slots_outcome.Tie as tie
 
 returns-2 : tie.Need-returns-2
-returns-2 c = rw (c .before .slots .given .1)
+returns-2 c = rw (c .before .found .given .1)
 
 pub slots-outcome-spec : {M : Type 1} → statement M
 slots-outcome-spec =
