@@ -1,5 +1,5 @@
 -- `doorway::slots_members` meets its contract: a walk of its MIR, by hand: three calls, and no branch. All that it knows of the three is that each meets its contract.
--- `types` and `members` are `&`: what each owns is had twice, one copy goes to a callee and one is kept for the exit. `rows` goes to `slots_words` for good (`gave-slice`), at its own lifetime, share and name.
+-- `types` and `members` are `&`: what each owns is had twice, one copy goes to a callee and one is kept for the exit. `rows` goes to `slots_words` for good (`gave-slice`), at its own lifetime, share and name. Assumes nothing.
 use mathlib.Core.Path.{_≡_, refl, _∙_}
 use Prim.Native.Nat.{ℕ, _*_, _<_, _^_}
 use mathlib.Core.List.{List, [], _∷_}

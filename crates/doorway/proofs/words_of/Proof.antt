@@ -1,5 +1,5 @@
 -- `doorway::words_of` meets its contract: a walk of its MIR, by hand, with a loop.
--- The slice is looked into once, before the loop, and shut once, after it. The array is taken apart into its words once, before the loop, and put together again after it.
+-- The slice is looked into once, before the loop, and shut once, after it. The array is taken apart into its words once, before the loop, and put together again after it. Assumes nothing.
 use mathlib.Core.Path.{_≡_, refl, sym, _∙_, subst}
 use Prim.Native.Nat.{ℕ, _+_, _*_, _-_, _<_, _≤_, _^_, zero-le}
 use native.Mathlib.Nat.{le-antisymm}
