@@ -3,7 +3,7 @@ ghost use mathlib.Core.Path.{_≡_};
 ghost use mathlib.Core.Bool.{_&&_};
 ghost use Prim.Native.Nat.{_+_, _*_, _/_, _≤_, _<_};
 ghost use lib.ListN.{length, getD};
-ghost use Rattle.records.specs.Record.{typeWord, typeCount, memberCount, memberType, memberOffset, innerOf, typeInner, structMembers};
+ghost use Rattle.records.specs.Record.{recordWords, typeWord, typeCount, memberCount, memberType, memberOffset, innerOf, typeInner, structMembers};
 ghost use Rattle.records.specs.Fields.{tablesFit, capabilitiesKnown, fieldsOk, baseWithin, recordAt};
 ghost use Rattle.records.specs.Table.{firstRefusal, outcomeAt};
 
@@ -34,6 +34,16 @@ pub enum TypeInner {
     RuntimeArray { base: u32, stride: u32 },
     Struct { count: u32, span: u32 },
     Other(NonData),
+}
+
+// The kind of a record and the five words after it.
+pub struct Words {
+    pub kind: u32,
+    pub a: u32,
+    pub b: u32,
+    pub c: u32,
+    pub d: u32,
+    pub e: u32,
 }
 
 // The answer of an arena call: number, type, member and detail of the first refusal.
@@ -143,17 +153,43 @@ fn inner_of(kind: u32, a: u32, b: u32, c: u32, d: u32, e: u32) -> TypeInner
     }
 }
 
-// Record i of a table.
-pub fn type_inner(types: &[u32], i: u32) -> TypeInner
-    ensures { λ r. ⌜ r ≡ typeInner (now (types .entry)) i ⌝ }
+// The six words of record i, with one test of the table's length where the record is whole.
+fn record_words(types: &[u32], i: u32) -> Words
+    ensures { λ r. ⌜ r ≡ recordWords (now (types .entry)) i ⌝ }
 {
+    let at = (i as usize) * TYPE_WORDS;
+    if at + TYPE_WORDS <= types.len() {
+        return Words {
+            kind: types[at],
+            a: types[at + 1],
+            b: types[at + 2],
+            c: types[at + 3],
+            d: types[at + 4],
+            e: types[at + 5],
+        };
+    }
     let kind = type_word(types, i, 0);
     let a = type_word(types, i, 1);
     let b = type_word(types, i, 2);
     let c = type_word(types, i, 3);
     let d = type_word(types, i, 4);
     let e = type_word(types, i, 5);
-    inner_of(kind, a, b, c, d, e)
+    Words {
+        kind,
+        a,
+        b,
+        c,
+        d,
+        e,
+    }
+}
+
+// Record i of a table.
+pub fn type_inner(types: &[u32], i: u32) -> TypeInner
+    ensures { λ r. ⌜ r ≡ typeInner (now (types .entry)) i ⌝ }
+{
+    let w = record_words(types, i);
+    inner_of(w.kind, w.a, w.b, w.c, w.d, w.e)
 }
 
 // The member rows of struct i, handed back as that part of the caller's table.
@@ -246,13 +282,10 @@ fn base_within(types: usize, kind: u32, base: u32) -> bool
 fn record_at(types: &[u32], members: &[u32], i: u32) -> Outcome
     ensures { λ r. ⌜ r ≡ outcomeAt i (recordAt (now (types .entry)) (now (members .entry)) i) ⌝ }
 {
-    let kind = type_word(types, i, 0);
-    let a = type_word(types, i, 1);
-    let b = type_word(types, i, 2);
-    let c = type_word(types, i, 3);
-    let d = type_word(types, i, 4);
-    let e = type_word(types, i, 5);
-    if fields_ok(members.len() / MEMBER_WORDS, kind, a, b, c, d, e) {
+    let w = record_words(types, i);
+    let kind = w.kind;
+    let a = w.a;
+    if fields_ok(members.len() / MEMBER_WORDS, kind, a, w.b, w.c, w.d, w.e) {
         if base_within(types.len() / TYPE_WORDS, kind, a) {
             Outcome::Accepted
         } else {

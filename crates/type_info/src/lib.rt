@@ -63,8 +63,40 @@ fn verdict_at(rows: &[u32], k: u32, j: u32) -> Verdict
     }
 }
 
-// Row k; zeros past the rows.
+// Row k; zeros past the rows. One test of the length serves a whole row.
 pub fn row_at(rows: &[u32], k: u32) -> Row
+    ensures { λ r. ⌜ r ≡ rowsIn (now (rows .entry)) k ⌝ }
+{
+    let at = (k as usize) * records::ROW_WORDS;
+    if at + records::ROW_WORDS <= rows.len() {
+        let uniform = Verdict {
+            code: rows[at + 3],
+            ty: rows[at + 4],
+            index: rows[at + 5],
+            value: rows[at + 6],
+            bound: rows[at + 7],
+        };
+        let storage = Verdict {
+            code: rows[at + 8],
+            ty: rows[at + 9],
+            index: rows[at + 10],
+            value: rows[at + 11],
+            bound: rows[at + 12],
+        };
+        return Row {
+            size: rows[at],
+            alignment: rows[at + 1],
+            flags: rows[at + 2],
+            uniform,
+            storage,
+            immediates: rows[at + 13],
+        };
+    }
+    row_past(rows, k)
+}
+
+// The same word by word, for a row that is not whole.
+fn row_past(rows: &[u32], k: u32) -> Row
     ensures { λ r. ⌜ r ≡ rowsIn (now (rows .entry)) k ⌝ }
 {
     let size = rows::row_word(rows, k, 0);
