@@ -38,6 +38,10 @@ impl Histogram {
         self.notes.get(what).copied().unwrap_or(0)
     }
 
+    pub fn answered(&self, number: u32) -> u64 {
+        self.numbers.get(&number).copied().unwrap_or(0)
+    }
+
     pub fn count_panic(&mut self, site: &Option<String>) {
         if let Some(site) = site {
             count(&mut self.panic_sites, site.clone());

@@ -11,6 +11,8 @@
     allow(dead_code)
 )]
 
+#[cfg(all(feature = "check", feature = "slots", feature = "place"))]
+mod bench;
 mod builder;
 mod compare;
 mod damage;
@@ -23,6 +25,8 @@ mod leaves;
 mod marked;
 #[cfg(feature = "members")]
 mod member_calls;
+#[cfg(all(feature = "slots", feature = "place"))]
+mod member_records;
 mod members;
 #[cfg(feature = "mock")]
 mod mock;
@@ -36,9 +40,16 @@ mod random;
 mod recipes;
 mod records;
 mod reference;
+#[cfg(all(feature = "slots", feature = "place", feature = "members"))]
+mod replay;
+#[cfg(all(feature = "check", feature = "slots", feature = "place"))]
+mod sides;
+mod sized;
 #[cfg(feature = "slots")]
 mod slot_calls;
 mod slots;
+#[cfg(all(feature = "check", feature = "slots", feature = "place"))]
+mod stopwatch;
 mod tables;
 mod theorem;
 mod translate;
@@ -51,15 +62,22 @@ const USAGE: &str = "usage: layout COUNT [SEED]
        range COUNT [SEED] | slots COUNT [SEED]  (feature slots)
        place COUNT [SEED]                       (feature place)
        members COUNT [SEED]                     (feature members)
+       replay COUNT [SEED [STDIN STDOUT]]       (features slots, place, members)
+       member_records COUNT SEED FOLDER         (features slots, place)
+       bench                                    (features check, slots, place)
        theorem COUNT [SEED] | histogram COUNT [SEED] | show SEED INDEX";
 
 fn main() -> ExitCode {
     let words: Vec<String> = std::env::args().skip(1).collect();
     let number = |at: usize| words.get(at).and_then(|word| word.parse::<u64>().ok());
     let command = words.first().map(String::as_str);
+    #[cfg(all(feature = "check", feature = "slots", feature = "place"))]
+    if command == Some("bench") {
+        bench::bench();
+        return ExitCode::SUCCESS;
+    }
     let (Some(command), Some(first)) = (command, number(1)) else {
-        eprintln!("{USAGE}");
-        return ExitCode::from(2);
+        return usage();
     };
     let second = number(2);
     let seed = second.unwrap_or(1);
@@ -75,6 +93,13 @@ fn main() -> ExitCode {
         "place" => place_calls::place(first, seed),
         #[cfg(feature = "members")]
         "members" => member_calls::members(first, seed),
+        #[cfg(all(feature = "slots", feature = "place", feature = "members"))]
+        "replay" => replay::replay(first, seed, words.get(3..).unwrap_or_default()),
+        #[cfg(all(feature = "slots", feature = "place"))]
+        "member_records" => match words.get(3) {
+            Some(folder) => member_records::member_records(first, seed, folder),
+            None => return usage(),
+        },
         "theorem" => theorem::theorem(first, seed),
         "histogram" => {
             compare::histogram(first, seed);
@@ -85,10 +110,12 @@ fn main() -> ExitCode {
             print::arena_and_reference(&generator::arena(first, index));
             true
         }
-        _ => {
-            eprintln!("{USAGE}");
-            return ExitCode::from(2);
-        }
+        _ => return usage(),
     };
     ExitCode::from(u8::from(!agreed))
+}
+
+fn usage() -> ExitCode {
+    eprintln!("{USAGE}");
+    ExitCode::from(2)
 }

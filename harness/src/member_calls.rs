@@ -113,7 +113,7 @@ fn move_rows(random: &mut Random, arena: &mut Arena, number: u32) {
 }
 
 /// Mostly a struct's number.
-fn number(random: &mut Random, tables: &Arena) -> u32 {
+pub fn number(random: &mut Random, tables: &Arena) -> u32 {
     let count = tables.type_count() as u32;
     if count == 0 || random.one_in(8) {
         return generator::number_outside(random, count);

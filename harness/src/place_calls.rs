@@ -12,7 +12,7 @@ const DATA_FLAG: u32 = 1;
 const DEEPEST: usize = 2000;
 
 /// A step, and the count that it must stay below (none at a runtime array).
-type Step = (u32, Option<u32>);
+pub type Step = (u32, Option<u32>);
 
 pub fn place(count: u64, seed: u64) -> bool {
     run(
@@ -37,7 +37,7 @@ pub fn place(count: u64, seed: u64) -> bool {
 }
 
 /// The reading by kinds agrees with the Rust's flags.
-fn assert_data_is_by_kind(arena: &Arena, outcome: &Outcome) {
+pub fn assert_data_is_by_kind(arena: &Arena, outcome: &Outcome) {
     let records = arena.types.chunks_exact(TYPE_WORDS);
     for (record, row) in records.zip(outcome.rows.iter().flatten()) {
         assert_eq!(place::is_data(record[0]), row[2] & DATA_FLAG != 0);
@@ -61,7 +61,7 @@ fn count_place(histogram: &mut Histogram, expected: &Expected, steps: &[u32]) {
 }
 
 /// Mostly a walk to a leaf, else one that is damaged.
-fn start_and_steps(random: &mut Random, arena: &Arena) -> (u32, Vec<u32>) {
+pub fn start_and_steps(random: &mut Random, arena: &Arena) -> (u32, Vec<u32>) {
     let count = arena.type_count() as u32;
     let start = start(random, arena);
     let steps = steps_to_a_leaf(random, arena, start);
@@ -106,7 +106,7 @@ fn no_data(random: &mut Random, arena: &Arena) -> u32 {
 }
 
 /// Follows the records at random.
-fn steps_to_a_leaf(random: &mut Random, arena: &Arena, start: u32) -> Vec<Step> {
+pub fn steps_to_a_leaf(random: &mut Random, arena: &Arena, start: u32) -> Vec<Step> {
     let (mut number, mut steps) = (start, Vec::new());
     while let Some(w) = type_record(&arena.types, number) {
         let step = match w[0] {

@@ -268,7 +268,7 @@ impl Judge {
     }
 }
 
-fn capability_set(word: u32) -> Capabilities {
+pub fn capability_set(word: u32) -> Capabilities {
     let mut set = Capabilities::empty();
     for (bit, &capability) in CAPABILITIES.iter().enumerate() {
         set.set(capability, word >> bit & 1 == 1);

@@ -54,7 +54,7 @@ fn count_mask(histogram: &mut Histogram, expected: &Expected) {
     });
 }
 
-fn offset_and_size(random: &mut Random) -> (u32, u32) {
+pub fn offset_and_size(random: &mut Random) -> (u32, u32) {
     let offset = near_an_edge(random);
     let (to_the_last_slot, to_the_last_byte) = (256u32.wrapping_sub(offset), offset.wrapping_neg());
     let size = match random.below(10) {
@@ -86,7 +86,7 @@ fn near_an_edge(random: &mut Random) -> u32 {
 }
 
 /// Mostly a type of the arena, structs preferred.
-fn walked_type(random: &mut Random, arena: &Arena) -> u32 {
+pub fn walked_type(random: &mut Random, arena: &Arena) -> u32 {
     let count = arena.type_count() as u32;
     if count == 0 || random.one_in(20) {
         return generator::number_outside(random, count);
@@ -125,7 +125,7 @@ fn walk_lengths(arena: &Arena) -> Vec<u64> {
 }
 
 /// Where the walk starts.
-fn start(random: &mut Random) -> u32 {
+pub fn start(random: &mut Random) -> u32 {
     match random.weighted(&[9, 4, 4, 2, 2, 1]) {
         0 => 0,
         1 => 4 * random.below(32),

@@ -3,6 +3,9 @@ ghost use mathlib.Core.Path.{_≡_};
 ghost use Prim.Native.Nat.{_*_, max};
 ghost use Rattle.alignment.specs.Alignment.{powerOfTwo, vectorAlignment, isAligned, roundUp};
 
+// The largest number of 32 bits.
+pub const MOST: u64 = 4294967295;
+
 // Alignment::new on a width: whether it is one.
 pub fn power_of_two(w: u32) -> bool
     ensures { λ r. ⌜ r ≡ powerOfTwo w ⌝ }
@@ -28,6 +31,16 @@ pub fn larger(a: u32, b: u32) -> u32
 pub fn is_aligned(alignment: u32, n: u32) -> bool
     ensures { λ r. ⌜ r ≡ isAligned alignment n ⌝ }
 {
+    // The usual alignments by name, since a remainder by a constant is no division.
+    if alignment == 16 {
+        return n % 16 == 0;
+    }
+    if alignment == 4 {
+        return n % 4 == 0;
+    }
+    if alignment == 8 {
+        return n % 8 == 0;
+    }
     if alignment == 0 {
         return n == 0;
     }

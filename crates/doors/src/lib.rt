@@ -1,7 +1,7 @@
 // The static library: the public calls with C's calling convention. A slice is a pointer and a length.
-use slots::SlotsAnswer;
 use place::PlaceAnswer;
 use records::Outcome;
+use slots::SlotsAnswer;
 ghost use mathlib.Core.Path.{_≡_};
 ghost use mathlib.Core.List.{_∷_};
 ghost use Prim.Native.Nat.{_*_, _≤_};
@@ -68,7 +68,17 @@ fn slots_outcome(found: SlotsAnswer) -> Outcome
 {
     match found {
         SlotsAnswer::Slots(_) => Outcome::Accepted,
-        SlotsAnswer::Refused { number, ty, member, detail } => Outcome::Refused { number, ty, member, detail },
+        SlotsAnswer::Refused {
+            number,
+            ty,
+            member,
+            detail,
+        } => Outcome::Refused {
+            number,
+            ty,
+            member,
+            detail,
+        },
     }
 }
 
@@ -77,7 +87,12 @@ fn mask_of(found: SlotsAnswer) -> u64
 {
     match found {
         SlotsAnswer::Slots(mask) => mask,
-        SlotsAnswer::Refused { number: _, ty: _, member: _, detail: _ } => 0,
+        SlotsAnswer::Refused {
+            number: _,
+            ty: _,
+            member: _,
+            detail: _,
+        } => 0,
     }
 }
 
@@ -86,7 +101,17 @@ fn place_outcome(place: PlaceAnswer) -> Outcome
 {
     match place {
         PlaceAnswer::Found { byte: _, leaf: _ } => Outcome::Accepted,
-        PlaceAnswer::Refused { number, ty, member, detail } => Outcome::Refused { number, ty, member, detail },
+        PlaceAnswer::Refused {
+            number,
+            ty,
+            member,
+            detail,
+        } => Outcome::Refused {
+            number,
+            ty,
+            member,
+            detail,
+        },
     }
 }
 
@@ -95,7 +120,12 @@ fn byte_of(place: PlaceAnswer) -> u64
 {
     match place {
         PlaceAnswer::Found { byte, leaf: _ } => byte,
-        PlaceAnswer::Refused { number: _, ty: _, member: _, detail: _ } => 0,
+        PlaceAnswer::Refused {
+            number: _,
+            ty: _,
+            member: _,
+            detail: _,
+        } => 0,
     }
 }
 
@@ -104,7 +134,12 @@ fn leaf_of(place: PlaceAnswer) -> u32
 {
     match place {
         PlaceAnswer::Found { byte: _, leaf } => leaf,
-        PlaceAnswer::Refused { number: _, ty: _, member: _, detail: _ } => 0,
+        PlaceAnswer::Refused {
+            number: _,
+            ty: _,
+            member: _,
+            detail: _,
+        } => 0,
     }
 }
 
@@ -152,7 +187,16 @@ pub extern "C" fn wuldazin_range(offset: u32, size: u32, mask: &mut [u64], answe
 
 // The slots of a type of an arena from an offset on.
 #[no_mangle]
-pub extern "C" fn wuldazin_slots(types: &[u32], members: &[u32], capabilities: u32, rows: &mut [u32], ty: u32, offset: u32, mask: &mut [u64], answer: &mut [u32])
+pub extern "C" fn wuldazin_slots(
+    types: &[u32],
+    members: &[u32],
+    capabilities: u32,
+    rows: &mut [u32],
+    ty: u32,
+    offset: u32,
+    mask: &mut [u64],
+    answer: &mut [u32],
+)
     ensures { λ _. ⌜ now (rows .exit) ≡ arenaWords capabilities (now (types .entry)) (now (members .entry)) (now (rows .entry)) ⌝ }
     ensures { λ _. ⌜ now (mask .exit) ≡ withOne (now (mask .entry)) (maskOf (slotsAnswer capabilities (now (types .entry)) (now (members .entry)) (now (rows .entry)) ty offset)) ⌝ }
     ensures { λ _. ⌜ now (answer .exit) ≡ withAnswer (now (answer .entry)) (slotsOutcome (slotsAnswer capabilities (now (types .entry)) (now (members .entry)) (now (rows .entry)) ty offset)) ⌝ }
@@ -164,7 +208,16 @@ pub extern "C" fn wuldazin_slots(types: &[u32], members: &[u32], capabilities: u
 
 // The byte place and the type of the leaf that steps lead to.
 #[no_mangle]
-pub extern "C" fn wuldazin_place(types: &[u32], members: &[u32], capabilities: u32, rows: &mut [u32], start: u32, steps: &[u32], place: &mut [u64], answer: &mut [u32])
+pub extern "C" fn wuldazin_place(
+    types: &[u32],
+    members: &[u32],
+    capabilities: u32,
+    rows: &mut [u32],
+    start: u32,
+    steps: &[u32],
+    place: &mut [u64],
+    answer: &mut [u32],
+)
     ensures { λ _. ⌜ now (rows .exit) ≡ arenaWords capabilities (now (types .entry)) (now (members .entry)) (now (rows .entry)) ⌝ }
     ensures { λ _. ⌜ now (place .exit) ≡ withTwo (now (place .entry)) (byteOf (lookupAnswer capabilities (now (types .entry)) (now (members .entry)) (now (rows .entry)) start (now (steps .entry)))) (leafOf (lookupAnswer capabilities (now (types .entry)) (now (members .entry)) (now (rows .entry)) start (now (steps .entry)))) ⌝ }
     ensures { λ _. ⌜ now (answer .exit) ≡ withAnswer (now (answer .entry)) (placeOutcome (lookupAnswer capabilities (now (types .entry)) (now (members .entry)) (now (rows .entry)) start (now (steps .entry)))) ⌝ }

@@ -4,6 +4,35 @@ ghost use Prim.Native.Nat.{_<_};
 ghost use lib.Bits.{bitAnd, bitOr};
 ghost use Rattle.flags.specs.Flags.{bit, dataBit, sizedBit, hostShareableBit, creationResolvedBit, startingFlags, scalarFlags, argumentFlag, pointerFlags, arrayFlags, runtimeArrayFlags, bindingArrayFlags, notHostShareable};
 
+// 01's kinds, as indexes of the table.
+pub const SCALAR_KIND: usize = 0;
+
+pub const VECTOR_KIND: usize = 1;
+
+pub const MATRIX_KIND: usize = 2;
+
+pub const COOPERATIVE_MATRIX_KIND: usize = 3;
+
+pub const ATOMIC_KIND: usize = 4;
+
+pub const POINTER_KIND: usize = 5;
+
+pub const VALUE_POINTER_KIND: usize = 6;
+
+pub const ARRAY_KIND: usize = 7;
+
+pub const STRUCT_KIND: usize = 8;
+
+pub const IMAGE_KIND: usize = 9;
+
+pub const SAMPLER_KIND: usize = 10;
+
+pub const ACCELERATION_STRUCTURE_KIND: usize = 11;
+
+pub const RAY_QUERY_KIND: usize = 12;
+
+pub const BINDING_ARRAY_KIND: usize = 13;
+
 // The starting flags of each kind, by its number.
 const STARTING_FLAGS: [u32; 14] = [
     255,
@@ -21,10 +50,6 @@ const STARTING_FLAGS: [u32; 14] = [
     195,
     146,
 ];
-
-const ARRAY_KIND: usize = 7;
-
-const BINDING_ARRAY_KIND: usize = 13;
 
 const BOOL: u32 = 3;
 

@@ -1,6 +1,8 @@
 // The walk of a type: from_type of naga's valid/immediates.rs.
-use records::{Outcome, TypeInner};
-use slots::{Slots, SlotsAnswer};
+use records::Outcome;
+use records::TypeInner;
+use slots::Slots;
+use slots::SlotsAnswer;
 use type_methods::Size;
 ghost use mathlib.Core.Path.{_≡_};
 ghost use Prim.Native.Nat.{ℕ, _≤_};
@@ -10,8 +12,6 @@ ghost use Rattle.records.specs.Table.{table};
 ghost use Rattle.valid.specs.Arena.{arenaWords};
 ghost use Rattle.slots.specs.Slots.{rangeSlots};
 ghost use Rattle.immediates.specs.Walk.{Measured, noSlots, slotsStep, membersSlots, slotsAt, slotsAnswer};
-
-const MOST: u64 = 4294967295;
 
 // What a type that is no struct measures.
 fn measure_slots(inner: TypeInner, offset: u32) -> Slots
@@ -32,7 +32,11 @@ fn type_slots(types: &[u32], members: &[u32], ty: u32, offset: u32) -> Slots
     let inner = records::type_inner(types, ty);
     match inner {
         TypeInner::Plain(_) => measure_slots(inner, offset),
-        TypeInner::Array { base: _, count: _, stride: _ } => measure_slots(inner, offset),
+        TypeInner::Array {
+            base: _,
+            count: _,
+            stride: _,
+        } => measure_slots(inner, offset),
         TypeInner::RuntimeArray { base: _, stride: _ } => measure_slots(inner, offset),
         TypeInner::Struct { count, span: _ } => members_slots(types, members, ty, offset, count),
         TypeInner::Other(_) => measure_slots(inner, offset),
@@ -50,7 +54,7 @@ fn members_slots(types: &[u32], members: &[u32], ty: u32, offset: u32, count: u3
     while j < count {
         let t = records::member_type(part, j);
         let sum = (offset as u64) + (records::member_offset(part, j) as u64);
-        if MOST < sum {
+        if alignment::MOST < sum {
             return Slots::Past;
         }
         if ty <= t {
@@ -64,17 +68,39 @@ fn members_slots(types: &[u32], members: &[u32], ty: u32, offset: u32, count: u3
 }
 
 // The slots of a type of an arena from an offset on. The arena is judged first; nothing is asked of the caller.
-pub fn immediate_slots(types: &[u32], members: &[u32], capabilities: u32, rows: &mut [u32], ty: u32, offset: u32) -> SlotsAnswer
+pub fn immediate_slots(
+    types: &[u32],
+    members: &[u32],
+    capabilities: u32,
+    rows: &mut [u32],
+    ty: u32,
+    offset: u32,
+) -> SlotsAnswer
     ensures { λ r. ⌜ r ≡ slotsAnswer capabilities (now (types .entry)) (now (members .entry)) (now (rows .entry)) ty offset ⌝ }
     ensures { λ _. ⌜ now (rows .exit) ≡ arenaWords capabilities (now (types .entry)) (now (members .entry)) (now (rows .entry)) ⌝ }
 {
     match valid::check(types, members, capabilities, rows) {
         Outcome::Accepted => {
-            if types.len() / 6 <= ty as usize {
-                return SlotsAnswer::Refused { number: 26, ty: 0, member: 0, detail: 0 };
+            if types.len() / records::TYPE_WORDS <= ty as usize {
+                return SlotsAnswer::Refused {
+                    number: 26,
+                    ty: 0,
+                    member: 0,
+                    detail: 0,
+                };
             }
             slots::part_answer(type_slots(types, members, ty, offset))
         }
-        Outcome::Refused { number, ty, member, detail } => SlotsAnswer::Refused { number, ty, member, detail },
+        Outcome::Refused {
+            number,
+            ty,
+            member,
+            detail,
+        } => SlotsAnswer::Refused {
+            number,
+            ty,
+            member,
+            detail,
+        },
     }
 }

@@ -28,8 +28,6 @@ pub enum Laid {
     Refused { number: u32, member: u32 },
 }
 
-const ROW_WORDS: usize = 14;
-
 fn leaf_width(leaf: Leaf) -> u32
     ensures { λ r. ⌜ r ≡ leafWidth leaf ⌝ }
 {
@@ -150,7 +148,7 @@ fn layout_at(types: &[u32], members: &[u32], rows: &mut [u32], i: u32) -> Laid
     ensures { λ r. ⌜ laidResult r ≡ layoutOf (layoutsIn (take (i * 14) (now (rows .entry)))) i (typeInner (now (types .entry)) i) (structMembers (now (types .entry)) (now (members .entry)) i) ⌝ }
     ensures { λ r. ⌜ now (rows .exit) ≡ wordsAfter r (i * 14) (now (rows .entry)) ⌝ }
 {
-    let at = (i as usize) * ROW_WORDS;
+    let at = (i as usize) * records::ROW_WORDS;
     let inner = records::type_inner(types, i);
     let part = records::struct_members(types, members, i);
     let laid = layout_of(&rows[..at], i, inner, part);
@@ -178,7 +176,7 @@ fn layout_all(types: &[u32], members: &[u32], rows: &mut [u32], n: u32) -> Outco
         match layout_at(types, members, rows, i) {
             Laid::Layout(_) => {}
             Laid::Refused { number, member } => {
-                let words = (n as usize) * ROW_WORDS;
+                let words = (n as usize) * records::ROW_WORDS;
                 rows::clear(rows, words);
                 return Outcome::Refused {
                     number,
@@ -209,7 +207,7 @@ fn layout_tables(types: &[u32], members: &[u32], rows: &mut [u32], n: u32) -> Ou
             member: _,
             detail: _,
         } => {
-            let words = (n as usize) * ROW_WORDS;
+            let words = (n as usize) * records::ROW_WORDS;
             rows::clear(rows, words);
             found
         }
@@ -222,7 +220,7 @@ pub fn layout(types: &[u32], members: &[u32], rows: &mut [u32]) -> Outcome
     ensures { λ _. ⌜ now (rows .exit) ≡ layoutWords (now (types .entry)) (now (members .entry)) (now (rows .entry)) ⌝ }
 {
     if records::tables_fit(types.len(), members.len(), rows.len()) {
-        let n = (types.len() / 6) as u32;
+        let n = (types.len() / records::TYPE_WORDS) as u32;
         return layout_tables(types, members, rows, n);
     }
     Outcome::Refused {

@@ -74,11 +74,12 @@ list-same (x ∷ xs) (y ∷ ys) t = rw (eqb→eq x y (and-left (eqb x y) (sameLi
 four-same : (n u m d n′ u′ m′ d′ : ℕ) → T (eqb n n′ && eqb u u′ && eqb m m′ && eqb d d′) → (n ≡ n′) × (u ≡ u′) × (m ≡ m′) × (d ≡ d′)
 four-same n u m d n′ u′ m′ d′ t =
     let t3 = and-left (eqb n n′ && eqb u u′ && eqb m m′) (eqb d d′) t in
-    let t2 = and-left (eqb n n′ && eqb u u′) (eqb m m′) t3 in
-    (eqb→eq n n′ (and-left (eqb n n′) (eqb u u′) t2),
-    eqb→eq u u′ (and-right (eqb n n′) (eqb u u′) t2),
-    eqb→eq m m′ (and-right (eqb n n′ && eqb u u′) (eqb m m′) t3),
-    eqb→eq d d′ (and-right (eqb n n′ && eqb u u′ && eqb m m′) (eqb d d′) t))
+    let t2 = and-left (eqb n n′ && eqb u u′) (eqb m m′) t3 in (
+      eqb→eq n n′ (and-left (eqb n n′) (eqb u u′) t2),
+      eqb→eq u u′ (and-right (eqb n n′) (eqb u u′) t2),
+      eqb→eq m m′ (and-right (eqb n n′ && eqb u u′) (eqb m m′) t3),
+      eqb→eq d d′ (and-right (eqb n n′ && eqb u u′ && eqb m m′) (eqb d d′) t),
+    )
 
 outcome-same : (a b : Outcome) → T (sameOutcome a b) → a ≡ b
 unfolding sameOutcome

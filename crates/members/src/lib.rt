@@ -45,14 +45,6 @@ pub enum Members {
     Refused { number: u32, member: u32 },
 }
 
-const MIN_UNIFORM: u32 = 16;
-
-const MIN_STORAGE: u32 = 1;
-
-const STRUCT_KIND: usize = 8;
-
-const MOST: u64 = 4294967295;
-
 pub fn struct_at(inner: TypeInner, offset: u32) -> Previous
     ensures { λ r. ⌜ r ≡ structAt inner offset ⌝ }
 {
@@ -149,7 +141,7 @@ fn member_bounds(
         return Bounded::Refused(18);
     }
     let sum = (offset as u64) + (size as u64);
-    if MOST < sum {
+    if alignment::MOST < sum {
         return Bounded::Refused(21);
     }
     let next = sum as u32;
@@ -244,9 +236,9 @@ fn member(
 fn start() -> State
     ensures { λ r. ⌜ r ≡ record { bounds = record { end = 0; flags = startingFlags 8 }; uniform = okVerdict minUniform; storage = okVerdict minStorage; immediates = 0; previous = NoStruct } ⌝ }
 {
-    let flags = flags::starting_flags(STRUCT_KIND);
-    let uniform = type_info::ok_verdict(MIN_UNIFORM);
-    let storage = type_info::ok_verdict(MIN_STORAGE);
+    let flags = flags::starting_flags(flags::STRUCT_KIND);
+    let uniform = type_info::ok_verdict(type_info::MIN_UNIFORM);
+    let storage = type_info::ok_verdict(type_info::MIN_STORAGE);
     let bounds = Bounds { end: 0, flags };
     State {
         bounds,

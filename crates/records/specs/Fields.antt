@@ -28,13 +28,35 @@ unfoldable pub tablesFit : (typesLength membersLength rowsLength : ℕ) → Bool
 tablesFit t m r =
     eqb (t % typeWords) 0 && leb t (mostTypes * typeWords) && eqb (m % memberWords) 0 && leb m (mostMembers * memberWords) && leb (t / typeWords * rowWords) r
 
+-- bits 0 to 12
+abbrev pub allCapabilities : ℕ
+allCapabilities = 8191
+
 -- no capability bit above 12
 abbrev pub capabilitiesKnown : ℕ → Bool
-capabilitiesKnown c = leb c 8191
+capabilitiesKnown c = leb c allCapabilities
 
 -- ---- number 2: the sets, by name
+abbrev pub mostScalarKind : ℕ
+mostScalarKind = 5
+
+abbrev pub mostWidth : ℕ
+mostWidth = 255
+
+abbrev pub mostSpace : ℕ
+mostSpace = 9
+
+abbrev pub mostDim : ℕ
+mostDim = 3
+
+abbrev pub mostClass : ℕ
+mostClass = 3
+
+abbrev pub mostRole : ℕ
+mostRole = 2
+
 abbrev pub scalarOk : (kind width : ℕ) → Bool
-scalarOk kind width = leb kind 5 && leb width 255
+scalarOk kind width = leb kind mostScalarKind && leb width mostWidth
 
 abbrev pub vectorSizeOk : ℕ → Bool
 vectorSizeOk n = leb 2 n && leb n 4
@@ -43,7 +65,7 @@ abbrev pub cooperativeSizeOk : ℕ → Bool
 cooperativeSizeOk n = eqb n 8 || eqb n 16
 
 abbrev pub spaceOk : ℕ → Bool
-spaceOk space = leb space 9
+spaceOk space = leb space mostSpace
 
 -- form 0 is constant, count at least 1; form 1 is dynamic, count 0
 abbrev pub arraySizeOk : (form count : ℕ) → Bool
@@ -62,13 +84,13 @@ fieldsOk rows kind a b c d e =
     pick (eqb kind scalarKind) (scalarOk a b && eqb c 0 && eqb d 0 && eqb e 0)
     (pick (eqb kind vectorKind) (vectorSizeOk a && scalarOk b c && eqb d 0 && eqb e 0)
     (pick (eqb kind matrixKind) (vectorSizeOk a && vectorSizeOk b && scalarOk c d && eqb e 0)
-    (pick (eqb kind cooperativeMatrixKind) (cooperativeSizeOk a && cooperativeSizeOk b && scalarOk c d && leb e 2)
+    (pick (eqb kind cooperativeMatrixKind) (cooperativeSizeOk a && cooperativeSizeOk b && scalarOk c d && leb e mostRole)
     (pick (eqb kind atomicKind) (scalarOk a b && eqb c 0 && eqb d 0 && eqb e 0)
     (pick (eqb kind pointerKind) (spaceOk b && eqb c 0 && eqb d 0 && eqb e 0)
     (pick (eqb kind valuePointerKind) (scalarOk a b && spaceOk c && eqb d 0 && eqb e 0)
     (pick (eqb kind arrayKind) (arraySizeOk b c && eqb e 0)
     (pick (eqb kind structKind) (membersWithin rows a b && eqb d 0 && eqb e 0)
-    (pick (eqb kind imageKind) (leb a 3 && flagOk b && leb c 3 && eqb d 0 && eqb e 0)
+    (pick (eqb kind imageKind) (leb a mostDim && flagOk b && leb c mostClass && eqb d 0 && eqb e 0)
     (pick (eqb kind samplerKind) (eqb a 0 && eqb b 0 && eqb c 0 && eqb d 0 && eqb e 0)
     (pick (eqb kind accelerationStructureKind) (flagOk a && eqb b 0 && eqb c 0 && eqb d 0 && eqb e 0)
     (pick (eqb kind rayQueryKind) (flagOk a && eqb b 0 && eqb c 0 && eqb d 0 && eqb e 0)

@@ -6,6 +6,7 @@ use Prim.Native.Nat.{ℕ, _+_, _*_, _/_}
 use lib.Dec.{eqb, leb, ltb}
 use lib.ListN.{length, getD, take, drop}
 use Rattle.records.specs.Result.{pick}
+use Rattle.records.specs.declared.Words.{Words}
 use Rattle.records.specs.declared.Leaf.{Leaf}
 use Rattle.records.specs.declared.Leaf.the-variants.{Scalar, Vector, Matrix, CooperativeMatrix, Atomic, RayQuery}
 use Rattle.records.specs.declared.NonData.{NonData}
@@ -67,6 +68,18 @@ typeCount ts = length ts / typeWords
 -- word k of record i
 abbrev pub typeWord : List ℕ → ℕ → ℕ → ℕ
 typeWord ts i k = getD ts (i * typeWords + k) 0
+
+-- the six words of record i, as the code carries them
+abbrev pub recordWords : List ℕ → ℕ → Words
+recordWords ts i =
+    record {
+      kind = typeWord ts i 0;
+      a = typeWord ts i 1;
+      b = typeWord ts i 2;
+      c = typeWord ts i 3;
+      d = typeWord ts i 4;
+      e = typeWord ts i 5;
+    }
 
 -- ---- the member record: two words, type and offset
 abbrev pub memberWords : ℕ

@@ -3,7 +3,7 @@ ghost use mathlib.Core.Path.{_≡_};
 ghost use mathlib.Core.Bool.{_&&_};
 ghost use Prim.Native.Nat.{_+_, _*_, _/_, _≤_, _<_};
 ghost use lib.ListN.{length, getD};
-ghost use Rattle.records.specs.Record.{typeWord, typeCount, memberCount, memberType, memberOffset, innerOf, typeInner, structMembers};
+ghost use Rattle.records.specs.Record.{recordWords, typeWord, typeCount, memberCount, memberType, memberOffset, innerOf, typeInner, structMembers};
 ghost use Rattle.records.specs.Fields.{tablesFit, capabilitiesKnown, fieldsOk, baseWithin, recordAt};
 ghost use Rattle.records.specs.Table.{firstRefusal, outcomeAt};
 
@@ -36,6 +36,16 @@ pub enum TypeInner {
     Other(NonData),
 }
 
+// The kind of a record and the five words after it.
+pub struct Words {
+    pub kind: u32,
+    pub a: u32,
+    pub b: u32,
+    pub c: u32,
+    pub d: u32,
+    pub e: u32,
+}
+
 // The answer of an arena call: number, type, member and detail of the first refusal.
 pub enum Outcome {
     Accepted,
@@ -47,17 +57,30 @@ pub enum Outcome {
     },
 }
 
-const TYPE_WORDS: usize = 6;
+pub const TYPE_WORDS: usize = 6;
 
-const MEMBER_WORDS: usize = 2;
+pub const MEMBER_WORDS: usize = 2;
 
-const ROW_WORDS: usize = 14;
+pub const ROW_WORDS: usize = 14;
 
 const MOST_TYPES: usize = 1024;
 
 const MOST_MEMBERS: usize = 4096;
 // Bits 0 to 12.
 const ALL_CAPABILITIES: u32 = 8191;
+
+// The sets that fields lie in, by their largest number.
+const MOST_SCALAR_KIND: u32 = 5;
+
+const MOST_WIDTH: u32 = 255;
+
+const MOST_SPACE: u32 = 9;
+
+const MOST_DIM: u32 = 3;
+
+const MOST_CLASS: u32 = 3;
+
+const MOST_ROLE: u32 = 2;
 
 const STRUCT_KIND: u32 = 8;
 
@@ -130,17 +153,43 @@ fn inner_of(kind: u32, a: u32, b: u32, c: u32, d: u32, e: u32) -> TypeInner
     }
 }
 
-// Record i of a table.
-pub fn type_inner(types: &[u32], i: u32) -> TypeInner
-    ensures { λ r. ⌜ r ≡ typeInner (now (types .entry)) i ⌝ }
+// The six words of record i, with one test of the table's length where the record is whole.
+fn record_words(types: &[u32], i: u32) -> Words
+    ensures { λ r. ⌜ r ≡ recordWords (now (types .entry)) i ⌝ }
 {
+    let at = (i as usize) * TYPE_WORDS;
+    if at + TYPE_WORDS <= types.len() {
+        return Words {
+            kind: types[at],
+            a: types[at + 1],
+            b: types[at + 2],
+            c: types[at + 3],
+            d: types[at + 4],
+            e: types[at + 5],
+        };
+    }
     let kind = type_word(types, i, 0);
     let a = type_word(types, i, 1);
     let b = type_word(types, i, 2);
     let c = type_word(types, i, 3);
     let d = type_word(types, i, 4);
     let e = type_word(types, i, 5);
-    inner_of(kind, a, b, c, d, e)
+    Words {
+        kind,
+        a,
+        b,
+        c,
+        d,
+        e,
+    }
+}
+
+// Record i of a table.
+pub fn type_inner(types: &[u32], i: u32) -> TypeInner
+    ensures { λ r. ⌜ r ≡ typeInner (now (types .entry)) i ⌝ }
+{
+    let w = record_words(types, i);
+    inner_of(w.kind, w.a, w.b, w.c, w.d, w.e)
 }
 
 // The member rows of struct i, handed back as that part of the caller's table.
@@ -189,19 +238,31 @@ fn fields_ok(rows: usize, kind: u32, a: u32, b: u32, c: u32, d: u32, e: u32) -> 
     ensures { λ r. ⌜ r ≡ fieldsOk rows kind a b c d e ⌝ }
 {
     match kind {
-        0 => ((a <= 5) & (b <= 255)) & (c == 0) & (d == 0) & (e == 0),
-        1 => ((2 <= a) & (a <= 4)) & ((b <= 5) & (c <= 255)) & (d == 0) & (e == 0),
-        2 => ((2 <= a) & (a <= 4)) & ((2 <= b) & (b <= 4)) & ((c <= 5) & (d <= 255)) & (e == 0),
-        3 => ((a == 8) | (a == 16)) & ((b == 8) | (b == 16)) & ((c <= 5) & (d <= 255)) & (e <= 2),
-        4 => ((a <= 5) & (b <= 255)) & (c == 0) & (d == 0) & (e == 0),
-        5 => (b <= 9) & (c == 0) & (d == 0) & (e == 0),
-        6 => ((a <= 5) & (b <= 255)) & (c <= 9) & (d == 0) & (e == 0),
+        0 => ((a <= MOST_SCALAR_KIND) & (b <= MOST_WIDTH)) & (c == 0) & (d == 0) & (e == 0),
+        1 => ((2 <= a) & (a <= 4))
+            & ((b <= MOST_SCALAR_KIND) & (c <= MOST_WIDTH))
+            & (d == 0)
+            & (e == 0),
+        2 => ((2 <= a) & (a <= 4))
+            & ((2 <= b) & (b <= 4))
+            & ((c <= MOST_SCALAR_KIND) & (d <= MOST_WIDTH))
+            & (e == 0),
+        3 => ((a == 8) | (a == 16))
+            & ((b == 8) | (b == 16))
+            & ((c <= MOST_SCALAR_KIND) & (d <= MOST_WIDTH))
+            & (e <= MOST_ROLE),
+        4 => ((a <= MOST_SCALAR_KIND) & (b <= MOST_WIDTH)) & (c == 0) & (d == 0) & (e == 0),
+        5 => (b <= MOST_SPACE) & (c == 0) & (d == 0) & (e == 0),
+        6 => ((a <= MOST_SCALAR_KIND) & (b <= MOST_WIDTH))
+            & (c <= MOST_SPACE)
+            & (d == 0)
+            & (e == 0),
         7 => ((b == 0) & (1 <= c) | (b == 1) & (c == 0)) & (e == 0),
         8 => {
             let last = a as usize + b as usize;
             (last <= rows) & (d == 0) & (e == 0)
         }
-        9 => (a <= 3) & (b <= 1) & (c <= 3) & (d == 0) & (e == 0),
+        9 => (a <= MOST_DIM) & (b <= 1) & (c <= MOST_CLASS) & (d == 0) & (e == 0),
         10 => (a == 0) & (b == 0) & (c == 0) & (d == 0) & (e == 0),
         11 => (a <= 1) & (b == 0) & (c == 0) & (d == 0) & (e == 0),
         12 => (a <= 1) & (b == 0) & (c == 0) & (d == 0) & (e == 0),
@@ -221,13 +282,10 @@ fn base_within(types: usize, kind: u32, base: u32) -> bool
 fn record_at(types: &[u32], members: &[u32], i: u32) -> Outcome
     ensures { λ r. ⌜ r ≡ outcomeAt i (recordAt (now (types .entry)) (now (members .entry)) i) ⌝ }
 {
-    let kind = type_word(types, i, 0);
-    let a = type_word(types, i, 1);
-    let b = type_word(types, i, 2);
-    let c = type_word(types, i, 3);
-    let d = type_word(types, i, 4);
-    let e = type_word(types, i, 5);
-    if fields_ok(members.len() / MEMBER_WORDS, kind, a, b, c, d, e) {
+    let w = record_words(types, i);
+    let kind = w.kind;
+    let a = w.a;
+    if fields_ok(members.len() / MEMBER_WORDS, kind, a, w.b, w.c, w.d, w.e) {
         if base_within(types.len() / TYPE_WORDS, kind, a) {
             Outcome::Accepted
         } else {

@@ -3,8 +3,7 @@ ghost use mathlib.Core.Path.{_≡_};
 ghost use Prim.Native.Nat.{_+_, _*_, _≤_, _<_};
 ghost use lib.ListN.{length};
 ghost use Rattle.rows.specs.Rows.{rowWord, layoutRow, withRow, cleared};
-
-const ROW_WORDS: usize = 14;
+use records::ROW_WORDS;
 
 // Word j of row k; 0 past the rows.
 pub fn row_word(rows: &[u32], k: u32, j: u32) -> u32

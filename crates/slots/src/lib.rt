@@ -19,6 +19,7 @@ pub enum SlotsAnswer {
 }
 
 const ALL: u64 = 18446744073709551615;
+
 const SLOT_BYTES: u64 = 256;
 
 // from_range: the slots of the bytes from offset on.
@@ -87,6 +88,11 @@ pub fn part_answer(part: Slots) -> SlotsAnswer
 {
     match part {
         Slots::Mask(mask) => SlotsAnswer::Slots(mask),
-        Slots::Past => SlotsAnswer::Refused { number: 25, ty: 0, member: 0, detail: 0 },
+        Slots::Past => SlotsAnswer::Refused {
+            number: 25,
+            ty: 0,
+            member: 0,
+            detail: 0,
+        },
     }
 }

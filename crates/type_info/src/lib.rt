@@ -40,9 +40,9 @@ pub enum Distance {
     Overflow,
 }
 
-const MIN_UNIFORM: u32 = 16;
+pub const MIN_UNIFORM: u32 = 16;
 
-const MOST: u64 = 4294967295;
+pub const MIN_STORAGE: u32 = 1;
 
 // The verdict in words j to j + 4 of row k.
 fn verdict_at(rows: &[u32], k: u32, j: u32) -> Verdict
@@ -63,8 +63,40 @@ fn verdict_at(rows: &[u32], k: u32, j: u32) -> Verdict
     }
 }
 
-// Row k; zeros past the rows.
+// Row k; zeros past the rows. One test of the length serves a whole row.
 pub fn row_at(rows: &[u32], k: u32) -> Row
+    ensures { λ r. ⌜ r ≡ rowsIn (now (rows .entry)) k ⌝ }
+{
+    let at = (k as usize) * records::ROW_WORDS;
+    if at + records::ROW_WORDS <= rows.len() {
+        let uniform = Verdict {
+            code: rows[at + 3],
+            ty: rows[at + 4],
+            index: rows[at + 5],
+            value: rows[at + 6],
+            bound: rows[at + 7],
+        };
+        let storage = Verdict {
+            code: rows[at + 8],
+            ty: rows[at + 9],
+            index: rows[at + 10],
+            value: rows[at + 11],
+            bound: rows[at + 12],
+        };
+        return Row {
+            size: rows[at],
+            alignment: rows[at + 1],
+            flags: rows[at + 2],
+            uniform,
+            storage,
+            immediates: rows[at + 13],
+        };
+    }
+    row_past(rows, k)
+}
+
+// The same word by word, for a row that is not whole.
+fn row_past(rows: &[u32], k: u32) -> Row
     ensures { λ r. ⌜ r ≡ rowsIn (now (rows .entry)) k ⌝ }
 {
     let size = rows::row_word(rows, k, 0);
@@ -213,7 +245,7 @@ pub fn distance_to(previous: Previous, offset: u32) -> Distance
                 return Distance::Overflow;
             }
             let sum = (span as u64) + 15;
-            if MOST < sum {
+            if alignment::MOST < sum {
                 return Distance::Overflow;
             }
             let min = alignment::round_up(MIN_UNIFORM, span);
@@ -222,7 +254,7 @@ pub fn distance_to(previous: Previous, offset: u32) -> Distance
                 return Distance::Enough;
             }
             let expected = (at as u64) + min;
-            if MOST < expected {
+            if alignment::MOST < expected {
                 return Distance::Overflow;
             }
             let bound = expected as u32;

@@ -40,14 +40,6 @@ pub enum Judged {
     },
 }
 
-const ROW_WORDS: usize = 14;
-
-const MIN_UNIFORM: u32 = 16;
-
-const MIN_STORAGE: u32 = 1;
-
-const FLOAT: u32 = 2;
-
 const STORAGE_SPACE: u32 = 4;
 
 const D2: u32 = 1;
@@ -57,18 +49,6 @@ const D3: u32 = 2;
 const CUBE: u32 = 3;
 
 const EXTERNAL: u32 = 2;
-
-const COOPERATIVE_MATRIX: u32 = 7;
-
-const CUBE_ARRAY_TEXTURES: u32 = 8;
-
-const TEXTURE_EXTERNAL: u32 = 9;
-
-const RAY_QUERY: u32 = 10;
-
-const RAY_TRACING_PIPELINE: u32 = 11;
-
-const RAY_HIT_VERTEX_POSITION: u32 = 12;
 
 fn refused(number: u32) -> Flagged
     ensures { λ r. ⌜ flaggedResult r ≡ err number 0 0 ⌝ }
@@ -108,11 +88,11 @@ fn with_width(width: Width, flags: u32) -> Flagged
 fn cooperative_flags(capabilities: u32, kind: u32, width: u32) -> Flagged
     ensures { λ r. ⌜ flaggedResult r ≡ cooperativeFlags capabilities kind width ⌝ }
 {
-    if !flags::capable(capabilities, COOPERATIVE_MATRIX) {
-        return missing(COOPERATIVE_MATRIX);
+    if !flags::capable(capabilities, width::COOPERATIVE_MATRIX) {
+        return missing(width::COOPERATIVE_MATRIX);
     }
-    if (kind == FLOAT) & ((width == 2) | (width == 4)) {
-        return Flagged::Flags(flags::starting_flags(3));
+    if (kind == width::FLOAT) & ((width == 2) | (width == 4)) {
+        return Flagged::Flags(flags::starting_flags(flags::COOPERATIVE_MATRIX_KIND));
     }
     refused(11)
 }
@@ -121,10 +101,10 @@ fn cooperative_flags(capabilities: u32, kind: u32, width: u32) -> Flagged
 fn vertex_flags(capabilities: u32, vertex_return: u32, flags: u32) -> Flagged
     ensures { λ r. ⌜ flaggedResult r ≡ vertexFlags capabilities «vertex_return» flags ⌝ }
 {
-    if (vertex_return == 0) | flags::capable(capabilities, RAY_HIT_VERTEX_POSITION) {
+    if (vertex_return == 0) | flags::capable(capabilities, width::RAY_HIT_VERTEX_POSITION) {
         return Flagged::Flags(flags);
     }
-    missing(RAY_HIT_VERTEX_POSITION)
+    missing(width::RAY_HIT_VERTEX_POSITION)
 }
 
 fn leaf_flags(capabilities: u32, leaf: Leaf) -> Flagged
@@ -133,19 +113,19 @@ fn leaf_flags(capabilities: u32, leaf: Leaf) -> Flagged
     match leaf {
         Leaf::Scalar(kind, width) => with_width(
             width::check_width(capabilities, kind, width),
-            flags::scalar_flags(kind, flags::starting_flags(0)),
+            flags::scalar_flags(kind, flags::starting_flags(flags::SCALAR_KIND)),
         ),
         Leaf::Vector(_, kind, width) => with_width(
             width::check_width(capabilities, kind, width),
-            flags::scalar_flags(kind, flags::starting_flags(1)),
+            flags::scalar_flags(kind, flags::starting_flags(flags::VECTOR_KIND)),
         ),
         Leaf::Matrix(_, _, kind, width) => {
-            if kind != FLOAT {
+            if kind != width::FLOAT {
                 return refused(11);
             }
             with_width(
                 width::check_width(capabilities, kind, width),
-                flags::starting_flags(2),
+                flags::starting_flags(flags::MATRIX_KIND),
             )
         }
         Leaf::CooperativeMatrix(_, _, kind, width, _) => cooperative_flags(
@@ -155,13 +135,17 @@ fn leaf_flags(capabilities: u32, leaf: Leaf) -> Flagged
         ),
         Leaf::Atomic(kind, width) => with_width(
             width::atomic_width(capabilities, kind, width),
-            flags::starting_flags(4),
+            flags::starting_flags(flags::ATOMIC_KIND),
         ),
         Leaf::RayQuery(vertex_return) => {
-            if flags::capable(capabilities, RAY_QUERY) {
-                return vertex_flags(capabilities, vertex_return, flags::starting_flags(12));
+            if flags::capable(capabilities, width::RAY_QUERY) {
+                return vertex_flags(
+                    capabilities,
+                    vertex_return,
+                    flags::starting_flags(flags::RAY_QUERY_KIND),
+                );
             }
-            missing(RAY_QUERY)
+            missing(width::RAY_QUERY)
         }
     }
 }
@@ -176,7 +160,7 @@ fn is_flat(dim: u32, arrayed: u32) -> bool
 fn cube_allowed(capabilities: u32, dim: u32, arrayed: u32) -> bool
     ensures { λ r. ⌜ r ≡ cubeAllowed capabilities dim arrayed ⌝ }
 {
-    let capable = flags::capable(capabilities, CUBE_ARRAY_TEXTURES);
+    let capable = flags::capable(capabilities, width::CUBE_ARRAY_TEXTURES);
     !((arrayed == 1) & (dim == CUBE)) | capable
 }
 
@@ -190,7 +174,7 @@ fn is_external_form(dim: u32, arrayed: u32, class: u32) -> bool
 fn external_allowed(capabilities: u32, class: u32) -> bool
     ensures { λ r. ⌜ r ≡ externalAllowed capabilities class ⌝ }
 {
-    let capable = flags::capable(capabilities, TEXTURE_EXTERNAL);
+    let capable = flags::capable(capabilities, width::TEXTURE_EXTERNAL);
     !(class == EXTERNAL) | capable
 }
 
@@ -201,15 +185,15 @@ fn image_flags(capabilities: u32, dim: u32, arrayed: u32, class: u32) -> Flagged
         return refused(22);
     }
     if !cube_allowed(capabilities, dim, arrayed) {
-        return missing(CUBE_ARRAY_TEXTURES);
+        return missing(width::CUBE_ARRAY_TEXTURES);
     }
     if !is_external_form(dim, arrayed, class) {
         return refused(22);
     }
     if !external_allowed(capabilities, class) {
-        return missing(TEXTURE_EXTERNAL);
+        return missing(width::TEXTURE_EXTERNAL);
     }
-    Flagged::Flags(flags::starting_flags(9))
+    Flagged::Flags(flags::starting_flags(flags::IMAGE_KIND))
 }
 
 // A pointer to a base with these flags.
@@ -220,7 +204,10 @@ fn pointer_to(base: u32, space: u32) -> Flagged
         return refused(13);
     }
     if flags::is_sized(base) | (space == STORAGE_SPACE) {
-        return Flagged::Flags(flags::pointer_flags(space, flags::starting_flags(5)));
+        return Flagged::Flags(flags::pointer_flags(
+            space,
+            flags::starting_flags(flags::POINTER_KIND),
+        ));
     }
     refused(14)
 }
@@ -296,12 +283,16 @@ fn binding_array_of(inner: TypeInner, base: u32, form: u32) -> Flagged
 fn acceleration_flags(capabilities: u32, vertex_return: u32) -> Flagged
     ensures { λ r. ⌜ flaggedResult r ≡ accelerationFlags capabilities «vertex_return» ⌝ }
 {
-    if flags::capable(capabilities, RAY_TRACING_PIPELINE)
-        | flags::capable(capabilities, RAY_QUERY)
+    if flags::capable(capabilities, width::RAY_TRACING_PIPELINE)
+        | flags::capable(capabilities, width::RAY_QUERY)
     {
-        return vertex_flags(capabilities, vertex_return, flags::starting_flags(11));
+        return vertex_flags(
+            capabilities,
+            vertex_return,
+            flags::starting_flags(flags::ACCELERATION_STRUCTURE_KIND),
+        );
     }
-    missing(RAY_QUERY)
+    missing(width::RAY_QUERY)
 }
 
 fn non_data_flags(capabilities: u32, types: &[u32], rows: &[u32], o: NonData) -> Flagged
@@ -311,10 +302,10 @@ fn non_data_flags(capabilities: u32, types: &[u32], rows: &[u32], o: NonData) ->
         NonData::Pointer(base, space) => pointer_to(rows::row_word(rows, base, 2), space),
         NonData::ValuePointer(kind, width, space) => with_width(
             width::check_width(capabilities, kind, width),
-            flags::pointer_flags(space, flags::starting_flags(6)),
+            flags::pointer_flags(space, flags::starting_flags(flags::VALUE_POINTER_KIND)),
         ),
         NonData::Image(dim, arrayed, class) => image_flags(capabilities, dim, arrayed, class),
-        NonData::Sampler => Flagged::Flags(flags::starting_flags(10)),
+        NonData::Sampler => Flagged::Flags(flags::starting_flags(flags::SAMPLER_KIND)),
         NonData::AccelerationStructure(vertex_return) => acceleration_flags(
             capabilities,
             vertex_return,
@@ -401,14 +392,14 @@ fn array_row(i: u32, stride: u32, base: Row, layout: TypeLayout, flags: u32) -> 
 {
     if is_array_base(base.flags) {
         let uniform = type_info::array_verdict(
-            MIN_UNIFORM,
+            type_info::MIN_UNIFORM,
             i,
             stride,
             base.alignment,
             base.uniform,
         );
         let storage = type_info::array_verdict(
-            MIN_STORAGE,
+            type_info::MIN_STORAGE,
             i,
             stride,
             base.alignment,
@@ -525,7 +516,7 @@ fn judge_at(capabilities: u32, types: &[u32], members: &[u32], rows: &mut [u32],
     ensures { λ r. ⌜ judgedResult r ≡ judge capabilities (typeInner (now (types .entry))) (rowsIn (take (i * 14) (now (rows .entry)))) i (layoutsIn (now (rows .entry)) i) (typeInner (now (types .entry)) i) (structMembers (now (types .entry)) (now (members .entry)) i) ⌝ }
     ensures { λ r. ⌜ now (rows .exit) ≡ rowsWith r (i * 14) (now (rows .entry)) ⌝ }
 {
-    let at = (i as usize) * ROW_WORDS;
+    let at = (i as usize) * records::ROW_WORDS;
     let inner = records::type_inner(types, i);
     let part = records::struct_members(types, members, i);
     let layout = TypeLayout {
@@ -563,7 +554,7 @@ fn judge_all(capabilities: u32, types: &[u32], members: &[u32], rows: &mut [u32]
                 member,
                 detail,
             } => {
-                let words = (n as usize) * ROW_WORDS;
+                let words = (n as usize) * records::ROW_WORDS;
                 rows::clear(rows, words);
                 return Outcome::Refused {
                     number,
@@ -594,7 +585,7 @@ pub fn check(types: &[u32], members: &[u32], capabilities: u32, rows: &mut [u32]
     let laid = layouter::layout(types, members, rows);
     match laid {
         Outcome::Accepted => {
-            let n = (types.len() / 6) as u32;
+            let n = (types.len() / records::TYPE_WORDS) as u32;
             judge_all(capabilities, types, members, rows, n)
         }
         Outcome::Refused {

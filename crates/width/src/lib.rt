@@ -8,25 +8,39 @@ pub enum Width {
     Refused { number: u32, detail: u32 },
 }
 
-const FLOAT64: u32 = 0;
+// 01's capability bits.
+pub const FLOAT64: u32 = 0;
 
-const SHADER_FLOAT16: u32 = 1;
+pub const SHADER_FLOAT16: u32 = 1;
 
-const SHADER_INT16: u32 = 2;
+pub const SHADER_INT16: u32 = 2;
 
-const SHADER_INT64: u32 = 3;
+pub const SHADER_INT64: u32 = 3;
 
-const SHADER_FLOAT32_ATOMIC: u32 = 4;
+pub const SHADER_FLOAT32_ATOMIC: u32 = 4;
 
-const SHADER_INT64_ATOMIC_MIN_MAX: u32 = 5;
+pub const SHADER_INT64_ATOMIC_MIN_MAX: u32 = 5;
 
-const SHADER_INT64_ATOMIC_ALL_OPS: u32 = 6;
+pub const SHADER_INT64_ATOMIC_ALL_OPS: u32 = 6;
 
-const UINT: u32 = 1;
+pub const COOPERATIVE_MATRIX: u32 = 7;
 
-const FLOAT: u32 = 2;
+pub const CUBE_ARRAY_TEXTURES: u32 = 8;
 
-const BOOL: u32 = 3;
+pub const TEXTURE_EXTERNAL: u32 = 9;
+
+pub const RAY_QUERY: u32 = 10;
+
+pub const RAY_TRACING_PIPELINE: u32 = 11;
+
+pub const RAY_HIT_VERTEX_POSITION: u32 = 12;
+
+// Scalar kinds.
+pub const UINT: u32 = 1;
+
+pub const FLOAT: u32 = 2;
+
+pub const BOOL: u32 = 3;
 
 // Allowed where the capability is there, else number 8 with its bit.
 fn with_capability(capable: bool, bit: u32) -> Width

@@ -36,6 +36,17 @@ impl Validator {
         Ok(())
     }
 
+    /// The types' part of `Validator::validate`, for timing: reset, layouts, then
+    /// type by type, each result kept.
+    pub fn check_types(&mut self, types: &UniqueArena<Type>) -> Result<(), ()> {
+        self.reset();
+        self.lay_out(types).map_err(|_| ())?;
+        for (handle, _) in types.iter() {
+            self.judge_and_keep(types, handle).map_err(|_| ())?;
+        }
+        Ok(())
+    }
+
     pub fn flags(&self, handle: Handle<Type>) -> TypeFlags {
         self.types[handle.index()].flags
     }

@@ -1,0 +1,43 @@
+-- The word core refuses more than 8,192 member words with number 1, and leaves the rows as they were.
+-- Assumes nothing.
+use mathlib.Core.Path.{_≡_, refl}
+use mathlib.Core.Bool.{Bool, true, false, _&&_}
+use mathlib.Core.List.{List}
+use Prim.Native.Nat.{ℕ, _<_}
+use lib.Dec.{leb}
+use lib.ListN.{length}
+use borrow.Author.Tests.{lt-leb}
+use Rattle.records.specs.Fields.{tablesFit}
+use Rattle.records.specs.declared.Outcome.the-variants as outcome
+use Rattle.valid.specs.Arena.{arenaFits, arenaAnswer, arenaWords}
+use Rattle.place.specs.Place.{lookupAnswer}
+use Rattle.place.specs.declared.PlaceAnswer.the-variants as place
+use Rattle.slots.specs.declared.SlotsAnswer.the-variants as slots
+use Rattle.immediates.specs.Walk.{slotsAnswer}
+
+not-both : (a : Bool) → (a && false) ≡ false
+not-both true = refl
+not-both false = refl
+
+module _ (c : ℕ) (ts rows ms : List ℕ) (long : 8192 < length ms) where
+  unfits : arenaFits c ts ms rows ≡ false
+  unfolding tablesFit
+  unfits =
+      let many : leb (length ms) 8192 ≡ false = lt-leb (length ms) 8192 long in
+      simp (many, not-both)
+
+  pub answer-refuses : arenaAnswer c ts ms rows ≡ outcome.Refused 1 0 0 0
+  unfolding arenaAnswer
+  answer-refuses = simp unfits
+
+  pub words-refuses : arenaWords c ts ms rows ≡ rows
+  unfolding arenaWords
+  words-refuses = simp unfits
+
+  pub lookup-refuses : (start : ℕ) (steps : List ℕ) → lookupAnswer c ts ms rows start steps ≡ place.Refused 1 0 0 0
+  unfolding lookupAnswer
+  lookup-refuses start steps = simp answer-refuses
+
+  pub slots-refuses : (ty offset : ℕ) → slotsAnswer c ts ms rows ty offset ≡ slots.Refused 1 0 0 0
+  unfolding slotsAnswer
+  slots-refuses ty offset = simp answer-refuses

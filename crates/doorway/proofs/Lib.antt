@@ -1,0 +1,3 @@
+mod FlatLaws
+mod CoreLaws
+mod Apart

@@ -1,0 +1,22 @@
+use borrow.Author.Needs.{needs}
+use lib.Seq.{length-take-le}
+use mathlib.Core.Path.{sym}
+use Prim.Native.Nat.{_*_}
+use Rattle.doorway.proofs.place_words.Statement.{statement}
+use Rattle.doorway.proofs.place_words.Tie as tie
+
+slice-aggregate-lookup : tie.Need-slice-aggregate-lookup
+slice-aggregate-lookup c =
+    let a = c .before .before .before .before .args in
+    sym (length-take-le (a .n * 2) (a .t2) (search needs))
+
+pub place-words-spec : {M : Type 1} → statement M
+place-words-spec =
+    tie.close
+    (tie.spec
+    (λ c. search needs)
+    (λ c. search needs)
+    slice-aggregate-lookup
+    (λ c κs. search needs)
+    (λ c. search needs)
+    (λ c. search needs))

@@ -1,0 +1,22 @@
+use borrow.Author.Needs.{needs}
+use lib.Seq.{length-take-le}
+use mathlib.Core.Path.{sym}
+use Prim.Native.Nat.{_*_}
+use Rattle.doorway.proofs.slots_words.Statement.{statement}
+use Rattle.doorway.proofs.slots_words.Tie as tie
+
+slice-aggregate-immediate-slots : tie.Need-slice-aggregate-immediate-slots
+slice-aggregate-immediate-slots c =
+    let a = c .before .before .before .args in
+    sym (length-take-le (a .n * 2) (a .t2) (search needs))
+
+pub slots-words-spec : {M : Type 1} → statement M
+slots-words-spec =
+    tie.close
+    (tie.spec
+    (λ c. search needs)
+    (λ c. search needs)
+    slice-aggregate-immediate-slots
+    (λ c κs. search needs)
+    (λ c. search needs)
+    (λ c. search needs))

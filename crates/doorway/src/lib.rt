@@ -1,0 +1,143 @@
+// Members as a lent run of member records, taken apart for the word core.
+use place::PlaceAnswer;
+use records::Outcome;
+use slots::SlotsAnswer;
+ghost use mathlib.Core.Path.{_≡_};
+ghost use Prim.Native.Nat.{_*_, _≤_};
+ghost use lib.Dec.{leb};
+ghost use lib.ListN.{length, take};
+ghost use Rattle.records.specs.Result.{pick};
+ghost use Rattle.valid.specs.Arena.{arenaAnswer, arenaWords};
+ghost use Rattle.place.specs.Place.{lookupAnswer};
+ghost use Rattle.immediates.specs.Walk.{slotsAnswer};
+ghost use Rattle.doorway.specs.Flat.{flat};
+
+// StructMember of naga's ir/mod.rs: a type and an offset.
+pub struct Member {
+    pub ty: u32,
+    pub offset: u32,
+}
+
+// How many records are taken apart: one more than the core takes, so that the core refuses what is too long.
+fn fit(n: usize) -> usize
+    ensures { λ r. ⌜ r ≡ pick (leb n 4097) n 4097 ⌝ }
+{
+    if n <= 4097 { n } else { 4097 }
+}
+
+// The words of the first n records.
+fn words_of(ms: &[Member], n: usize) -> [u32; 8194]
+    requires { ⌜ (n ≤ length (now ms)) × (n ≤ 4097) ⌝ }
+    ensures { λ r. ⌜ take (n * 2) r ≡ flat (take n (now (ms .entry))) ⌝ }
+{
+    let mut words = [0u32; 8194];
+    let mut i = 0;
+    while i < n {
+        let m = ms[i];
+        words[i * 2] = m.ty;
+        words[i * 2 + 1] = m.offset;
+        i = i + 1;
+    }
+    words
+}
+
+// The arena check on the words of n records.
+fn check_words(
+    types: &[u32],
+    words: [u32; 8194],
+    n: usize,
+    capabilities: u32,
+    rows: &mut [u32],
+) -> Outcome
+    requires { ⌜ n ≤ 4097 ⌝ }
+    ensures { λ r. ⌜ r ≡ arenaAnswer capabilities (now (types .entry)) (take (n * 2) words) (now (rows .entry)) ⌝ }
+    ensures { λ _. ⌜ now (rows .exit) ≡ arenaWords capabilities (now (types .entry)) (take (n * 2) words) (now (rows .entry)) ⌝ }
+{
+    let e = n * 2;
+    valid::check(types, &words[..e], capabilities, rows)
+}
+
+// The arena check.
+pub fn check_members(
+    types: &[u32],
+    members: &[Member],
+    capabilities: u32,
+    rows: &mut [u32],
+) -> Outcome
+    ensures { λ r. ⌜ r ≡ arenaAnswer capabilities (now (types .entry)) (flat (now (members .entry))) (now (rows .entry)) ⌝ }
+    ensures { λ _. ⌜ now (rows .exit) ≡ arenaWords capabilities (now (types .entry)) (flat (now (members .entry))) (now (rows .entry)) ⌝ }
+{
+    let n = fit(members.len());
+    let words = words_of(members, n);
+    check_words(types, words, n, capabilities, rows)
+}
+
+// The place lookup on the words of n records.
+fn place_words(
+    types: &[u32],
+    words: [u32; 8194],
+    n: usize,
+    capabilities: u32,
+    rows: &mut [u32],
+    start: u32,
+    steps: &[u32],
+) -> PlaceAnswer
+    requires { ⌜ n ≤ 4097 ⌝ }
+    ensures { λ r. ⌜ r ≡ lookupAnswer capabilities (now (types .entry)) (take (n * 2) words) (now (rows .entry)) start (now (steps .entry)) ⌝ }
+    ensures { λ _. ⌜ now (rows .exit) ≡ arenaWords capabilities (now (types .entry)) (take (n * 2) words) (now (rows .entry)) ⌝ }
+{
+    let e = n * 2;
+    place::lookup(types, &words[..e], capabilities, rows, start, steps)
+}
+
+// The place lookup.
+pub fn place_members(
+    types: &[u32],
+    members: &[Member],
+    capabilities: u32,
+    rows: &mut [u32],
+    start: u32,
+    steps: &[u32],
+) -> PlaceAnswer
+    ensures { λ r. ⌜ r ≡ lookupAnswer capabilities (now (types .entry)) (flat (now (members .entry))) (now (rows .entry)) start (now (steps .entry)) ⌝ }
+    ensures { λ _. ⌜ now (rows .exit) ≡ arenaWords capabilities (now (types .entry)) (flat (now (members .entry))) (now (rows .entry)) ⌝ }
+{
+    let n = fit(members.len());
+    let words = words_of(members, n);
+    place_words(types, words, n, capabilities, rows, start, steps)
+}
+
+// The slot walk on the words of n records.
+fn slots_words(
+    types: &[u32],
+    words: [u32; 8194],
+    n: usize,
+    capabilities: u32,
+    rows: &mut [u32],
+    ty: u32,
+    offset: u32,
+) -> SlotsAnswer
+    requires { ⌜ n ≤ 4097 ⌝ }
+    ensures { λ r. ⌜ r ≡ slotsAnswer capabilities (now (types .entry)) (take (n * 2) words) (now (rows .entry)) ty offset ⌝ }
+    ensures { λ _. ⌜ now (rows .exit) ≡ arenaWords capabilities (now (types .entry)) (take (n * 2) words) (now (rows .entry)) ⌝ }
+{
+    let e = n * 2;
+    immediates::immediate_slots(types, &words[..e], capabilities, rows, ty, offset)
+}
+
+// The slot walk.
+pub fn slots_members(
+    types: &[u32],
+    members: &[Member],
+    capabilities: u32,
+    rows: &mut [u32],
+    ty: u32,
+    offset: u32,
+) -> SlotsAnswer
+    ensures { λ r. ⌜ r ≡ slotsAnswer capabilities (now (types .entry)) (flat (now (members .entry))) (now (rows .entry)) ty offset ⌝ }
+    ensures { λ _. ⌜ now (rows .exit) ≡ arenaWords capabilities (now (types .entry)) (flat (now (members .entry))) (now (rows .entry)) ⌝ }
+{
+    let n = fit(members.len());
+    let words = words_of(members, n);
+    slots_words(types, words, n, capabilities, rows, ty, offset)
+}

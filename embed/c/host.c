@@ -1,0 +1,103 @@
+/* A host that fills a storage buffer by place lookups:
+ *
+ *   struct Cell { temperature: vec3<f32>, moisture: f32 }
+ *   struct Kernel { steps: u32, cells: array<Cell, 4>, tail: array<f32> }
+ */
+#include <stdio.h>
+#include <stdlib.h>
+#include <string.h>
+
+#include "../wuldazin.h"
+
+#define LENGTH(array) (sizeof(array) / sizeof(array)[0])
+
+enum { F32, VEC3, CELL, CELLS, U32, TAIL, KERNEL, TYPES };
+enum { CELL_COUNT = 4, TAIL_COUNT = 8, TAIL_START = 80, BYTES = TAIL_START + 4 * TAIL_COUNT };
+
+static uint32_t types[] = {
+    WULDAZIN_SCALAR, WULDAZIN_FLOAT, 4, 0, 0, 0,
+    WULDAZIN_VECTOR, 3, WULDAZIN_FLOAT, 4, 0, 0,
+    WULDAZIN_STRUCT, 0, 2, 16, 0, 0,
+    WULDAZIN_ARRAY, CELL, WULDAZIN_CONSTANT, CELL_COUNT, 16, 0,
+    WULDAZIN_SCALAR, WULDAZIN_UINT, 4, 0, 0, 0,
+    WULDAZIN_ARRAY, F32, WULDAZIN_DYNAMIC, 0, 4, 0,
+    WULDAZIN_STRUCT, 2, 3, 96, 0, 0,
+};
+static uint32_t members[] = {
+    VEC3, 0, F32, 12,
+    U32, 0, CELLS, 16, TAIL, TAIL_START,
+};
+static uint32_t rows[TYPES * WULDAZIN_ROW_WORDS];
+static uint32_t answer[WULDAZIN_ANSWER_WORDS];
+static unsigned char buffer[BYTES];
+
+static void expect(const char *what, uint64_t found, uint64_t expected) {
+    if (found == expected) return;
+    fprintf(stderr, "%s: %llu, expected %llu (answer %u %u %u %u)\n", what, (unsigned long long)found,
+            (unsigned long long)expected, answer[0], answer[1], answer[2], answer[3]);
+    exit(1);
+}
+
+static const uint32_t *row(uint32_t ty) { return rows + ty * WULDAZIN_ROW_WORDS; }
+
+static void check(uint32_t number) {
+    wuldazin_check(types, LENGTH(types), members, LENGTH(members), 0, rows, LENGTH(rows), answer, LENGTH(answer));
+    expect("check", answer[0], number);
+}
+
+/* Copies a value to the leaf that steps lead to, if it lies within the buffer. */
+static void put(const char *name, const uint32_t *steps, size_t count, uint32_t leaf, uint64_t byte, const void *value) {
+    uint64_t place[2];
+    wuldazin_place(types, LENGTH(types), members, LENGTH(members), 0, rows, LENGTH(rows), KERNEL, steps, count, place,
+                   LENGTH(place), answer, LENGTH(answer));
+    expect(name, answer[0], WULDAZIN_ACCEPTED);
+    expect(name, place[0], byte);
+    expect(name, place[1], leaf);
+    uint32_t size = row(leaf)[WULDAZIN_ROW_SIZE];
+    expect(name, place[0] <= BYTES && size <= BYTES - place[0], 1);
+    memcpy(buffer + place[0], value, size);
+    printf("%-22s byte %3u, %2u bytes\n", name, (unsigned)place[0], size);
+}
+
+int main(void) {
+    char name[64];
+    check(WULDAZIN_ACCEPTED);
+    expect("storage verdict", row(KERNEL)[WULDAZIN_ROW_STORAGE], WULDAZIN_VERDICT_OK);
+    expect("storage alignment", row(KERNEL)[WULDAZIN_ROW_STORAGE + 1], 16);
+    expect("flags", row(KERNEL)[WULDAZIN_ROW_FLAGS] & WULDAZIN_HOST_SHAREABLE, WULDAZIN_HOST_SHAREABLE);
+
+    put("steps", (uint32_t[]){0}, 1, U32, 0, &(uint32_t){1000});
+    for (uint32_t i = 0; i < CELL_COUNT; i++) {
+        float temperature[3] = {20 + i, 30 + i, 40 + i}, moisture = 0.25f * i;
+        snprintf(name, sizeof name, "cells[%u].temperature", i);
+        put(name, (uint32_t[]){1, i, 0}, 3, VEC3, 16 + 16 * i, temperature);
+        snprintf(name, sizeof name, "cells[%u].moisture", i);
+        put(name, (uint32_t[]){1, i, 1}, 3, F32, 28 + 16 * i, &moisture);
+    }
+    for (uint32_t i = 0; i < TAIL_COUNT; i++) {
+        snprintf(name, sizeof name, "tail[%u]", i);
+        put(name, (uint32_t[]){2, i}, 2, F32, TAIL_START + 4 * i, &(float){i});
+    }
+    for (size_t i = 0; i < BYTES; i++) printf("%02x%s", buffer[i], i % 16 == 15 ? "\n" : i % 4 == 3 ? "  " : " ");
+
+    uint64_t mask, part[2];
+    wuldazin_slots(types, LENGTH(types), members, LENGTH(members), 0, rows, LENGTH(rows), CELL, 16, &mask, 1, answer,
+                   LENGTH(answer));
+    expect("slots", answer[0], WULDAZIN_ACCEPTED);
+    expect("slots of a cell at 16", mask, 0xf0);
+    wuldazin_range(252, 4, &mask, 1, answer, LENGTH(answer));
+    expect("range", answer[0], WULDAZIN_ACCEPTED);
+    expect("slots of the last bytes", mask, UINT64_C(1) << 63);
+    wuldazin_members(types, LENGTH(types), members, LENGTH(members), KERNEL, part, LENGTH(part));
+    expect("first member word", part[0], 4);
+    expect("member words", part[1], 6);
+
+    /* Refusals: no such cell; then a moisture that stands in the temperature's bytes. */
+    wuldazin_place(types, LENGTH(types), members, LENGTH(members), 0, rows, LENGTH(rows), KERNEL, (uint32_t[]){1, 4, 0}, 3,
+                   part, LENGTH(part), answer, LENGTH(answer));
+    expect("cells[4]", answer[0], WULDAZIN_NO_SUCH_PLACE);
+    members[3] = 8;
+    check(WULDAZIN_MEMBER_OVERLAP);
+    printf("moisture at byte 8: refused, number %u, type %u, member %u\n", answer[0], answer[1], answer[2]);
+    return 0;
+}

@@ -1,0 +1,489 @@
+/* Calls every door with tables of any length and any words: fuzz [COUNT [SEED [FIRST]]]
+ *
+ * Each lent buffer stands at its exact length in one of three ways: right after a page that may not be touched, right before one,
+ * or in a heap block between poisoned guard words. A side without such a page has guard words. After a call the guard words, the
+ * inputs and every word that the header calls untouched must be as they were. Call FIRST of a seed can be run again alone.
+ */
+#include <sanitizer/asan_interface.h>
+#include <sanitizer/common_interface_defs.h>
+#include <stdbool.h>
+#include <stdio.h>
+#include <stdlib.h>
+#include <string.h>
+#include <sys/mman.h>
+#include <time.h>
+
+#include "../wuldazin.h"
+
+enum {
+    PAGE = 4096,
+    GUARD = 64, /* bytes */
+    TYPES_MOST = 6 * 1024 + 55,
+    MEMBERS_MOST = 2 * 4096 + 57,
+    ROWS_MOST = 14 * (TYPES_MOST / 6) + 64,
+    STEPS_MOST = 2048,
+    OUTPUT_MOST = 5, /* mask, place or part: 64-bit words */
+    ANSWER_MOST = 8,
+    PARTS_MOST = 100000, /* of a slot walk: longer ones are not asked for */
+    TEMPLATES = 64
+};
+
+enum { LAYOUT, CHECK, RANGE, SLOTS, PLACE, MEMBERS, DOORS };
+static const char *const door_names[DOORS] = {"layout", "check", "range", "slots", "place", "members"};
+
+typedef struct {
+    size_t types_length, members_length;
+    uint32_t types[TYPES_MOST], members[MEMBERS_MOST];
+} Tables;
+
+/* Pages between two that may not be touched. */
+typedef struct {
+    unsigned char *start;
+    size_t bytes;
+} Room;
+
+typedef struct {
+    Room room;
+    unsigned char before[4 * ROWS_MOST]; /* what was lent */
+    size_t bytes;
+    unsigned char *data, *low, *high, *block;
+} Lent;
+
+static Tables templates[TEMPLATES], now;
+static Lent types, members, steps, rows, output, answer;
+static uint32_t noise[ROWS_MOST + 1024];
+static unsigned char guard[GUARD];
+static uint64_t seed = 1, call, state;
+static int door;
+static uint64_t doors[DOORS], numbers[27], unanswered;
+static bool types_seen[TYPES_MOST + 1], members_seen[MEMBERS_MOST + 1];
+
+static void say_where(void) {
+    fprintf(stderr, "FAULT in call %llu of seed %llu, door %s\n", (unsigned long long)call, (unsigned long long)seed,
+            door_names[door]);
+}
+
+static void require(bool holds, const char *what) {
+    if (holds) return;
+    fprintf(stderr, "%s\n", what);
+    say_where();
+    exit(1);
+}
+
+/* ---- random numbers (splitmix64) */
+static uint64_t next(void) {
+    uint64_t z = state += 0x9e3779b97f4a7c15;
+    z = (z ^ (z >> 30)) * 0xbf58476d1ce4e5b9;
+    z = (z ^ (z >> 27)) * 0x94d049bb133111eb;
+    return z ^ (z >> 31);
+}
+
+static uint32_t word(void) { return next() >> 32; }
+
+static uint32_t below(uint32_t bound) { return (uint64_t)word() * bound >> 32; }
+
+/* A word anywhere in 32 bits, small and extreme ones often. */
+static uint32_t wild(void) {
+    switch (below(6)) {
+    case 0: return word();
+    case 1: return 1u << below(32);
+    case 2: return -1 - below(20);
+    case 3: return word() >> below(32);
+    default: return below(20);
+    }
+}
+
+/* Any length up to `most`, mostly a small one. */
+static size_t any_length(uint32_t most) { return below(8) ? below(64) : below(most + 1); }
+
+static uint32_t capability_word(void) {
+    switch (below(16)) {
+    case 0: return wild();
+    case 1: return 0;
+    case 2: return 8191 ^ 1 << below(13);
+    case 3: return below(8192);
+    default: return 8191;
+    }
+}
+
+/* ---- lent buffers */
+static void build(Lent *lent, size_t most) {
+    size_t bytes = (most + GUARD + PAGE - 1) / PAGE * PAGE;
+    unsigned char *map = mmap(NULL, bytes + 2 * PAGE, PROT_NONE, MAP_PRIVATE | MAP_ANONYMOUS, -1, 0);
+    if (map == MAP_FAILED || mprotect(map + PAGE, bytes, PROT_READ | PROT_WRITE)) {
+        perror("mmap");
+        exit(2);
+    }
+    lent->room = (Room){map + PAGE, bytes};
+}
+
+static void *lend(Lent *lent, const void *words, size_t bytes) {
+    Room room = lent->room;
+    memcpy(lent->before, words, bytes);
+    lent->bytes = bytes;
+    lent->low = lent->high = lent->block = NULL;
+    switch (below(4)) {
+    case 0:
+        lent->low = lent->block = malloc(bytes + 2 * GUARD);
+        lent->data = lent->low + GUARD;
+        lent->high = lent->data + bytes;
+        break;
+    case 1:
+        lent->data = room.start;
+        lent->high = lent->data + bytes;
+        break;
+    default:
+        lent->data = room.start + room.bytes - bytes;
+        lent->low = lent->data - GUARD;
+    }
+    if (lent->low) memcpy(lent->low, guard, GUARD);
+    if (lent->high) memcpy(lent->high, guard, GUARD);
+    memcpy(lent->data, words, bytes);
+    if (lent->block) {
+        ASAN_POISON_MEMORY_REGION(lent->low, GUARD);
+        ASAN_POISON_MEMORY_REGION(lent->high, GUARD);
+    }
+    return lent->data;
+}
+
+/* The guard words, and the bytes after the first `written` ones, are as they were. */
+static void take_back(Lent *lent, size_t written) {
+    if (lent->block) {
+        ASAN_UNPOISON_MEMORY_REGION(lent->low, GUARD);
+        ASAN_UNPOISON_MEMORY_REGION(lent->high, GUARD);
+    }
+    require(!lent->low || !memcmp(lent->low, guard, GUARD), "guard words before a buffer changed");
+    require(!lent->high || !memcmp(lent->high, guard, GUARD), "guard words after a buffer changed");
+    require(!memcmp(lent->data + written, lent->before + written, lent->bytes - written), "words that are not to be touched changed");
+    free(lent->block);
+}
+
+/* ---- tables */
+static uint32_t rounded(uint32_t at, uint32_t to) { return to ? (at + to - 1) / to * to : at; }
+
+/* Appends a type that is likely to be accepted after the others, whose rows are given. */
+static void propose(Tables *t, const uint32_t *row) {
+    static const unsigned char kinds[] = {0, 0, 1, 1, 2, 3, 4, 5, 6, 7, 7, 7, 8, 8, 8, 8, 9, 10, 11, 12, 13};
+    static const unsigned char widths[] = {4, 4, 4, 2, 8, 1};
+    uint32_t count = t->types_length / 6, base = below(count + 1), width = widths[below(6)], at = 0, align = 1;
+    uint32_t *r = t->types + t->types_length;
+    memset(r, 0, 6 * sizeof *r);
+    t->types_length += 6;
+    uint32_t first = t->members_length / 2;
+    switch (r[0] = kinds[below(sizeof kinds)]) {
+    case 0: case 4: r[1] = below(4), r[2] = width; break;
+    case 1: r[1] = 2 + below(3), r[2] = below(4), r[3] = width; break;
+    case 2: r[1] = 2 + below(3), r[2] = 2 + below(3), r[3] = 2, r[4] = width; break;
+    case 3: r[1] = 8 << below(2), r[2] = 8 << below(2), r[3] = 2, r[4] = width, r[5] = below(3); break;
+    case 5: r[1] = base, r[2] = below(10); break;
+    case 6: r[1] = below(4), r[2] = width, r[3] = below(10); break;
+    case 7: case 13:
+        r[1] = base, r[2] = below(4) == 0, r[3] = r[2] ? 0 : 1 + below(4);
+        if (r[0] == 7 && base < count) r[4] = rounded(row[14 * base], row[14 * base + 1]);
+        break;
+    case 8:
+        r[1] = first, r[2] = 1 + below(4);
+        for (uint32_t j = 0; j < r[2] && count && t->members_length < 8192; j++) {
+            uint32_t ty = below(count), *m = t->members + t->members_length;
+            at = rounded(at, row[14 * ty + 1]);
+            align = row[14 * ty + 1] > align ? row[14 * ty + 1] : align;
+            m[0] = ty, m[1] = at, at += row[14 * ty];
+            t->members_length += 2;
+        }
+        r[3] = rounded(at, align);
+        break;
+    case 9: r[1] = below(4), r[2] = below(2), r[3] = below(4); break;
+    case 11: case 12: r[1] = below(2);
+    }
+}
+
+/* An accepted arena of `count` types: what is not accepted is taken off again. */
+static void grow(Tables *t, uint32_t count) {
+    static uint32_t row[ROWS_MOST];
+    uint32_t found[4];
+    t->types_length = t->members_length = 0;
+    for (uint32_t tries = 0; t->types_length < 6 * count; tries++) {
+        require(tries < 1000 + 100 * count, "no arena is accepted");
+        size_t types_length = t->types_length, members_length = t->members_length;
+        propose(t, row);
+        wuldazin_check(t->types, t->types_length, t->members, t->members_length, 8191, row, ROWS_MOST, found, 4);
+        if (found[0] || row[14 * (types_length / 6)] > 1 << 20) {
+            t->types_length = types_length, t->members_length = members_length;
+            wuldazin_check(t->types, types_length, t->members, members_length, 8191, row, ROWS_MOST, found, 4);
+        }
+    }
+}
+
+/* Structs in structs, as deep as an arena can have them. */
+static void nest(Tables *t) {
+    t->types_length = 6 * 1024, t->members_length = 2 * 1023;
+    memcpy(t->types, (uint32_t[]){0, 2, 4, 0, 0, 0}, 24);
+    for (uint32_t i = 1; i < 1024; i++) {
+        memcpy(t->types + 6 * i, (uint32_t[]){8, i - 1, 1, 4, 0, 0}, 24);
+        memcpy(t->members + 2 * (i - 1), (uint32_t[]){i - 1, 0}, 8);
+    }
+}
+
+/* One word away from refusals that are seldom met by chance. */
+static void hand_made(Tables *t) {
+    static const uint32_t records[] = {
+        0, 2, 4, 0, 0, 0,  /* f32 */
+        7, 0, 1, 0, 4, 0,  /* array<f32> */
+        8, 0, 2, 8, 0, 0,  /* struct { f32, array<f32> } */
+        5, 2, 4, 0, 0, 0,  /* pointer to it in Storage */
+        9, 1, 0, 2, 0, 0,  /* external image */
+        9, 1, 0, 0, 0, 0,  /* sampled image */
+        13, 5, 0, 4, 0, 0, /* binding array of it */
+    };
+    memcpy(t->types, records, sizeof records);
+    memcpy(t->members, (uint32_t[]){0, 0, 1, 4}, 16);
+    t->types_length = sizeof records / 4, t->members_length = 4;
+}
+
+/* Templates 0 to 2 are full, up to 11 of middle size, the others small. */
+static void make_templates(void) {
+    nest(templates);
+    for (uint32_t k = 1; k < TEMPLATES - 1; k++) grow(templates + k, k < 3 ? 1024 : k < 12 ? 30 * k : 1 + below(20));
+    hand_made(templates + TEMPLATES - 1);
+    for (Tables *t = templates; t < templates + TEMPLATES; t++) {
+        static uint32_t row[ROWS_MOST];
+        uint32_t found[4];
+        wuldazin_check(t->types, t->types_length, t->members, t->members_length, 8191, row, ROWS_MOST, found, 4);
+        require(found[0] == 0, "a template is refused");
+    }
+}
+
+static void random_words(uint32_t *words, size_t length, bool small) {
+    for (size_t i = 0; i < length; i++) words[i] = small ? below(i % 6 ? 5 : 14) : word();
+}
+
+/* Random lengths and words, or a template with bits flipped, cut or made longer. */
+static void make_tables(void) {
+    if (below(8) == 0) {
+        now.types_length = any_length(TYPES_MOST);
+        now.members_length = any_length(MEMBERS_MOST);
+        bool small = below(2);
+        random_words(now.types, now.types_length, small);
+        random_words(now.members, now.members_length, small);
+        return;
+    }
+    uint32_t size = below(128);
+    Tables *t = templates + (size == 0 ? below(3) : size < 4 ? 3 + below(9) : 12 + below(TEMPLATES - 12));
+    now.types_length = t->types_length;
+    now.members_length = t->members_length;
+    memcpy(now.types, t->types, t->types_length * sizeof *t->types);
+    memcpy(now.members, t->members, t->members_length * sizeof *t->members);
+    for (uint32_t flips = below(2) ? 0 : below(4) ? 1 + below(2) : below(16); flips; flips--) {
+        uint32_t *w;
+        int tries = 4; /* for a word that is in use */
+        do {
+            size_t at = below(now.types_length + now.members_length);
+            w = at < now.types_length ? now.types + at : now.members + at - now.types_length;
+        } while (*w == 0 && --tries);
+        *w = below(8) ? *w ^ 1u << below(below(4) ? 5 : 32) : wild();
+    }
+    if (below(16) == 0) now.types_length = below(now.types_length + 1);
+    if (below(16) == 0) now.types_length -= now.types_length % 6;
+    if (below(16) == 0) now.members_length = below(now.members_length + 1);
+    for (uint32_t more = below(16) ? 0 : below(14); more; more--) now.types[now.types_length++] = wild();
+    for (uint32_t more = below(16) ? 0 : below(6); more; more--) now.members[now.members_length++] = wild();
+}
+
+static size_t rows_length(void) {
+    size_t needed = now.types_length / 6 * 14, less = 1 + below(14);
+    switch (below(16)) {
+    case 0: return below(needed + 1);
+    case 1: return below(64);
+    case 2: return needed < less ? 0 : needed - less;
+    case 3: case 4: case 5: case 6: return needed + below(60);
+    default: return needed;
+    }
+}
+
+static uint32_t type_number(void) { return below(8) ? below(now.types_length / 6 + 1) : wild(); }
+
+/* The member rows of a record, or none. */
+static const uint32_t *member_rows(const uint32_t *r) {
+    bool within = r[0] == 8 && (uint64_t)r[1] + r[2] <= now.members_length / 2;
+    return within ? now.members + 2 * r[1] : NULL;
+}
+
+/* How many parts the slot walk of a type has, at most PARTS_MOST. */
+static uint32_t parts(uint32_t ty) {
+    static uint32_t of[TYPES_MOST / 6];
+    if (ty >= now.types_length / 6) return 0;
+    for (uint32_t i = 0; i <= ty; i++) {
+        const uint32_t *r = now.types + 6 * i, *m = member_rows(r);
+        of[i] = 1;
+        for (uint32_t j = 0; m && j < r[2]; j++)
+            if (m[2 * j] < i && of[i] < PARTS_MOST) of[i] += of[m[2 * j]];
+        if (of[i] > PARTS_MOST) of[i] = PARTS_MOST;
+    }
+    return of[ty];
+}
+
+/* Any steps, or ones that follow the records, some of them with a change. */
+static size_t make_steps(uint32_t *list, uint32_t ty) {
+    size_t length = 0;
+    if (below(4) == 0) {
+        length = any_length(STEPS_MOST);
+        for (size_t i = 0; i < length; i++) list[i] = wild();
+        return length;
+    }
+    while (length < STEPS_MOST - 1 && ty < now.types_length / 6) {
+        const uint32_t *r = now.types + 6 * ty, *m = member_rows(r);
+        if (r[0] == 7) list[length++] = r[2] ? wild() : below(r[3]), ty = r[1];
+        else if (m && r[2]) list[length] = below(r[2]), ty = m[2 * list[length++]];
+        else break;
+    }
+    switch (below(12)) {
+    case 0: list[length++] = wild(); break;
+    case 1: length = below(length + 1); break;
+    case 2: if (length) list[below(length)] = wild();
+    }
+    return length;
+}
+
+/* ---- calls */
+/* The number of an answer, after what the header says of every answer; 27 where the buffer was too short for it. */
+static uint32_t number_of(bool fits, uint32_t count) {
+    uint32_t a[4];
+    if (answer.bytes < sizeof a) {
+        unanswered++;
+        return 27;
+    }
+    memcpy(a, answer.data, sizeof a);
+    require(a[0] <= 26, "number above 26");
+    require((a[0] == 1) == !fits, "number 1 given or kept back wrongly");
+    require(a[1] < count || a[1] == 0, "type outside the arena");
+    bool bare = a[0] <= 1 || a[0] >= 25;
+    require(!bare || (a[1] | a[2] | a[3]) == 0, "words beside a number that has none");
+    require(a[0] == 8 ? a[3] <= 12 : a[3] == 0, "detail");
+    numbers[a[0]]++;
+    return a[0];
+}
+
+/* Zeros in refused rows, sane words in accepted ones. */
+static void look_at_rows(uint32_t number, uint32_t count) {
+    bool refused = number >= 2 && number <= 24;
+    for (uint32_t i = 0; i < count; i++) {
+        uint32_t r[14], all = 0;
+        memcpy(r, rows.data + i * sizeof r, sizeof r);
+        for (int k = refused ? 0 : 2; k < 14; k++) all |= r[k];
+        if (refused || door == LAYOUT) require(all == 0, "words that are to be 0");
+        if (number == 0 || number == 25 || number == 26) {
+            require(r[1] && !(r[1] & (r[1] - 1)), "alignment no power of two");
+            require(r[2] <= 255 && r[3] <= 6 && r[8] <= 6 && r[13] <= 6, "flags, codes or immediates word");
+        }
+    }
+}
+
+static void one_call(void) {
+    static uint32_t list[STEPS_MOST];
+    static const unsigned char choice[] = {LAYOUT, CHECK, CHECK, CHECK, RANGE, SLOTS, SLOTS, SLOTS, PLACE, PLACE, PLACE, MEMBERS};
+    size_t answer_length = below(16) ? 4 + below(ANSWER_MOST - 3) : below(4), output_length = below(OUTPUT_MOST + 1);
+    uint64_t out[2];
+    door = choice[below(sizeof choice)];
+    if (door == RANGE) {
+        uint64_t *mask = lend(&output, noise + below(1024), 8 * output_length);
+        uint32_t *a = lend(&answer, noise + below(1024), 4 * answer_length);
+        uint32_t offset = below(2) ? below(300) : wild(), size = below(2) ? below(300) : wild();
+        wuldazin_range(offset, size, mask, output_length, a, answer_length);
+        doors[door]++;
+        bool past = size && (uint64_t)offset + size > 256;
+        uint32_t number = number_of(true, 0);
+        require(number == 27 || number == (past ? 25 : 0), "range");
+        if (output_length) memcpy(out, output.data, 8), require(!past || out[0] == 0, "mask beside a refusal");
+        take_back(&output, output_length ? 8 : 0);
+        take_back(&answer, answer_length < 4 ? 0 : 16);
+        return;
+    }
+
+    make_tables();
+    uint32_t ty = type_number(), capabilities = capability_word(), count = now.types_length / 6;
+    if (door == SLOTS && parts(ty) >= PARTS_MOST) door = CHECK;
+    types_seen[now.types_length] = members_seen[now.members_length] = true;
+    size_t tl = now.types_length, ml = now.members_length, rl = rows_length(), sl = door == PLACE ? make_steps(list, ty) : 0;
+    bool fits = tl % 6 == 0 && tl <= 6 * 1024 && ml % 2 == 0 && ml <= 2 * 4096 && rl / 14 >= count;
+    if (door != LAYOUT) fits = fits && capabilities <= 8191;
+    bool has_rows = door != MEMBERS, has_output = door == SLOTS || door == PLACE || door == MEMBERS;
+    size_t own = door == SLOTS ? 1 : 2;
+
+    const uint32_t *t = lend(&types, now.types, 4 * tl), *m = lend(&members, now.members, 4 * ml), *s = NULL;
+    uint32_t *r = NULL, *a = NULL;
+    uint64_t *o = NULL;
+    if (has_rows) r = lend(&rows, noise + below(1024), 4 * rl), a = lend(&answer, noise + below(1024), 4 * answer_length);
+    if (has_output) o = lend(&output, noise + below(1024), 8 * output_length);
+    if (door == PLACE) s = lend(&steps, list, 4 * sl);
+    switch (door) {
+    case LAYOUT: wuldazin_layout(t, tl, m, ml, r, rl, a, answer_length); break;
+    case CHECK: wuldazin_check(t, tl, m, ml, capabilities, r, rl, a, answer_length); break;
+    case SLOTS: wuldazin_slots(t, tl, m, ml, capabilities, r, rl, ty, wild(), o, output_length, a, answer_length); break;
+    case PLACE: wuldazin_place(t, tl, m, ml, capabilities, r, rl, ty, s, sl, o, output_length, a, answer_length); break;
+    case MEMBERS: wuldazin_members(t, tl, m, ml, ty, o, output_length);
+    }
+    doors[door]++;
+
+    uint32_t number = 27;
+    if (has_rows) {
+        number = number_of(fits, count);
+        require(number == 27 || number <= (door == LAYOUT ? 7 : door == CHECK ? 24 : 26), "number of another door");
+        require(door != PLACE || number != 25, "number of another door");
+        if (fits) look_at_rows(number, count);
+        take_back(&rows, fits ? 56 * count : 0);
+        take_back(&answer, answer_length < 4 ? 0 : 16);
+    }
+    if (has_output) {
+        bool written = output_length >= own;
+        if (written) memcpy(out, output.data, 8 * own);
+        if (written && door == MEMBERS)
+            require(out[0] % 2 == 0 && out[1] % 2 == 0 && out[0] <= ml && out[1] <= ml - out[0], "part outside the table");
+        else if (written && number >= 1 && number <= 26)
+            require(out[0] == 0 && (own == 1 || out[1] == 0), "words beside a refusal");
+        else if (written && door == PLACE && number == 0) require(out[1] < count, "leaf outside the arena");
+        take_back(&output, written ? 8 * own : 0);
+    }
+    if (door == PLACE) take_back(&steps, 0);
+    take_back(&types, 0);
+    take_back(&members, 0);
+}
+
+static size_t seen(const bool *lengths, size_t count) {
+    size_t sum = 0;
+    for (size_t i = 0; i < count; i++) sum += lengths[i];
+    return sum;
+}
+
+int main(int words, char **word_list) {
+    uint64_t count = words > 1 ? strtoull(word_list[1], NULL, 10) : 10000000, first = 0;
+    if (words > 2) seed = strtoull(word_list[2], NULL, 10);
+    if (words > 3) first = strtoull(word_list[3], NULL, 10);
+    __sanitizer_set_death_callback(say_where);
+    build(&types, 4 * TYPES_MOST);
+    build(&members, 4 * MEMBERS_MOST);
+    build(&rows, 4 * ROWS_MOST);
+    build(&steps, 4 * STEPS_MOST);
+    build(&output, 8 * OUTPUT_MOST);
+    build(&answer, 4 * ANSWER_MOST);
+    state = seed;
+    for (size_t i = 0; i < sizeof noise / sizeof *noise; i++) noise[i] = word();
+    for (size_t i = 0; i < GUARD; i++) guard[i] = word();
+    make_templates();
+
+    struct timespec start, end;
+    clock_gettime(CLOCK_MONOTONIC, &start);
+    for (call = first; call < first + count; call++) {
+        state = (seed * 0xbf58476d1ce4e5b9) ^ (call * 0xd1342543de82ef95);
+        one_call();
+    }
+    clock_gettime(CLOCK_MONOTONIC, &end);
+    double seconds = (end.tv_sec - start.tv_sec) + 1e-9 * (end.tv_nsec - start.tv_nsec);
+
+    for (int d = 0; d < DOORS; d++) printf("%-8s %9llu calls\n", door_names[d], (unsigned long long)doors[d]);
+    for (int n = 0; n <= 26; n++) printf("number %2d %9llu\n", n, (unsigned long long)numbers[n]);
+    printf("answer too short %llu\n", (unsigned long long)unanswered);
+    printf("lengths met: types %zu of %d, members %zu of %d\n", seen(types_seen, TYPES_MOST + 1), TYPES_MOST + 1,
+           seen(members_seen, MEMBERS_MOST + 1), MEMBERS_MOST + 1);
+    printf("%.1f s, %.0f calls a second\n%llu calls, 0 faults\n", seconds, count / seconds, (unsigned long long)count);
+    return 0;
+}

@@ -1,0 +1,73 @@
+//! The C calls, as in wuldazin.h: a slice is handed as a pointer and a length.
+
+extern "C" {
+    pub fn wuldazin_layout(
+        types: *const u32,
+        types_length: usize,
+        members: *const u32,
+        members_length: usize,
+        rows: *mut u32,
+        rows_length: usize,
+        answer: *mut u32,
+        answer_length: usize,
+    );
+    pub fn wuldazin_check(
+        types: *const u32,
+        types_length: usize,
+        members: *const u32,
+        members_length: usize,
+        capabilities: u32,
+        rows: *mut u32,
+        rows_length: usize,
+        answer: *mut u32,
+        answer_length: usize,
+    );
+    pub fn wuldazin_range(
+        offset: u32,
+        size: u32,
+        mask: *mut u64,
+        mask_length: usize,
+        answer: *mut u32,
+        answer_length: usize,
+    );
+    pub fn wuldazin_slots(
+        types: *const u32,
+        types_length: usize,
+        members: *const u32,
+        members_length: usize,
+        capabilities: u32,
+        rows: *mut u32,
+        rows_length: usize,
+        ty: u32,
+        offset: u32,
+        mask: *mut u64,
+        mask_length: usize,
+        answer: *mut u32,
+        answer_length: usize,
+    );
+    pub fn wuldazin_place(
+        types: *const u32,
+        types_length: usize,
+        members: *const u32,
+        members_length: usize,
+        capabilities: u32,
+        rows: *mut u32,
+        rows_length: usize,
+        start: u32,
+        steps: *const u32,
+        steps_length: usize,
+        place: *mut u64,
+        place_length: usize,
+        answer: *mut u32,
+        answer_length: usize,
+    );
+    pub fn wuldazin_members(
+        types: *const u32,
+        types_length: usize,
+        members: *const u32,
+        members_length: usize,
+        ty: u32,
+        part: *mut u64,
+        part_length: usize,
+    );
+}

@@ -1,0 +1,233 @@
+//! Layouts, verdicts, immediate slots and places of GPU type tables: safe calls to the proved static library.
+//!
+//! Tables are slices of words, as wuldazin.h describes them; lengths and words may be anything. `rows` is lent for the
+//! result rows, [`ROW_WORDS`] a type: filled where the arena is accepted, zeros on numbers 2 to 24, untouched on number 1.
+//! Words after those of the arena's types are never written.
+
+mod door;
+mod refusal;
+mod row;
+
+pub use refusal::Refusal;
+pub use row::{flags, verdict, Row, Verdict};
+
+pub const TYPE_WORDS: usize = 6;
+pub const MEMBER_WORDS: usize = 2;
+pub const ROW_WORDS: usize = 14;
+pub const MOST_TYPES: usize = 1024;
+pub const MOST_MEMBERS: usize = 4096;
+
+/// Word 0 of a type.
+pub mod kind {
+    pub const SCALAR: u32 = 0;
+    pub const VECTOR: u32 = 1;
+    pub const MATRIX: u32 = 2;
+    pub const COOPERATIVE_MATRIX: u32 = 3;
+    pub const ATOMIC: u32 = 4;
+    pub const POINTER: u32 = 5;
+    pub const VALUE_POINTER: u32 = 6;
+    pub const ARRAY: u32 = 7;
+    pub const STRUCT: u32 = 8;
+    pub const IMAGE: u32 = 9;
+    pub const SAMPLER: u32 = 10;
+    pub const ACCELERATION_STRUCTURE: u32 = 11;
+    pub const RAY_QUERY: u32 = 12;
+    pub const BINDING_ARRAY: u32 = 13;
+}
+
+/// Scalar kinds.
+pub mod scalar {
+    pub const SINT: u32 = 0;
+    pub const UINT: u32 = 1;
+    pub const FLOAT: u32 = 2;
+    pub const BOOL: u32 = 3;
+    pub const ABSTRACT_INT: u32 = 4;
+    pub const ABSTRACT_FLOAT: u32 = 5;
+}
+
+/// Forms of arrays and binding arrays.
+pub mod form {
+    pub const CONSTANT: u32 = 0;
+    pub const DYNAMIC: u32 = 1;
+}
+
+/// Bits of the capability word.
+pub mod capabilities {
+    pub const FLOAT64: u32 = 1;
+    pub const SHADER_FLOAT16: u32 = 1 << 1;
+    pub const SHADER_INT16: u32 = 1 << 2;
+    pub const SHADER_INT64: u32 = 1 << 3;
+    pub const SHADER_FLOAT32_ATOMIC: u32 = 1 << 4;
+    pub const SHADER_INT64_ATOMIC_MIN_MAX: u32 = 1 << 5;
+    pub const SHADER_INT64_ATOMIC_ALL_OPS: u32 = 1 << 6;
+    pub const COOPERATIVE_MATRIX: u32 = 1 << 7;
+    pub const CUBE_ARRAY_TEXTURES: u32 = 1 << 8;
+    pub const TEXTURE_EXTERNAL: u32 = 1 << 9;
+    pub const RAY_QUERY: u32 = 1 << 10;
+    pub const RAY_TRACING_PIPELINE: u32 = 1 << 11;
+    pub const RAY_HIT_VERTEX_POSITION: u32 = 1 << 12;
+    pub const ALL: u32 = 8191;
+}
+
+/// A leaf: its first byte and its type.
+#[derive(Clone, Copy, Debug, PartialEq, Eq)]
+pub struct Place {
+    pub byte: u64,
+    pub leaf: u32,
+}
+
+/// Sizes and alignments alone, with no capability asked for. Numbers 1 to 7.
+pub fn layout(types: &[u32], members: &[u32], rows: &mut [u32]) -> Result<(), Refusal> {
+    let mut answer = [0; 4];
+    // SAFETY: every pointer and length is that of a live slice, and no slice that is written overlaps another. So below.
+    unsafe {
+        door::wuldazin_layout(
+            types.as_ptr(),
+            types.len(),
+            members.as_ptr(),
+            members.len(),
+            rows.as_mut_ptr(),
+            rows.len(),
+            answer.as_mut_ptr(),
+            answer.len(),
+        )
+    }
+    Refusal::of(answer)
+}
+
+/// Judges an arena. Numbers 1 to 24.
+pub fn check(
+    types: &[u32],
+    members: &[u32],
+    capabilities: u32,
+    rows: &mut [u32],
+) -> Result<(), Refusal> {
+    let mut answer = [0; 4];
+    // SAFETY: as in layout.
+    unsafe {
+        door::wuldazin_check(
+            types.as_ptr(),
+            types.len(),
+            members.as_ptr(),
+            members.len(),
+            capabilities,
+            rows.as_mut_ptr(),
+            rows.len(),
+            answer.as_mut_ptr(),
+            answer.len(),
+        )
+    }
+    Refusal::of(answer)
+}
+
+/// The immediate slots of `size` bytes from `offset` on: bit k for bytes 4k to 4k + 3. Number 25.
+pub fn range(offset: u32, size: u32) -> Result<u64, Refusal> {
+    let (mut mask, mut answer) = ([0; 1], [0; 4]);
+    // SAFETY: as in layout.
+    unsafe {
+        door::wuldazin_range(
+            offset,
+            size,
+            mask.as_mut_ptr(),
+            mask.len(),
+            answer.as_mut_ptr(),
+            answer.len(),
+        )
+    }
+    Refusal::of(answer).map(|()| mask[0])
+}
+
+/// The immediate slots of type `ty` that stands at `offset`. Judges the arena first. Numbers 1 to 26.
+///
+/// The walk visits every member of every nested struct anew: where structs hold others several times over, it may double
+/// with each level. Do not call it on tables of unknown origin without a limit on time. It recurses, at most once a type:
+/// 200 KB of stack.
+pub fn slots(
+    types: &[u32],
+    members: &[u32],
+    capabilities: u32,
+    rows: &mut [u32],
+    ty: u32,
+    offset: u32,
+) -> Result<u64, Refusal> {
+    let (mut mask, mut answer) = ([0; 1], [0; 4]);
+    // SAFETY: as in layout.
+    unsafe {
+        door::wuldazin_slots(
+            types.as_ptr(),
+            types.len(),
+            members.as_ptr(),
+            members.len(),
+            capabilities,
+            rows.as_mut_ptr(),
+            rows.len(),
+            ty,
+            offset,
+            mask.as_mut_ptr(),
+            mask.len(),
+            answer.as_mut_ptr(),
+            answer.len(),
+        )
+    }
+    Refusal::of(answer).map(|()| mask[0])
+}
+
+/// The leaf that `steps`, member and element numbers, lead to from type `start`. Judges the arena first. Numbers 1 to 24
+/// and 26.
+pub fn place(
+    types: &[u32],
+    members: &[u32],
+    capabilities: u32,
+    rows: &mut [u32],
+    start: u32,
+    steps: &[u32],
+) -> Result<Place, Refusal> {
+    let (mut place, mut answer) = ([0; 2], [0; 4]);
+    // SAFETY: as in layout.
+    unsafe {
+        door::wuldazin_place(
+            types.as_ptr(),
+            types.len(),
+            members.as_ptr(),
+            members.len(),
+            capabilities,
+            rows.as_mut_ptr(),
+            rows.len(),
+            start,
+            steps.as_ptr(),
+            steps.len(),
+            place.as_mut_ptr(),
+            place.len(),
+            answer.as_mut_ptr(),
+            answer.len(),
+        )
+    }
+    let [byte, leaf] = place;
+    Refusal::of(answer).map(|()| Place {
+        byte,
+        leaf: leaf as u32,
+    })
+}
+
+/// The member rows of struct `ty`, as that part of `members`; empty for a number that is no struct or whose rows reach past
+/// it. Judges nothing.
+pub fn members<'a>(types: &[u32], members: &'a [u32], ty: u32) -> &'a [u32] {
+    let mut part = [0; 2];
+    // SAFETY: as in layout.
+    unsafe {
+        door::wuldazin_members(
+            types.as_ptr(),
+            types.len(),
+            members.as_ptr(),
+            members.len(),
+            ty,
+            part.as_mut_ptr(),
+            part.len(),
+        )
+    }
+    let [start, length] = part.map(|word| word as usize);
+    &members[start..start + length]
+}
+
+#[cfg(test)]
+mod marked;

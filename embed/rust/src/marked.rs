@@ -1,0 +1,167 @@
+//! The marked examples M1 to M12, through the safe calls.
+
+use crate::*;
+
+const E: [u32; 6] = [kind::SCALAR, scalar::FLOAT, 4, 0, 0, 0];
+const V: [u32; 6] = [kind::VECTOR, 3, scalar::FLOAT, 4, 0, 0];
+const F16: [u32; 6] = [kind::SCALAR, scalar::FLOAT, 2, 0, 0, 0];
+/// V at 0, E at 12.
+const PAIR: [u32; 4] = [1, 0, 0, 12];
+
+fn structure(first: u32, count: u32, span: u32) -> [u32; 6] {
+    [kind::STRUCT, first, count, span, 0, 0]
+}
+
+fn array(count: u32, stride: u32) -> [u32; 6] {
+    [kind::ARRAY, 0, form::CONSTANT, count, stride, 0]
+}
+
+fn judged(types: &[[u32; 6]], members: &[u32], capabilities: u32) -> Result<Vec<u32>, Refusal> {
+    let mut rows = vec![7; types.len() * ROW_WORDS];
+    check(types.as_flattened(), members, capabilities, &mut rows).map(|()| rows)
+}
+
+/// M1's arena with E at another offset and another span.
+fn m1(offset: u32, span: u32) -> Result<Vec<u32>, Refusal> {
+    judged(&[E, V, structure(0, 2, span)], &[1, 0, 0, offset], 0)
+}
+
+fn refused(number: u32, ty: u32, member: u32, detail: u32) -> Refusal {
+    Refusal {
+        number,
+        ty,
+        member,
+        detail,
+    }
+}
+
+fn row(rows: &[u32], ty: u32) -> Row<'_> {
+    Row::of(rows, ty).unwrap()
+}
+
+#[test]
+fn m1_rows() {
+    let rows = m1(12, 16).unwrap();
+    let expected = [
+        [4, 4, 255, 0, 4, 0, 0, 0, 0, 4, 0, 0, 0, 0],
+        [12, 16, 255, 0, 16, 0, 0, 0, 0, 16, 0, 0, 0, 0],
+        [16, 16, 247, 0, 16, 0, 0, 0, 0, 16, 0, 0, 0, 0],
+    ];
+    assert_eq!(rows, expected.as_flattened());
+    let pair = row(&rows, 2);
+    assert_eq!((pair.size(), pair.alignment(), pair.flags()), (16, 16, 247));
+    assert!(pair.has(flags::DATA | flags::HOST_SHAREABLE) && !pair.has(flags::IO_SHAREABLE));
+    assert_eq!(Row::of(&rows, 3), None);
+}
+
+#[test]
+fn m2_slots() {
+    let types = [E, V, structure(0, 2, 16)];
+    let walk = |ty| slots(types.as_flattened(), &PAIR, 0, &mut [0; 42], ty, 0);
+    assert_eq!(walk(2), Ok(15));
+    assert_eq!(walk(3), Err(refused(26, 0, 0, 0)));
+}
+
+#[test]
+fn m3_span() {
+    let rows = m1(12, 20).unwrap();
+    let expected = Verdict {
+        code: verdict::STRUCT_SPAN,
+        ty: 2,
+        index: 0,
+        value: 20,
+        bound: 16,
+    };
+    assert_eq!(row(&rows, 2).uniform(), expected);
+    assert_eq!(row(&rows, 2).storage(), expected);
+    assert_eq!(expected.alignment(), None);
+}
+
+#[test]
+fn m4_to_m6_members() {
+    assert_eq!(m1(8, 16), Err(refused(18, 2, 1, 0)));
+    assert_eq!(row(&m1(0, 16).unwrap(), 2).flags(), 231);
+    assert_eq!(m1(12, 15), Err(refused(19, 2, 1, 0)));
+}
+
+#[test]
+fn m7_and_m8_arrays() {
+    let rows = judged(&[E, array(3, 4)], &[], 0).unwrap();
+    assert_eq!(row(&rows, 1).storage().alignment(), Some(4));
+    let uniform = row(&rows, 1).uniform();
+    assert_eq!((uniform.code, uniform.bound), (verdict::ARRAY_STRIDE, 16));
+    assert!(judged(&[E, array(1_073_741_823, 2)], &[], 0).is_ok());
+    let refusal = judged(&[E, array(1_073_741_824, 2)], &[], 0);
+    assert_eq!(refusal, Err(refused(4, 1, 0, 0)));
+}
+
+#[test]
+fn m9_and_m10_distances() {
+    let inner = structure(0, 1, 4);
+    let rows = judged(&[E, inner, structure(1, 2, 16)], &[0, 0, 1, 0, 0, 4], 0).unwrap();
+    let uniform = row(&rows, 2).uniform();
+    assert_eq!(uniform.code, verdict::MEMBER_OFFSET_AFTER_STRUCT);
+    assert_eq!(uniform.bound, 16);
+    assert_eq!(row(&rows, 2).storage().alignment(), Some(4));
+    let members = [0, 0, 0, 0, 1, 16, 0, 0];
+    let refusal = judged(&[E, inner, structure(1, 3, 32)], &members, 0);
+    assert_eq!(refusal, Err(refused(21, 2, 2, 0)));
+}
+
+#[test]
+fn m11_half_floats() {
+    assert_eq!(judged(&[F16], &[], 0), Err(refused(8, 0, 0, 1)));
+    let rows = judged(&[F16], &[], capabilities::SHADER_FLOAT16).unwrap();
+    assert_eq!(row(&rows, 0).immediates(), 3);
+}
+
+#[test]
+fn m12_ranges() {
+    assert_eq!(range(300, 0), Ok(0));
+    assert_eq!(range(3, 2), Ok(3));
+    assert_eq!(range(252, 4), Ok(1 << 63));
+    assert_eq!(range(252, 5), Err(refused(25, 0, 0, 0)));
+}
+
+#[test]
+fn rows_after_a_refusal() {
+    let types = [E, V, structure(0, 2, 15)];
+    let mut rows = [7; 44];
+    let refusal = check(types.as_flattened(), &PAIR, 0, &mut rows[..41]);
+    assert_eq!((refusal, rows), (Err(refused(1, 0, 0, 0)), [7; 44]));
+    assert!(check(types.as_flattened(), &PAIR, 0, &mut rows).is_err());
+    assert_eq!(rows[..42], [0; 42]);
+    assert_eq!(rows[42..], [7; 2]);
+    assert_eq!(layout(types.as_flattened(), &PAIR, &mut rows), Ok(()));
+    assert_eq!(rows[28..31], [15, 16, 0]);
+}
+
+#[test]
+fn empty_tables_places_and_parts() {
+    assert_eq!(check(&[], &[], 0, &mut []), Ok(()));
+    let types = [E, V, structure(0, 2, 16)];
+    let types = types.as_flattened();
+    let place = |start, steps: &[u32]| place(types, &PAIR, 0, &mut [0; 42], start, steps);
+    assert_eq!(place(2, &[1]), Ok(Place { byte: 12, leaf: 0 }));
+    assert_eq!(place(0, &[]), Ok(Place { byte: 0, leaf: 0 }));
+    assert_eq!(place(2, &[2]), Err(refused(26, 0, 0, 0)));
+    assert_eq!(members(types, &PAIR, 2), PAIR);
+    assert!(members(types, &PAIR, 1).is_empty() && members(types, &PAIR[..3], 2).is_empty());
+}
+
+#[test]
+fn refusals_in_words() {
+    let text = refused(18, 2, 1, 0).to_string();
+    assert_eq!(
+        text,
+        "18: member overlaps the one before (type 2, member 1)"
+    );
+    assert_eq!(
+        refused(8, 0, 0, 1).to_string(),
+        "8: capability missing (type 0, bit 1)"
+    );
+    assert_eq!(
+        refused(26, 0, 0, 0).to_string(),
+        "26: no such type or place"
+    );
+}
