@@ -1,0 +1,19 @@
+use borrow.Author.Needs.{needs}
+use native.Mathlib.Omega.{arith}
+use denote.Ref.{now}
+use lib.Seq.{length-take-le}
+use Rattle.session.proofs.output.flush.Statement.{statement}
+use Rattle.session.proofs.output.flush.Tie as tie
+
+slice-aggregate-write-all : tie.Need-slice-aggregate-write-all
+slice-aggregate-write-all c = let a = c .before .before .before .args in omega (arith, length-take-le (a .at) (now (a .out)) (omega arith))
+
+pub flush-spec : {M : Type 1} → statement M
+flush-spec =
+    tie.close
+    (tie.spec
+    slice-aggregate-write-all
+    (λ c κs. search needs)
+    (λ c κs. search needs)
+    (λ c. search needs)
+    (λ c. search needs))
