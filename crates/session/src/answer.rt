@@ -1,5 +1,4 @@
 // What a line does to the arena, and its answer.
-use crate::output;
 use place::PlaceAnswer;
 use records::Outcome;
 use slots::SlotsAnswer;

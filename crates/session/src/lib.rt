@@ -1,6 +1,5 @@
 // Answers the commands on standard input, line by line, over one arena.
 mod answer;
-mod output;
 
 use answer::Session;
 ghost use Prim.Native.Nat.{_≤_};

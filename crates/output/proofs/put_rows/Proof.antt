@@ -2,17 +2,17 @@ use borrow.Author.Needs.{needs}
 use mathlib.Core.Path.{_≡_}
 use Prim.Native.Nat.{_-_, _≤_}
 use lib.ListN.{length}
-use Rattle.session.proofs.output.put_members.Statement.{statement}
-use Rattle.session.proofs.output.put_members.Tie as tie
+use Rattle.output.proofs.put_rows.Statement.{statement}
+use Rattle.output.proofs.put_rows.Tie as tie
 
 abbrev Inv-loop : tie.InvT-loop
-Inv-loop out₀ at part end₀ i₀ out end i = (i ≤ length part) × (length out ≡ length out₀)
+Inv-loop out₀ at rows n end₀ i₀ out end i = (i ≤ n) × (length out ≡ length out₀)
 
 abbrev μ-loop : tie.MeasureT-loop
-μ-loop out₀ at part end₀ i₀ out end i = length part - i
+μ-loop out₀ at rows n end₀ i₀ out end i = n - i
 
-pub put-members-spec : {M : Type 1} → statement M
-put-members-spec =
+pub put-rows-spec : {M : Type 1} → statement M
+put-rows-spec =
     tie.close
     (tie.spec
     Inv-loop
@@ -22,10 +22,7 @@ put-members-spec =
     (λ c. search needs)
     (λ c κs. search needs)
     (λ c. search needs)
-    (λ c κs. search needs)
     (λ c. search needs)
     (λ c. search needs)
-    (λ c. search needs)
-    (λ c κs. search needs)
     (λ c. search needs)
     (λ c. search needs))

@@ -2,8 +2,8 @@ use borrow.Author.Needs.{needs}
 use native.Mathlib.Omega.{arith}
 use denote.Ref.{now}
 use lib.Seq.{length-take-le}
-use Rattle.session.proofs.output.flush.Statement.{statement}
-use Rattle.session.proofs.output.flush.Tie as tie
+use Rattle.output.proofs.flush.Statement.{statement}
+use Rattle.output.proofs.flush.Tie as tie
 
 slice-aggregate-write-all : tie.Need-slice-aggregate-write-all
 slice-aggregate-write-all c = let a = c .before .before .before .args in omega (arith, length-take-le (a .at) (now (a .out)) (omega arith))

@@ -2,23 +2,22 @@ use borrow.Author.Needs.{needs}
 use mathlib.Core.Path.{_≡_}
 use Prim.Native.Nat.{_-_, _≤_}
 use lib.ListN.{length}
-use Rattle.session.proofs.output.put_rows.Statement.{statement}
-use Rattle.session.proofs.output.put_rows.Tie as tie
+use Rattle.output.proofs.put_text.Statement.{statement}
+use Rattle.output.proofs.put_text.Tie as tie
 
 abbrev Inv-loop : tie.InvT-loop
-Inv-loop out₀ at rows n end₀ i₀ out end i = (i ≤ n) × (length out ≡ length out₀)
+Inv-loop out₀ at text end₀ i₀ out end i = (i ≤ length text) × (length out ≡ length out₀)
 
 abbrev μ-loop : tie.MeasureT-loop
-μ-loop out₀ at rows n end₀ i₀ out end i = n - i
+μ-loop out₀ at text end₀ i₀ out end i = length text - i
 
-pub put-rows-spec : {M : Type 1} → statement M
-put-rows-spec =
+pub put-text-spec : {M : Type 1} → statement M
+put-text-spec =
     tie.close
     (tie.spec
     Inv-loop
     μ-loop
     (λ c. search needs)
-    (λ c κs. search needs)
     (λ c. search needs)
     (λ c κs. search needs)
     (λ c. search needs)

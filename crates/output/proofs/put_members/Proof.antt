@@ -2,21 +2,22 @@ use borrow.Author.Needs.{needs}
 use mathlib.Core.Path.{_≡_}
 use Prim.Native.Nat.{_-_, _≤_}
 use lib.ListN.{length}
-use Rattle.session.proofs.output.put_row.Statement.{statement}
-use Rattle.session.proofs.output.put_row.Tie as tie
+use Rattle.output.proofs.put_members.Statement.{statement}
+use Rattle.output.proofs.put_members.Tie as tie
 
 abbrev Inv-loop : tie.InvT-loop
-Inv-loop out₀ at rows i end₀ k₀ out end k = (k ≤ 14) × (length out ≡ length out₀)
+Inv-loop out₀ at part end₀ i₀ out end i = (i ≤ length part) × (length out ≡ length out₀)
 
 abbrev μ-loop : tie.MeasureT-loop
-μ-loop out₀ at rows i end₀ k₀ out end k = 14 - k
+μ-loop out₀ at part end₀ i₀ out end i = length part - i
 
-pub put-row-spec : {M : Type 1} → statement M
-put-row-spec =
+pub put-members-spec : {M : Type 1} → statement M
+put-members-spec =
     tie.close
     (tie.spec
     Inv-loop
     μ-loop
+    (λ c. search needs)
     (λ c κs. search needs)
     (λ c. search needs)
     (λ c κs. search needs)
