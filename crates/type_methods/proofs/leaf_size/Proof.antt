@@ -1,7 +1,9 @@
 -- `type_methods::leaf_size` meets its contract: the fields are within their bounds, so the products fit. Assumes nothing.
 use borrow.Author.Needs.{needs}
-use Prim.Native.Nat.{_*_, _≤_}
+use Prim.Native.Nat.{ℕ, _*_, _≤_}
+use mathlib.Core.Path.{_≡_, ap}
 use native.Mathlib.Omega.{arith}
+use Rattle.alignment.specs.Alignment.{vectorAlignment}
 use Rattle.alignment.proofs.PowerLaws.{mul-within, vector-within, cooperative-within}
 use Rattle.type_methods.proofs.leaf_size.Statement.{statement}
 use Rattle.type_methods.proofs.leaf_size.Tie as tie
@@ -25,7 +27,10 @@ returns-2 : tie.Need-returns-2
 returns-2 c = rw (c .before .leaf2 .given .1)
 
 returns-3 : tie.Need-returns-3
-returns-3 c = rw (c .before .before .leaf3 .given .1, c .vector-alignment .ensures)
+returns-3 c =
+    let v = c .before .before .leaf3 .given .0 in
+    let padded : c .vector-alignment .result * v .1 .1 .1 .0 * v .0 ≡ vectorAlignment (v .1 .0) * v .1 .1 .1 .0 * v .0 = ap (λ (a : ℕ). a * v .1 .1 .1 .0 * v .0) (c .vector-alignment .ensures) in
+    rw (c .before .before .leaf3 .given .1) padded
 
 returns-4 : tie.Need-returns-4
 returns-4 c = rw (c .before .leaf4 .given .1)
