@@ -31,18 +31,13 @@ pub fn larger(a: u32, b: u32) -> u32
 pub fn is_aligned(alignment: u32, n: u32) -> bool
     ensures { λ r. ⌜ r ≡ isAligned alignment n ⌝ }
 {
-    // The usual alignments by name, since a remainder by a constant is no division.
-    if alignment == 16 {
-        return n % 16 == 0;
-    }
-    if alignment == 4 {
-        return n % 4 == 0;
-    }
-    if alignment == 8 {
-        return n % 8 == 0;
-    }
     if alignment == 0 {
         return n == 0;
+    }
+    let below = alignment - 1;
+    // A power of two needs no division.
+    if alignment & below == 0 {
+        return n & below == 0;
     }
     n % alignment == 0
 }

@@ -1,3 +1,4 @@
 pub mod StateLaws
 pub mod MemberLaws
 pub mod MemberSame
+mod KindLaws

@@ -9,6 +9,7 @@ use native.Mathlib.Numerals.{add-one}
 use native.Mathlib.Decide.{le-ind}
 use lib.Bits.{bitAnd}
 use lib.Dec.{T, leb}
+use borrow.Author.Tests.{le-leb}
 use Rattle.records.specs.Result.{Result, err, ok, require, andThen}
 use Rattle.records.specs.Record.{memberType, memberOffset}
 use Rattle.records.specs.declared.TypeInner.{TypeInner}
@@ -19,17 +20,17 @@ use Rattle.type_info.specs.declared.Row.{Row}
 use Rattle.type_info.specs.declared.Verdict.{Verdict}
 use Rattle.type_info.specs.declared.Previous.{Previous}
 use Rattle.type_info.specs.declared.Distance.{Distance}
-use Rattle.type_info.specs.Verdict.{minUniform, afterDistance, distanceVerdict, unsizedVerdict}
+use Rattle.type_info.specs.Verdict.{minUniform, afterDistance, distanceOk, distanceVerdict, shareVerdict, memberVerdict, unsizedVerdict}
 use Rattle.members.specs.declared.Bounds.{Bounds}
 use Rattle.members.specs.declared.State.{State}
-use Rattle.members.specs.Members.{isMemberData, isApart, isMemberSized, memberFlags, boundsBy, memberBounds, boundsAfter, uniformAfter, storageAfter, immediatesAfter, previousOf, stateAfter, memberStep, uniformBy, memberUniform}
+use Rattle.members.specs.Members.{isArray, structAt, isMemberData, isApart, isMemberSized, memberFlags, boundsBy, memberBounds, boundsAfter, uniformAfter, storageAfter, immediatesAfter, previousOf, stateAfter, memberStep, uniformBy, memberUniform, memberImmediates, Plainly}
 
 -- a member that is taken has a distance that can be told
-pub bounds-within : (count span : ℕ) (within : Bool) (inner : TypeInner) (offset j : ℕ) (r : Row) (so-far b : Bounds)
-    → boundsBy count span within inner offset j r so-far ≡ ok b → within ≡ true
-bounds-within count span within inner offset j r so-far b e =
+pub bounds-within : (count span : ℕ) (within array : Bool) (offset j : ℕ) (r : Row) (so-far b : Bounds)
+    → boundsBy count span within array offset j r so-far ≡ ok b → within ≡ true
+bounds-within count span within array offset j r so-far b e =
     let fine : Result Bounds = ok (record { end = offset + r .size; flags = memberFlags (so-far .end) offset (bitAnd (so-far .flags) (r .flags)) }) in
-    let sized = require (isMemberSized (r .flags) inner j count) 20 j 0 fine in
+    let sized = require (isMemberSized (r .flags) array j count) 20 j 0 fine in
     let distant = require within 21 j 0 sized in
     let inside = require (leb (offset + r .size) span) 19 j 0 distant in
     let summed = require (leb (offset + r .size) most) 21 j 0 inside in
@@ -44,8 +45,8 @@ module _ (inner : ℕ → TypeInner) (rows : ℕ → Row) (i count span : ℕ) (
   -- one member more
   pub state-step : (j : ℕ) (s : State) → stateAfter inner rows i count span part j ≡ ok s
       → stateAfter inner rows i count span part (suc j)
-      ≡ memberStep i count span j (memberType part j) (memberOffset part j) (inner (memberType part j)) (rows (memberType part j)) s
-  unfolding stateAfter memberStep boundsAfter uniformAfter storageAfter immediatesAfter previousOf
+      ≡ memberStep i count span j (memberType part j) (memberOffset part j) (isArray (inner (memberType part j))) (structAt (inner (memberType part j)) (memberOffset part j)) (rows (memberType part j)) s
+  unfolding stateAfter memberStep memberBounds boundsAfter uniformAfter storageAfter immediatesAfter previousOf
   state-step j s e = go (boundsAfter inner rows count span part j) refl e
     where
       taken : ℕ → Bounds → State
@@ -60,7 +61,7 @@ module _ (inner : ℕ → TypeInner) (rows : ℕ → Row) (i count span : ℕ) (
 
       go : (o : Result Bounds) → boundsAfter inner rows count span part j ≡ o → andThen o (λ b. ok (taken j b)) ≡ ok s
           → stateAfter inner rows i count span part (suc j)
-          ≡ memberStep i count span j (memberType part j) (memberOffset part j) (inner (memberType part j)) (rows (memberType part j)) s
+          ≡ memberStep i count span j (memberType part j) (memberOffset part j) (isArray (inner (memberType part j))) (structAt (inner (memberType part j)) (memberOffset part j)) (rows (memberType part j)) s
       go (err n m d) p q = let z : _≡_ {A = ℕ} 0 1 = cc in absurd (omega arith)
       go (ok b) p q = let t : _≡_ {A = State} (taken j b) s = cc in rw (p, ← t) refl
 
@@ -81,3 +82,19 @@ pub uniform-by : (d : Distance) (previous : Previous) (i j t offset : ℕ) (r : 
     → ((v : Verdict) → afterDistance d i j offset v ≡ distanceVerdict minUniform i j offset previous v)
     → uniformBy d i j t offset r so-far ≡ memberUniform minUniform i j t offset previous r so-far
 uniform-by d previous i j t offset r so-far h = ap (unsizedVerdict (bit (r .flags) sizedBit) i j) (h _)
+
+-- a plain member's step: all tests hold, and each verdict is that of the offset
+pub plain-step : (i count span j t offset : ℕ) (array : Bool) (next : Previous) (r : Row) (s : State)
+    → Plainly true (r .flags) → s .bounds .end ≤ offset → offset + r .size ≤ span → span ≤ most
+    → distanceOk (s .previous) offset ≡ true → ((v : Verdict) → distanceVerdict minUniform i j offset (s .previous) v ≡ v)
+    → memberStep i count span j t offset array next r s
+    ≡ ok (record {
+      bounds = record { end = offset + r .size; flags = bitAnd (s .bounds .flags) (r .flags) };
+      uniform = memberVerdict i j offset (s .uniform) (r .uniform);
+      storage = memberVerdict i j offset (s .storage) (r .storage);
+      immediates = memberImmediates (r .immediates) (s .immediates);
+      previous = next;
+    })
+unfolding memberStep shareVerdict unsizedVerdict
+plain-step i count span j t offset array next r s plain apart within fits distant far =
+    rw (plain .0, plain .1, plain .2, plain .3, le-leb (s .bounds .end) offset apart, le-leb (offset + r .size) most (omega arith), le-leb (offset + r .size) span within, distant, far) refl

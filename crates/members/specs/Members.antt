@@ -3,13 +3,15 @@
 -- Assumes nothing.
 use mathlib.Core.Bool.{Bool, true, false, _&&_, _||_}
 use mathlib.Core.List.{List}
+use mathlib.Core.Path.{_≡_}
 use Prim.Native.Nat.{ℕ, zero, suc, _+_}
 use lib.Bits.{bitAnd}
 use lib.Dec.{eqb, leb}
 use Rattle.records.specs.Result.{Result, err, ok, pick, require, andThen}
 use Rattle.records.specs.Record.{memberType, memberOffset, structKind}
 use Rattle.records.specs.declared.TypeInner.{TypeInner}
-use Rattle.records.specs.declared.TypeInner.the-variants.{Plain, Array, RuntimeArray, Struct, Other}
+use Rattle.records.specs.declared.TypeInner.the-variants as inner
+use Rattle.records.specs.declared.TypeInner.the-variants.{Array, RuntimeArray, Struct}
 use Rattle.alignment.specs.Alignment.{most}
 use Rattle.flags.specs.Flags.{bit, dataBit, sizedBit, hostShareableBit, creationResolvedBit, startingFlags, notHostShareable}
 use Rattle.type_info.specs.declared.Verdict.{Verdict}
@@ -17,6 +19,7 @@ use Rattle.type_info.specs.declared.Previous.{Previous}
 use Rattle.type_info.specs.declared.Previous.the-variants.{NoStruct, StructBefore}
 use Rattle.type_info.specs.declared.Row.{Row}
 use Rattle.type_info.specs.declared.Distance.{Distance}
+use Rattle.type_info.specs.declared.Distance.the-variants.{Enough, Short, Overflow}
 use Rattle.type_info.specs.Verdict.{okVerdict, shareVerdict, memberVerdict, distanceVerdict, distanceOk, afterDistance, unsizedVerdict, minUniform, minStorage}
 use Rattle.members.specs.declared.Bounds.{Bounds}
 use Rattle.members.specs.declared.State.{State}
@@ -26,17 +29,20 @@ use Rattle.members.specs.declared.Bounded.the-variants.{Within}
 use Rattle.members.specs.declared.Stepped.{Stepped}
 use Rattle.members.specs.declared.Stepped.the-variants as stepped
 use Rattle.members.specs.declared.Stepped.the-variants.{Took}
+use Rattle.members.specs.declared.Plain.{Plain}
+use Rattle.members.specs.declared.Plain.the-variants as plain
+use Rattle.members.specs.declared.Plain.the-variants.{Other}
 use Rattle.members.specs.declared.Members.{Members}
 use Rattle.members.specs.declared.Members.the-variants as members
 use Rattle.members.specs.declared.Members.the-variants.{Taken}
 
 -- the struct that a member of this type is, for the distance of the next one
 abbrev pub structAt : TypeInner → (offset : ℕ) → Previous
-structAt (Plain leaf) offset = NoStruct
+structAt (inner.Plain leaf) offset = NoStruct
 structAt (Array base count stride) offset = NoStruct
 structAt (RuntimeArray base stride) offset = NoStruct
 structAt (Struct count span) offset = StructBefore span offset
-structAt (Other o) offset = NoStruct
+structAt (inner.Other o) offset = NoStruct
 
 -- the member right before member j, where it is a struct
 unfoldable pub previousOf : (inner : ℕ → TypeInner) (members : List ℕ) → ℕ → Previous
@@ -44,11 +50,11 @@ previousOf inner members zero = NoStruct
 previousOf inner members (suc j) = structAt (inner (memberType members j)) (memberOffset members j)
 
 abbrev pub isArray : TypeInner → Bool
-isArray (Plain leaf) = false
+isArray (inner.Plain leaf) = false
 isArray (Array base count stride) = true
 isArray (RuntimeArray base stride) = true
 isArray (Struct count span) = false
-isArray (Other o) = false
+isArray (inner.Other o) = false
 
 -- ---- acceptance and flags
 -- offset 0 under the running end is no overlap, but costs HOST_SHAREABLE
@@ -64,22 +70,23 @@ abbrev pub isApart : (end offset : ℕ) → Bool
 isApart end offset = leb end offset || eqb offset 0
 
 -- number 20: sized, or an array that is the last member
-abbrev pub isMemberSized : (flags : ℕ) → TypeInner → (j count : ℕ) → Bool
-isMemberSized flags inner j count = bit flags sizedBit || isArray inner && eqb (suc j) count
+abbrev pub isMemberSized : (flags : ℕ) (array : Bool) (j count : ℕ) → Bool
+isMemberSized flags array j count = bit flags sizedBit || array && eqb (suc j) count
 
--- member j of `count`, of the type whose row is r; numbers 17 to 21 in the Rust's order. within: the distance from a struct before it can be told
-abbrev pub boundsBy : (count span : ℕ) (within : Bool) → TypeInner → (offset j : ℕ) → Row → Bounds → Result Bounds
-boundsBy count span within inner offset j r so-far =
+-- member j of `count`, of the type whose row is r; numbers 17 to 21 in the Rust's order. within: the distance from a struct before it can
+-- be told. array: its type is an array
+abbrev pub boundsBy : (count span : ℕ) (within array : Bool) (offset j : ℕ) → Row → Bounds → Result Bounds
+boundsBy count span within array offset j r so-far =
     require (isMemberData (r .flags)) 17 j 0
     (require (isApart (so-far .end) offset) 18 j 0
     (require (leb (offset + r .size) most) 21 j 0
     (require (leb (offset + r .size) span) 19 j 0
     (require within 21 j 0
-    (require (isMemberSized (r .flags) inner j count) 20 j 0
+    (require (isMemberSized (r .flags) array j count) 20 j 0
     (ok (record { end = offset + r .size; flags = memberFlags (so-far .end) offset (bitAnd (so-far .flags) (r .flags)) })))))))
 
 unfoldable pub memberBounds : (count span : ℕ) → Previous → TypeInner → (offset j : ℕ) → Row → Bounds → Result Bounds
-memberBounds count span previous inner offset j r so-far = boundsBy count span (distanceOk previous offset) inner offset j r so-far
+memberBounds count span previous inner offset j r so-far = boundsBy count span (distanceOk previous offset) (isArray inner) offset j r so-far
 
 -- the running end and the flags after j members
 unfoldable pub boundsAfter : (inner : ℕ → TypeInner) (rows : ℕ → Row) (count span : ℕ) (members : List ℕ) → ℕ → Result Bounds
@@ -99,8 +106,8 @@ abbrev pub memberStorage : (i j t offset : ℕ) → Row → Verdict → Verdict
 memberStorage i j t offset r so-far = memberVerdict i j offset (shareVerdict (bit (r .flags) hostShareableBit) t so-far) (r .storage)
 
 -- the last failing member gives the immediates word
-abbrev pub memberImmediates : Row → ℕ → ℕ
-memberImmediates r so-far = pick (eqb (r .immediates) 0) so-far (r .immediates)
+abbrev pub memberImmediates : (own so-far : ℕ) → ℕ
+memberImmediates own so-far = pick (eqb own 0) so-far own
 
 -- ---- verdicts after j members
 unfoldable pub uniformAfter : (least : ℕ) (inner : ℕ → TypeInner) (rows : ℕ → Row) (i : ℕ) (members : List ℕ) → ℕ → Verdict
@@ -116,7 +123,7 @@ storageAfter rows i members (suc j) =
 
 unfoldable pub immediatesAfter : (rows : ℕ → Row) (members : List ℕ) → ℕ → ℕ
 immediatesAfter rows members zero = 0
-immediatesAfter rows members (suc j) = memberImmediates (rows (memberType members j)) (immediatesAfter rows members j)
+immediatesAfter rows members (suc j) = memberImmediates (rows (memberType members j) .immediates) (immediatesAfter rows members j)
 
 -- ---- what the code carries from member to member, and answers
 unfoldable pub stateAfter : (inner : ℕ → TypeInner) (rows : ℕ → Row) (i count span : ℕ) (members : List ℕ) → ℕ → Result State
@@ -130,15 +137,15 @@ stateAfter inner rows i count span members j =
       previous = previousOf inner members j;
     }))
 
-unfoldable pub memberStep : (i count span j t offset : ℕ) → TypeInner → Row → State → Result State
-memberStep i count span j t offset inner r s =
-    andThen (memberBounds count span (s .previous) inner offset j r (s .bounds))
+unfoldable pub memberStep : (i count span j t offset : ℕ) (array : Bool) (next : Previous) → Row → State → Result State
+memberStep i count span j t offset array next r s =
+    andThen (boundsBy count span (distanceOk (s .previous) offset) array offset j r (s .bounds))
     (λ b. ok (record {
       bounds = b;
       uniform = memberUniform minUniform i j t offset (s .previous) r (s .uniform);
       storage = memberStorage i j t offset r (s .storage);
-      immediates = memberImmediates r (s .immediates);
-      previous = structAt inner offset;
+      immediates = memberImmediates (r .immediates) (s .immediates);
+      previous = next;
     }))
 
 -- the uniform verdict by the distance that the code has
@@ -158,3 +165,18 @@ steppedResult j (stepped.Refused number) = err number j 0
 abbrev pub membersResult : Members → Result State
 membersResult (Taken s) = ok s
 membersResult (members.Refused number member) = err number member 0
+
+-- flags of a plain member
+abbrev pub Plainly : Bool → (flags : ℕ) → Type 0
+Plainly true flags = (bit flags dataBit ≡ true) × (bit flags sizedBit ≡ true) × (bit flags hostShareableBit ≡ true) × (bit flags creationResolvedBit ≡ true)
+Plainly false flags = Unit {0}
+
+-- a plain member's step is the member's step
+abbrev pub plainStep : Plain → Result State → Type 0
+plainStep (plain.Took s) step = step ≡ ok s
+plainStep Other step = Unit {0}
+
+abbrev pub isEnough : Distance → Bool
+isEnough Enough = true
+isEnough (Short expected) = false
+isEnough Overflow = false

@@ -1,19 +1,26 @@
 // The members of a struct, one after the other: the member loop of validate_type in naga's valid/type.rs.
-use records::TypeInner;
 use type_info::Distance;
 use type_info::Previous;
 use type_info::Row;
 use type_info::Verdict;
 ghost use mathlib.Core.Path.{_≡_};
 ghost use mathlib.Core.Bool.{_&&_, _||_};
-ghost use Prim.Native.Nat.{ℕ, suc, _+_, _≤_};
+ghost use Prim.Native.Nat.{ℕ, suc, _+_, _*_, _≤_, _<_};
+ghost use lib.ListN.{length};
 ghost use lib.Dec.{eqb};
 ghost use Rattle.records.specs.Record.{typeInner};
+ghost use Rattle.records.specs.Result.{ok};
 ghost use Rattle.type_info.specs.TypeInfo.{rowsIn};
 ghost use Rattle.type_info.specs.Verdict.{minUniform, minStorage, okVerdict, isWithin};
 ghost use Rattle.flags.specs.Flags.{startingFlags};
 ghost use Rattle.type_info.specs.declared.Previous.the-variants.{NoStruct};
-ghost use Rattle.members.specs.Members.{structAt, isArray, isMemberData, isApart, isMemberSized, memberFlags, boundsBy, memberStorage, memberImmediates, uniformBy, memberStep, stateAfter, boundedResult, steppedResult, membersResult};
+ghost use Rattle.members.specs.Members.{structAt, isArray, isMemberData, isApart, isMemberSized, memberFlags, boundsBy, memberStorage, memberImmediates, uniformBy, memberStep, stateAfter, boundedResult, steppedResult, membersResult, Plainly, plainStep, isEnough};
+
+const ARRAY_KIND: u32 = 7;
+
+const STRUCT_KIND: u32 = 8;
+// DATA, SIZED, HOST_SHAREABLE and CREATION_RESOLVED.
+const PLAIN: u32 = 147;
 
 // The running end and the flags after some members.
 pub struct Bounds {
@@ -40,41 +47,39 @@ pub enum Stepped {
     Refused(u32),
 }
 
+// The step of a plain member, or a member for `member`.
+pub enum Plain {
+    Took(State),
+    Other,
+}
+
+// How many members have been taken, and what is known after them.
+pub struct Reached {
+    pub taken: u32,
+    pub state: State,
+}
+
 pub enum Members {
     Taken(State),
     Refused { number: u32, member: u32 },
 }
 
-pub fn struct_at(inner: TypeInner, offset: u32) -> Previous
-    ensures { λ r. ⌜ r ≡ structAt inner offset ⌝ }
+// What member rules ask of the kind of type t: whether it is an array,
+fn is_array(types: &[u32], t: u32) -> bool
+    ensures { λ r. ⌜ r ≡ isArray (typeInner (now (types .entry)) t) ⌝ }
 {
-    match inner {
-        TypeInner::Plain(_) => Previous::NoStruct,
-        TypeInner::Array {
-            base: _,
-            count: _,
-            stride: _,
-        } => Previous::NoStruct,
-        TypeInner::RuntimeArray { base: _, stride: _ } => Previous::NoStruct,
-        TypeInner::Struct { count: _, span } => Previous::StructBefore { span, offset },
-        TypeInner::Other(_) => Previous::NoStruct,
-    }
+    records::type_word(types, t, 0) == ARRAY_KIND
 }
 
-fn is_array(inner: TypeInner) -> bool
-    ensures { λ r. ⌜ r ≡ isArray inner ⌝ }
+// and, for the distance of the next member, the struct that it is.
+fn struct_at(types: &[u32], t: u32, offset: u32) -> Previous
+    ensures { λ r. ⌜ r ≡ structAt (typeInner (now (types .entry)) t) offset ⌝ }
 {
-    match inner {
-        TypeInner::Plain(_) => false,
-        TypeInner::Array {
-            base: _,
-            count: _,
-            stride: _,
-        } => true,
-        TypeInner::RuntimeArray { base: _, stride: _ } => true,
-        TypeInner::Struct { count: _, span: _ } => false,
-        TypeInner::Other(_) => false,
+    if records::type_word(types, t, 0) == STRUCT_KIND {
+        let span = records::type_word(types, t, 3);
+        return Previous::StructBefore { span, offset };
     }
+    Previous::NoStruct
 }
 
 // Number 17: data of a size known at shader creation.
@@ -85,11 +90,11 @@ fn is_member_data(flags: u32) -> bool
 }
 
 // Number 20: sized, or an array that is the last member.
-fn is_member_sized(flags: u32, inner: TypeInner, j: u32, count: u32) -> bool
-    ensures { λ r. ⌜ r ≡ isMemberSized flags inner j count ⌝ }
+fn is_member_sized(flags: u32, array: bool, j: u32, count: u32) -> bool
+    ensures { λ r. ⌜ r ≡ isMemberSized flags array j count ⌝ }
 {
     let last = (j as u64) + 1 == count as u64;
-    flags::is_sized(flags) | is_array(inner) & last
+    flags::is_sized(flags) | array & last
 }
 
 // Offset 0 under the running end costs HOST_SHAREABLE.
@@ -119,18 +124,28 @@ fn is_within(d: Distance) -> bool
     }
 }
 
+fn is_enough(d: Distance) -> bool
+    ensures { λ r. ⌜ r ≡ isEnough d ⌝ }
+{
+    match d {
+        Distance::Enough => true,
+        Distance::Short(_) => false,
+        Distance::Overflow => false,
+    }
+}
+
 // Numbers 17 to 21 in the Rust's order; else the running end and the flags after this member.
 fn member_bounds(
     count: u32,
     span: u32,
     within: bool,
-    inner: TypeInner,
+    array: bool,
     offset: u32,
     j: u32,
     row: Row,
     so_far: Bounds,
 ) -> Bounded
-    ensures { λ r. ⌜ boundedResult j r ≡ boundsBy count span within inner offset j row «so_far» ⌝ }
+    ensures { λ r. ⌜ boundedResult j r ≡ boundsBy count span within array offset j row «so_far» ⌝ }
 {
     let size = row.size;
     let end = so_far.end;
@@ -151,7 +166,7 @@ fn member_bounds(
     if !within {
         return Bounded::Refused(21);
     }
-    if !is_member_sized(row.flags, inner, j, count) {
+    if !is_member_sized(row.flags, array, j, count) {
         return Bounded::Refused(20);
     }
     let flags = member_flags(end, offset, flags::both(so_far.flags, row.flags));
@@ -187,10 +202,9 @@ fn storage_of(i: u32, j: u32, t: u32, offset: u32, row: Row, so_far: Verdict) ->
 }
 
 // The last failing member gives the immediates word.
-fn immediates_of(row: Row, so_far: u32) -> u32
-    ensures { λ r. ⌜ r ≡ memberImmediates row «so_far» ⌝ }
+fn immediates_of(own: u32, so_far: u32) -> u32
+    ensures { λ r. ⌜ r ≡ memberImmediates own «so_far» ⌝ }
 {
-    let own = row.immediates;
     if own == 0 { so_far } else { own }
 }
 
@@ -202,11 +216,12 @@ fn member(
     j: u32,
     t: u32,
     offset: u32,
-    inner: TypeInner,
+    array: bool,
+    next: Previous,
     row: Row,
     state: State,
 ) -> Stepped
-    ensures { λ r. ⌜ steppedResult j r ≡ memberStep i count span j t offset inner row state ⌝ }
+    ensures { λ r. ⌜ steppedResult j r ≡ memberStep i count span j t offset array next row state ⌝ }
 {
     let so_far = state.bounds;
     let previous = state.previous;
@@ -214,12 +229,11 @@ fn member(
     let storage_so_far = state.storage;
     let immediates_so_far = state.immediates;
     let d = type_info::distance_to(previous, offset);
-    match member_bounds(count, span, is_within(d), inner, offset, j, row, so_far) {
+    match member_bounds(count, span, is_within(d), array, offset, j, row, so_far) {
         Bounded::Within(bounds) => {
             let uniform = uniform_of(d, i, j, t, offset, row, uniform_so_far);
             let storage = storage_of(i, j, t, offset, row, storage_so_far);
-            let immediates = immediates_of(row, immediates_so_far);
-            let next = struct_at(inner, offset);
+            let immediates = immediates_of(row.immediates, immediates_so_far);
             Stepped::Took(State {
                 bounds,
                 uniform,
@@ -249,6 +263,107 @@ fn start() -> State
     }
 }
 
+// Whether a member with these flags is plain: data, sized, host-shareable, and resolved at shader creation.
+fn is_plain(flags: u32) -> bool
+    ensures { λ r. ⌜ Plainly r flags ⌝ }
+{
+    flags & PLAIN == PLAIN
+}
+
+// Wider than both, so that the sum does not wrap.
+fn end_of(offset: u32, size: u32) -> u64
+    ensures { λ r. ⌜ r ≡ offset + size ⌝ }
+{
+    (offset as u64) + (size as u64)
+}
+
+// The step of a member that breaks no rule of bounds and needs no distance: most members, in fewer tests than `member`.
+fn plain_member(
+    types: &[u32],
+    rows: &[u32],
+    i: u32,
+    span: u32,
+    j: u32,
+    t: u32,
+    offset: u32,
+    state: State,
+) -> Plain
+    requires { ⌜ t < i ⌝ }
+    requires { ⌜ length (now rows) ≡ i * 14 ⌝ }
+    ensures { λ r. ⌜ ((count : ℕ) → plainStep r (memberStep i count span j t offset (isArray (typeInner (now (types .entry)) t)) (structAt (typeInner (now (types .entry)) t) offset) (rowsIn (now (rows .entry)) t) state)) ⌝ }
+{
+    let so_far = state.bounds;
+    let previous = state.previous;
+    let uniform_so_far = state.uniform;
+    let storage_so_far = state.storage;
+    let at = (t as usize) * records::ROW_WORDS;
+    let size = rows[at];
+    let flags = rows[at + 2];
+    let own = rows[at + 13];
+    let sum = end_of(offset, size);
+    if !is_plain(flags) {
+        return Plain::Other;
+    }
+    if offset < so_far.end {
+        return Plain::Other;
+    }
+    if (span as u64) < sum {
+        return Plain::Other;
+    }
+    if !is_enough(type_info::distance_to(previous, offset)) {
+        return Plain::Other;
+    }
+    let end = sum as u32;
+    let bounds = Bounds {
+        end,
+        flags: flags::both(so_far.flags, flags),
+    };
+    let uniform = type_info::member_verdict_at(rows, t, 3, i, j, offset, uniform_so_far);
+    let storage = type_info::member_verdict_at(rows, t, 8, i, j, offset, storage_so_far);
+    let immediates = immediates_of(own, state.immediates);
+    Plain::Took(State {
+        bounds,
+        uniform,
+        storage,
+        immediates,
+        previous: struct_at(types, t, offset),
+    })
+}
+
+// The members of struct i up to the first that is not plain.
+fn plain_members(
+    types: &[u32],
+    rows: &[u32],
+    i: u32,
+    part: &[u32],
+    count: u32,
+    span: u32,
+) -> Reached
+    requires { ⌜ length (now rows) ≡ i * 14 ⌝ }
+    ensures { λ r. ⌜ r .taken ≤ count ⌝ }
+    ensures { λ r. ⌜ stateAfter (typeInner (now (types .entry))) (rowsIn (now (rows .entry))) i count span (now (part .entry)) (r .taken) ≡ ok (r .state) ⌝ }
+{
+    let mut state = start();
+    let mut j: u32 = 0;
+    while j < count {
+        let t = records::member_type(part, j);
+        let offset = records::member_offset(part, j);
+        if i <= t {
+            return Reached { taken: j, state };
+        }
+        match plain_member(types, rows, i, span, j, t, offset, state) {
+            Plain::Took(next) => {
+                state = next;
+            }
+            Plain::Other => {
+                return Reached { taken: j, state };
+            }
+        }
+        j += 1;
+    }
+    Reached { taken: j, state }
+}
+
 // All members of struct i, whose rows are in part; rows has those of the types before it.
 pub fn members_of(
     types: &[u32],
@@ -258,18 +373,21 @@ pub fn members_of(
     count: u32,
     span: u32,
 ) -> Members
+    requires { ⌜ length (now rows) ≡ i * 14 ⌝ }
     ensures { λ r. ⌜ membersResult r ≡ stateAfter (typeInner (now (types .entry))) (rowsIn (now (rows .entry))) i count span (now (part .entry)) count ⌝ }
 {
-    let mut state = start();
-    let mut j: u32 = 0;
+    let reached = plain_members(types, rows, i, part, count, span);
+    let mut state = reached.state;
+    let mut j: u32 = reached.taken;
     while j < count {
         let t = records::member_type(part, j);
         let offset = records::member_offset(part, j);
-        let inner = records::type_inner(types, t);
+        let array = is_array(types, t);
+        let next = struct_at(types, t, offset);
         let row = type_info::row_at(rows, t);
-        match member(i, count, span, j, t, offset, inner, row, state) {
-            Stepped::Took(next) => {
-                state = next;
+        match member(i, count, span, j, t, offset, array, next, row, state) {
+            Stepped::Took(after) => {
+                state = after;
             }
             Stepped::Refused(number) => {
                 return Members::Refused { number, member: j };

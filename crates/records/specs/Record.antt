@@ -115,6 +115,10 @@ innerOf kind a b c d e =
     (pick (eqb kind rayQueryKind) (Plain (RayQuery a))
     (Other (BindingArray a b c))))))))))))))
 
+-- the same of six words
+abbrev pub innerIn : Words → TypeInner
+innerIn w = innerOf (w .kind) (w .a) (w .b) (w .c) (w .d) (w .e)
+
 -- record i of a table
 unfoldable pub typeInner : List ℕ → ℕ → TypeInner
 typeInner ts i = innerOf (typeWord ts i 0) (typeWord ts i 1) (typeWord ts i 2) (typeWord ts i 3) (typeWord ts i 4) (typeWord ts i 5)

@@ -154,7 +154,7 @@ fn inner_of(kind: u32, a: u32, b: u32, c: u32, d: u32, e: u32) -> TypeInner
 }
 
 // The six words of record i, with one test of the table's length where the record is whole.
-fn record_words(types: &[u32], i: u32) -> Words
+pub fn record_words(types: &[u32], i: u32) -> Words
     ensures { λ r. ⌜ r ≡ recordWords (now (types .entry)) i ⌝ }
 {
     let at = (i as usize) * TYPE_WORDS;

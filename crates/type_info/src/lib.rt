@@ -1,12 +1,12 @@
 // TypeInfo of naga's valid/type.rs: result rows, verdicts and the rules that make them.
 ghost use mathlib.Core.Path.{_≡_};
 ghost use mathlib.Core.Bool.{Bool, true};
-ghost use Prim.Native.Nat.{ℕ, _+_, _*_, _≤_};
+ghost use Prim.Native.Nat.{ℕ, _+_, _*_, _%_, _≤_, _<_};
 ghost use lib.ListN.{length};
 ghost use Rattle.rows.specs.Rows.{rowWord, withRow};
 ghost use Rattle.type_info.specs.declared.Verdict as verdict;
-ghost use Rattle.type_info.specs.TypeInfo.{wordsOf, rowsIn, verdictIn};
-ghost use Rattle.type_info.specs.Verdict.{minUniform, okVerdict, arrayVerdict, shareVerdict, memberVerdict, distanceVerdict, distanceOk, afterDistance, isWithin, unsizedVerdict, spanVerdict};
+ghost use Rattle.type_info.specs.TypeInfo.{wordsOf, rowsIn, emptyRow, verdictIn};
+ghost use Rattle.type_info.specs.Verdict.{minUniform, okVerdict, arrayVerdict, shareVerdict, offsetVerdict, memberVerdict, distanceVerdict, distanceOk, afterDistance, isWithin, unsizedVerdict, spanVerdict};
 
 // naga's LayoutCompatibility: code 0 is Ok, with the alignment in ty.
 pub struct Verdict {
@@ -44,27 +44,30 @@ pub const MIN_UNIFORM: u32 = 16;
 
 pub const MIN_STORAGE: u32 = 1;
 
-// The verdict in words j to j + 4 of row k.
-fn verdict_at(rows: &[u32], k: u32, j: u32) -> Verdict
-    requires { ⌜ j ≤ 8 ⌝ }
-    ensures { λ r. ⌜ r ≡ verdictIn (now (rows .entry)) k j ⌝ }
+// A row of zeros, for a type that has none yet.
+fn empty_row() -> Row
+    ensures { λ r. ⌜ r ≡ emptyRow ⌝ }
 {
-    let code = rows::row_word(rows, k, j);
-    let ty = rows::row_word(rows, k, j + 1);
-    let index = rows::row_word(rows, k, j + 2);
-    let value = rows::row_word(rows, k, j + 3);
-    let bound = rows::row_word(rows, k, j + 4);
-    Verdict {
-        code,
-        ty,
-        index,
-        value,
-        bound,
+    let none = Verdict {
+        code: 0,
+        ty: 0,
+        index: 0,
+        value: 0,
+        bound: 0,
+    };
+    Row {
+        size: 0,
+        alignment: 0,
+        flags: 0,
+        uniform: none,
+        storage: none,
+        immediates: 0,
     }
 }
 
-// Row k; zeros past the rows. One test of the length serves a whole row.
+// Row k of whole rows; zeros past them.
 pub fn row_at(rows: &[u32], k: u32) -> Row
+    requires { ⌜ length (now rows) % 14 ≡ 0 ⌝ }
     ensures { λ r. ⌜ r ≡ rowsIn (now (rows .entry)) k ⌝ }
 {
     let at = (k as usize) * records::ROW_WORDS;
@@ -92,27 +95,7 @@ pub fn row_at(rows: &[u32], k: u32) -> Row
             immediates: rows[at + 13],
         };
     }
-    row_past(rows, k)
-}
-
-// The same word by word, for a row that is not whole.
-fn row_past(rows: &[u32], k: u32) -> Row
-    ensures { λ r. ⌜ r ≡ rowsIn (now (rows .entry)) k ⌝ }
-{
-    let size = rows::row_word(rows, k, 0);
-    let alignment = rows::row_word(rows, k, 1);
-    let flags = rows::row_word(rows, k, 2);
-    let uniform = verdict_at(rows, k, 3);
-    let storage = verdict_at(rows, k, 8);
-    let immediates = rows::row_word(rows, k, 13);
-    Row {
-        size,
-        alignment,
-        flags,
-        uniform,
-        storage,
-        immediates,
-    }
+    empty_row()
 }
 
 // Writes a row from `at` on.
@@ -201,6 +184,21 @@ pub fn share_verdict(shareable: bool, t: u32, so_far: Verdict) -> Verdict
     }
 }
 
+fn offset_verdict(i: u32, j: u32, offset: u32, so_far: u32, alignment: u32) -> Verdict
+    ensures { λ r. ⌜ r ≡ offsetVerdict i j offset «so_far» alignment ⌝ }
+{
+    if alignment::is_aligned(alignment, offset) {
+        return ok_verdict(alignment::larger(so_far, alignment));
+    }
+    Verdict {
+        code: 3,
+        ty: i,
+        index: j,
+        value: offset,
+        bound: alignment,
+    }
+}
+
 // check_member_layout: the offset against the member's own verdict alignment.
 pub fn member_verdict(i: u32, j: u32, offset: u32, so_far: Verdict, member: Verdict) -> Verdict
     ensures { λ r. ⌜ r ≡ memberVerdict i j offset «so_far» member ⌝ }
@@ -213,24 +211,39 @@ pub fn member_verdict(i: u32, j: u32, offset: u32, so_far: Verdict, member: Verd
     if member_code != 0 {
         return member;
     }
-    if alignment::is_aligned(member.ty, offset) {
-        let a = alignment::larger(so_far.ty, member.ty);
-        Verdict {
-            code: 0,
-            ty: a,
-            index: 0,
-            value: 0,
-            bound: 0,
-        }
-    } else {
-        Verdict {
-            code: 3,
-            ty: i,
-            index: j,
-            value: offset,
-            bound: member.ty,
-        }
+    offset_verdict(i, j, offset, so_far.ty, member.ty)
+}
+
+// The same of the verdict in words w to w + 4 of row k, read no further than needed.
+pub fn member_verdict_at(
+    rows: &[u32],
+    k: u32,
+    w: usize,
+    i: u32,
+    j: u32,
+    offset: u32,
+    so_far: Verdict,
+) -> Verdict
+    requires { ⌜ k * 14 + (w + 4) < length (now rows) ⌝ }
+    ensures { λ r. ⌜ r ≡ memberVerdict i j offset «so_far» (verdictIn (now (rows .entry)) k w) ⌝ }
+{
+    let code = so_far.code;
+    if code != 0 {
+        return so_far;
     }
+    let at = (k as usize) * records::ROW_WORDS;
+    let member_code = rows[at + w];
+    let alignment = rows[at + (w + 1)];
+    if member_code != 0 {
+        return Verdict {
+            code: member_code,
+            ty: alignment,
+            index: rows[at + (w + 2)],
+            value: rows[at + (w + 3)],
+            bound: rows[at + (w + 4)],
+        };
+    }
+    offset_verdict(i, j, offset, so_far.ty, alignment)
 }
 
 // The distance rule; Overflow where a sum or the difference of the Rust leaves 32 bits.

@@ -5,18 +5,33 @@ use mathlib.Core.Bool.{Bool, true, false}
 use mathlib.Core.List.{List}
 use Prim.Native.Nat.{ℕ}
 use native.Mathlib.Omega.{arith}
-use Rattle.records.specs.Result.{Result, err, ok, require, andThen}
+use Rattle.records.specs.Result.{Result, err, ok, pick, require, andThen}
 use Rattle.records.specs.declared.TypeInner.{TypeInner}
+use Rattle.records.specs.declared.TypeInner.the-variants.{Array, RuntimeArray}
+use Rattle.layouter.specs.declared.TypeLayout.{TypeLayout}
+use Rattle.flags.specs.Flags.{arrayFlags, runtimeArrayFlags}
 use Rattle.type_info.specs.declared.Row.{Row}
 use Rattle.members.specs.declared.Bounds.{Bounds}
 use Rattle.members.specs.declared.State.{State}
 use Rattle.members.specs.Members.{boundsAfter, uniformAfter, storageAfter, immediatesAfter, previousOf, stateAfter}
+use Rattle.valid.specs.Valid.{isArrayBase, arrayRow, judge, flagsOf, rowOf, uniformOf, storageOf, immediatesOf}
 
 -- what follows a value that a test lets through
 pub require-then {ℓ κ} : {A : Type ℓ} {B : Type κ} (b : Bool) (n m d : ℕ) (a : A) (f : A → Result B)
     → andThen (require b n m d (ok a)) f ≡ require b n m d (f a)
 require-then true n m d a f = refl
 require-then false n m d a f = refl
+
+-- an array is judged by its form
+pub array-judged : (c : ℕ) (inner : ℕ → TypeInner) (rows : ℕ → Row) (i : ℕ) (layout : TypeLayout) (base count stride : ℕ) (part : List ℕ) (t : Bool)
+    → require (isArrayBase (rows base .flags)) 15 0 0
+    (ok (arrayRow i stride (rows base) layout (pick t (arrayFlags (rows base .flags)) (runtimeArrayFlags (rows base .flags)))))
+    ≡ judge c inner rows i layout (pick t (Array base count stride) (RuntimeArray base stride)) part
+unfolding judge flagsOf rowOf uniformOf storageOf immediatesOf
+array-judged c inner rows i layout base count stride part true =
+    sym (require-then (isArrayBase (rows base .flags)) 15 0 0 (arrayFlags (rows base .flags)) _)
+array-judged c inner rows i layout base count stride part false =
+    sym (require-then (isArrayBase (rows base .flags)) 15 0 0 (runtimeArrayFlags (rows base .flags)) _)
 
 module _ (inner : ℕ → TypeInner) (rows : ℕ → Row) (i count span : ℕ) (part : List ℕ) (j : ℕ) where
   -- the state after j members, part by part

@@ -45,13 +45,20 @@ cooperativeFlags c kind width =
 abbrev pub vertexFlags : (c vertexReturn flags : ℕ) → Result ℕ
 vertexFlags c vertexReturn flags = require (eqb vertexReturn 0 || bit c rayHitVertexPosition) 8 0 rayHitVertexPosition (ok flags)
 
+-- a matrix is of floats
+abbrev pub matrixFlags : (c kind width : ℕ) → Result ℕ
+matrixFlags c kind width = require (eqb kind float) 11 0 0 (withWidth (checkWidth c kind width) (startingFlags matrixKind))
+
+abbrev pub rayQueryFlags : (c vertexReturn : ℕ) → Result ℕ
+rayQueryFlags c vertexReturn = capability c rayQuery (vertexFlags c vertexReturn (startingFlags rayQueryKind))
+
 unfoldable pub leafFlags : (c : ℕ) → Leaf → Result ℕ
 leafFlags c (Scalar kind width) = withWidth (checkWidth c kind width) (scalarFlags kind (startingFlags scalarKind))
 leafFlags c (Vector size kind width) = withWidth (checkWidth c kind width) (scalarFlags kind (startingFlags vectorKind))
-leafFlags c (Matrix columns rows kind width) = require (eqb kind float) 11 0 0 (withWidth (checkWidth c kind width) (startingFlags matrixKind))
+leafFlags c (Matrix columns rows kind width) = matrixFlags c kind width
 leafFlags c (CooperativeMatrix columns rows kind width role) = cooperativeFlags c kind width
 leafFlags c (Atomic kind width) = withWidth (atomicWidth c kind width) (startingFlags atomicKind)
-leafFlags c (RayQuery vertexReturn) = capability c rayQuery (vertexFlags c vertexReturn (startingFlags rayQueryKind))
+leafFlags c (RayQuery vertexReturn) = rayQueryFlags c vertexReturn
 
 -- ---- flags of what is no data
 -- dims 0 to 3 are D1, D2, D3 and Cube; class 2 is External. Number 22, and 8
@@ -230,6 +237,11 @@ arrayRow i stride base layout flags =
       storage = arrayVerdict minStorage i stride (base .alignment) (base .storage);
       immediates = base .immediates;
     }
+
+-- by the array's form: 0 for one of a count, else a runtime array
+abbrev pub arrayOf : (form i stride : ℕ) → (base : Row) → TypeLayout → Result Row
+arrayOf form i stride base layout =
+    require (isArrayBase (base .flags)) 15 0 0 (ok (arrayRow i stride base layout (pick (eqb form 0) (arrayFlags (base .flags)) (runtimeArrayFlags (base .flags)))))
 
 -- what one type's judgement, to be written from `at` on, makes of the lent words
 abbrev pub rowsWith : Judged → (at : ℕ) → List ℕ → List ℕ

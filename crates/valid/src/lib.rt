@@ -1,24 +1,26 @@
 // validate_type of naga's valid/type.rs, and the arena check.
 use layouter::TypeLayout;
 use members::Members;
-use records::Leaf;
 use records::NonData;
 use records::Outcome;
 use records::TypeInner;
+use records::Words;
 use type_info::Row;
 use width::Width;
 ghost use mathlib.Core.Path.{_≡_};
 ghost use Prim.Native.Nat.{ℕ, _+_, _*_, _≤_, _<_};
 ghost use lib.ListN.{length, take};
 ghost use Rattle.records.specs.Result.{err, ok, require, andThen};
-ghost use Rattle.records.specs.Record.{decoded, typeInner, structMembers, typeCount};
-ghost use Rattle.records.specs.Fields.{LeafBounds, InnerBounds};
+ghost use Rattle.records.specs.Record.{decoded, innerIn, typeInner, structMembers, typeCount, atomicKind, valuePointerKind, samplerKind};
+ghost use Rattle.records.specs.Fields.{InnerBounds};
+ghost use Rattle.alignment.specs.Alignment.{vectorAlignment};
+ghost use Rattle.flags.specs.Flags.{startingFlags, scalarFlags, pointerFlags};
 ghost use Rattle.records.specs.Table.{firstRefusal};
 ghost use Rattle.records.specs.declared.TypeInner.the-variants.{Struct, Other};
 ghost use Rattle.layouter.specs.Layouter.{layoutsIn, layoutRows, rowsAfter};
-ghost use Rattle.width.specs.Width.{widthResult};
+ghost use Rattle.width.specs.Width.{widthResult, checkWidth, atomicWidth, immediatesWord};
 ghost use Rattle.type_info.specs.TypeInfo.{rowsIn};
-ghost use Rattle.valid.specs.Valid.{isFlat, cubeAllowed, isExternalForm, externalAllowed, isBindingBase, cooperativeFlags, pointerTo, accelerationFlags, bindingArrayOf, leafFlags, imageFlags, isStruct, isExternalImage, nonDataFlags, isArrayBase, leafVerdictAlignment, leafImmediates, judge, flaggedResult, judgedResult, plainRow, arrayRow, rowsWith, withWidth, vertexFlags};
+ghost use Rattle.valid.specs.Valid.{isFlat, cubeAllowed, isExternalForm, externalAllowed, isBindingBase, cooperativeFlags, pointerTo, accelerationFlags, bindingArrayOf, matrixFlags, rayQueryFlags, imageFlags, isStruct, isExternalImage, isArrayBase, arrayOf, judge, flaggedResult, judgedResult, plainRow, arrayRow, rowsWith, withWidth, vertexFlags};
 ghost use Rattle.valid.specs.Arena.{judgedAt, arenaRows, arenaAnswer, arenaWords};
 
 // The flags of a type, or its refusal.
@@ -107,47 +109,38 @@ fn vertex_flags(capabilities: u32, vertex_return: u32, flags: u32) -> Flagged
     missing(width::RAY_HIT_VERTEX_POSITION)
 }
 
-fn leaf_flags(capabilities: u32, leaf: Leaf) -> Flagged
-    ensures { λ r. ⌜ flaggedResult r ≡ leafFlags capabilities leaf ⌝ }
+fn matrix_flags(capabilities: u32, kind: u32, width: u32) -> Flagged
+    ensures { λ r. ⌜ flaggedResult r ≡ matrixFlags capabilities kind width ⌝ }
 {
-    match leaf {
-        Leaf::Scalar(kind, width) => with_width(
-            width::check_width(capabilities, kind, width),
-            flags::scalar_flags(kind, flags::starting_flags(flags::SCALAR_KIND)),
-        ),
-        Leaf::Vector(_, kind, width) => with_width(
-            width::check_width(capabilities, kind, width),
-            flags::scalar_flags(kind, flags::starting_flags(flags::VECTOR_KIND)),
-        ),
-        Leaf::Matrix(_, _, kind, width) => {
-            if kind != width::FLOAT {
-                return refused(11);
-            }
-            with_width(
-                width::check_width(capabilities, kind, width),
-                flags::starting_flags(flags::MATRIX_KIND),
-            )
-        }
-        Leaf::CooperativeMatrix(_, _, kind, width, _) => cooperative_flags(
-            capabilities,
-            kind,
-            width,
-        ),
-        Leaf::Atomic(kind, width) => with_width(
-            width::atomic_width(capabilities, kind, width),
-            flags::starting_flags(flags::ATOMIC_KIND),
-        ),
-        Leaf::RayQuery(vertex_return) => {
-            if flags::capable(capabilities, width::RAY_QUERY) {
-                return vertex_flags(
-                    capabilities,
-                    vertex_return,
-                    flags::starting_flags(flags::RAY_QUERY_KIND),
-                );
-            }
-            missing(width::RAY_QUERY)
-        }
+    if kind != width::FLOAT {
+        return refused(11);
     }
+    with_width(
+        width::check_width(capabilities, kind, width),
+        flags::starting_flags(flags::MATRIX_KIND),
+    )
+}
+
+fn atomic_flags(capabilities: u32, kind: u32, width: u32) -> Flagged
+    ensures { λ r. ⌜ flaggedResult r ≡ withWidth (atomicWidth capabilities kind width) (startingFlags atomicKind) ⌝ }
+{
+    with_width(
+        width::atomic_width(capabilities, kind, width),
+        flags::starting_flags(flags::ATOMIC_KIND),
+    )
+}
+
+fn ray_query_flags(capabilities: u32, vertex_return: u32) -> Flagged
+    ensures { λ r. ⌜ flaggedResult r ≡ rayQueryFlags capabilities «vertex_return» ⌝ }
+{
+    if flags::capable(capabilities, width::RAY_QUERY) {
+        return vertex_flags(
+            capabilities,
+            vertex_return,
+            flags::starting_flags(flags::RAY_QUERY_KIND),
+        );
+    }
+    missing(width::RAY_QUERY)
 }
 
 // Number 22: a D3 image is not arrayed.
@@ -295,60 +288,28 @@ fn acceleration_flags(capabilities: u32, vertex_return: u32) -> Flagged
     missing(width::RAY_QUERY)
 }
 
-fn non_data_flags(capabilities: u32, types: &[u32], rows: &[u32], o: NonData) -> Flagged
-    ensures { λ r. ⌜ flaggedResult r ≡ nonDataFlags capabilities (typeInner (now (types .entry))) (rowsIn (now (rows .entry))) o ⌝ }
+fn sampler_flags() -> Flagged
+    ensures { λ r. ⌜ flaggedResult r ≡ ok (startingFlags samplerKind) ⌝ }
 {
-    match o {
-        NonData::Pointer(base, space) => pointer_to(rows::row_word(rows, base, 2), space),
-        NonData::ValuePointer(kind, width, space) => with_width(
-            width::check_width(capabilities, kind, width),
-            flags::pointer_flags(space, flags::starting_flags(flags::VALUE_POINTER_KIND)),
-        ),
-        NonData::Image(dim, arrayed, class) => image_flags(capabilities, dim, arrayed, class),
-        NonData::Sampler => Flagged::Flags(flags::starting_flags(flags::SAMPLER_KIND)),
-        NonData::AccelerationStructure(vertex_return) => acceleration_flags(
-            capabilities,
-            vertex_return,
-        ),
-        NonData::BindingArray(base, form, _) => binding_array_of(
-            records::type_inner(types, base),
-            rows::row_word(rows, base, 2),
-            form,
-        ),
-    }
+    Flagged::Flags(flags::starting_flags(flags::SAMPLER_KIND))
 }
 
-fn leaf_verdict_alignment(leaf: Leaf) -> u32
-    requires { ⌜ LeafBounds leaf ⌝ }
-    ensures { λ r. ⌜ r ≡ leafVerdictAlignment leaf ⌝ }
+fn value_pointer_flags(capabilities: u32, kind: u32, width: u32, space: u32) -> Flagged
+    ensures { λ r. ⌜ flaggedResult r ≡ withWidth (checkWidth capabilities kind width) (pointerFlags space (startingFlags valuePointerKind)) ⌝ }
 {
-    match leaf {
-        Leaf::Scalar(_, width) => width,
-        Leaf::Vector(size, _, width) => {
-            let product = alignment::vector_alignment(size) * width;
-            product
-        }
-        Leaf::Matrix(_, rows, _, width) => {
-            let product = alignment::vector_alignment(rows) * width;
-            product
-        }
-        Leaf::CooperativeMatrix(_, _, _, width, _) => width,
-        Leaf::Atomic(_, width) => width,
-        Leaf::RayQuery(_) => 1,
-    }
+    with_width(
+        width::check_width(capabilities, kind, width),
+        flags::pointer_flags(space, flags::starting_flags(flags::VALUE_POINTER_KIND)),
+    )
 }
 
-fn leaf_immediates(leaf: Leaf) -> u32
-    ensures { λ r. ⌜ r ≡ leafImmediates leaf ⌝ }
+// The alignment of a column of n components.
+fn column(n: u32, width: u32) -> u32
+    requires { ⌜ width ≤ 255 ⌝ }
+    ensures { λ r. ⌜ r ≡ vectorAlignment n * width ⌝ }
 {
-    match leaf {
-        Leaf::Scalar(kind, width) => width::immediates_word(kind, width),
-        Leaf::Vector(_, kind, width) => width::immediates_word(kind, width),
-        Leaf::Matrix(_, _, kind, width) => width::immediates_word(kind, width),
-        Leaf::CooperativeMatrix(_, _, _, _, _) => 0,
-        Leaf::Atomic(_, _) => 0,
-        Leaf::RayQuery(_) => 0,
-    }
+    let product = alignment::vector_alignment(n) * width;
+    product
 }
 
 // A row with one alignment in both verdicts.
@@ -421,16 +382,35 @@ fn array_row(i: u32, stride: u32, base: Row, layout: TypeLayout, flags: u32) -> 
     }
 }
 
+// An array, or a runtime array where the form is not 0.
+fn array_of(rows: &[u32], i: u32, layout: TypeLayout, base: u32, form: u32, stride: u32) -> Judged
+    requires { ⌜ length (now rows) ≡ i * 14 ⌝ }
+    ensures { λ r. ⌜ judgedResult r ≡ arrayOf form i stride (rowsIn (now (rows .entry)) base) layout ⌝ }
+{
+    let row = type_info::row_at(rows, base);
+    if form == 0 {
+        return array_row(i, stride, row, layout, flags::array_flags(row.flags));
+    }
+    array_row(
+        i,
+        stride,
+        row,
+        layout,
+        flags::runtime_array_flags(row.flags),
+    )
+}
+
 fn struct_row(
     types: &[u32],
+    members: &[u32],
     rows: &[u32],
     i: u32,
     layout: TypeLayout,
-    part: &[u32],
     count: u32,
     span: u32,
 ) -> Judged
-    ensures { λ r. ⌜ judgedResult r ≡ judge 0 (typeInner (now (types .entry))) (rowsIn (now (rows .entry))) i layout (Struct count span) (now (part .entry)) ⌝ }
+    requires { ⌜ length (now rows) ≡ i * 14 ⌝ }
+    ensures { λ r. ⌜ judgedResult r ≡ judge 0 (typeInner (now (types .entry))) (rowsIn (now (rows .entry))) i layout (Struct count span) (structMembers (now (types .entry)) (now (members .entry)) i) ⌝ }
 {
     if count == 0 {
         return Judged::Refused {
@@ -439,6 +419,7 @@ fn struct_row(
             detail: 0,
         };
     }
+    let part = records::struct_members(types, members, i);
     match members::members_of(types, rows, i, part, count, span) {
         Members::Taken(state) => {
             let bounds = state.bounds;
@@ -461,51 +442,95 @@ fn struct_row(
     }
 }
 
-// The row of type i; rows has those of the types before it, part the struct's member rows.
+// A scalar or a vector, whose verdicts have this alignment.
+fn numeric_row(
+    capabilities: u32,
+    kind: usize,
+    layout: TypeLayout,
+    scalar_kind: u32,
+    width: u32,
+    alignment: u32,
+) -> Judged
+    requires { ⌜ kind < 14 ⌝ }
+    ensures { λ r. ⌜ judgedResult r ≡ andThen (withWidth (checkWidth capabilities «scalar_kind» width) (scalarFlags «scalar_kind» (startingFlags kind))) (λ f. ok (plainRow layout alignment (immediatesWord «scalar_kind» width) f)) ⌝ }
+{
+    let flagged = with_width(
+        width::check_width(capabilities, scalar_kind, width),
+        flags::scalar_flags(scalar_kind, flags::starting_flags(kind)),
+    );
+    plain_row(
+        flagged,
+        layout,
+        alignment,
+        width::immediates_word(scalar_kind, width),
+    )
+}
+
+fn matrix_row(
+    capabilities: u32,
+    layout: TypeLayout,
+    kind: u32,
+    width: u32,
+    alignment: u32,
+) -> Judged
+    ensures { λ r. ⌜ judgedResult r ≡ andThen (matrixFlags capabilities kind width) (λ f. ok (plainRow layout alignment (immediatesWord kind width) f)) ⌝ }
+{
+    plain_row(
+        matrix_flags(capabilities, kind, width),
+        layout,
+        alignment,
+        width::immediates_word(kind, width),
+    )
+}
+
+fn binding_array_row(
+    types: &[u32],
+    rows: &[u32],
+    layout: TypeLayout,
+    base: u32,
+    form: u32,
+) -> Judged
+    ensures { λ r. ⌜ judgedResult r ≡ andThen (bindingArrayOf (typeInner (now (types .entry)) base) (rowsIn (now (rows .entry)) base .flags) form) (λ f. ok (plainRow layout 1 0 f)) ⌝ }
+{
+    let inner = records::type_inner(types, base);
+    let flags = rows::row_word(rows, base, 2);
+    plain_row(binding_array_of(inner, flags, form), layout, 1, 0)
+}
+
+// The row of type i, whose record has the words w; rows has those of the types before it.
 fn judge(
     capabilities: u32,
     types: &[u32],
+    members: &[u32],
     rows: &[u32],
     i: u32,
     layout: TypeLayout,
-    inner: TypeInner,
-    part: &[u32],
+    w: Words,
 ) -> Judged
-    requires { ⌜ InnerBounds inner ⌝ }
-    ensures { λ r. ⌜ judgedResult r ≡ judge capabilities (typeInner (now (types .entry))) (rowsIn (now (rows .entry))) i layout inner (now (part .entry)) ⌝ }
+    requires { ⌜ InnerBounds (innerIn w) ⌝ }
+    requires { ⌜ length (now rows) ≡ i * 14 ⌝ }
+    ensures { λ r. ⌜ judgedResult r ≡ judge capabilities (typeInner (now (types .entry))) (rowsIn (now (rows .entry))) i layout (innerIn w) (structMembers (now (types .entry)) (now (members .entry)) i) ⌝ }
 {
-    match inner {
-        TypeInner::Plain(leaf) => plain_row(
-            leaf_flags(capabilities, leaf),
-            layout,
-            leaf_verdict_alignment(leaf),
-            leaf_immediates(leaf),
-        ),
-        TypeInner::Array {
-            base,
-            count: _,
-            stride,
-        } => {
-            let row = type_info::row_at(rows, base);
-            array_row(i, stride, row, layout, flags::array_flags(row.flags))
-        }
-        TypeInner::RuntimeArray { base, stride } => {
-            let row = type_info::row_at(rows, base);
-            array_row(
-                i,
-                stride,
-                row,
-                layout,
-                flags::runtime_array_flags(row.flags),
-            )
-        }
-        TypeInner::Struct { count, span } => struct_row(types, rows, i, layout, part, count, span),
-        TypeInner::Other(o) => plain_row(
-            non_data_flags(capabilities, types, rows, o),
-            layout,
-            1,
-            0,
-        ),
+    let kind = w.kind;
+    let a = w.a;
+    let b = w.b;
+    let c = w.c;
+    let d = w.d;
+    match kind {
+        0 => numeric_row(capabilities, flags::SCALAR_KIND, layout, a, b, b),
+        1 => numeric_row(capabilities, flags::VECTOR_KIND, layout, b, c, column(a, c)),
+        2 => matrix_row(capabilities, layout, c, d, column(b, d)),
+        3 => plain_row(cooperative_flags(capabilities, c, d), layout, d, 0),
+        4 => plain_row(atomic_flags(capabilities, a, b), layout, b, 0),
+        5 => plain_row(pointer_to(rows::row_word(rows, a, 2), b), layout, 1, 0),
+        6 => plain_row(value_pointer_flags(capabilities, a, b, c), layout, 1, 0),
+        7 => array_of(rows, i, layout, a, b, d),
+        8 => struct_row(types, members, rows, i, layout, b, c),
+        9 => plain_row(image_flags(capabilities, a, b, c), layout, 1, 0),
+        10 => plain_row(sampler_flags(), layout, 1, 0),
+        11 => plain_row(acceleration_flags(capabilities, a), layout, 1, 0),
+        12 => plain_row(ray_query_flags(capabilities, a), layout, 1, 0),
+        _ => binding_array_row(types, rows, layout, a, b),
     }
 }
 
@@ -517,13 +542,12 @@ fn judge_at(capabilities: u32, types: &[u32], members: &[u32], rows: &mut [u32],
     ensures { λ r. ⌜ now (rows .exit) ≡ rowsWith r (i * 14) (now (rows .entry)) ⌝ }
 {
     let at = (i as usize) * records::ROW_WORDS;
-    let inner = records::type_inner(types, i);
-    let part = records::struct_members(types, members, i);
+    let w = records::record_words(types, i);
     let layout = TypeLayout {
         size: rows::row_word(rows, i, 0),
         alignment: rows::row_word(rows, i, 1),
     };
-    let judged = judge(capabilities, types, &rows[..at], i, layout, inner, part);
+    let judged = judge(capabilities, types, members, &rows[..at], i, layout, w);
     match judged {
         Judged::Made(row) => {
             type_info::put(rows, at, row);

@@ -18,10 +18,10 @@ by-own own so-far r kept replaced = go (eqb own 0) refl
     go false e = replaced (eqb-false own 0 e)
 
 returns : tie.Need-returns
-returns c = by-own (c .before .args .row .immediates) (c .before .args .so-far) _ (λ e. omega (arith, e)) (λ n. omega (arith, n))
+returns c = by-own (c .before .args .own) (c .before .args .so-far) _ (λ e. omega (arith, e)) (λ n. omega (arith, n))
 
 returns-2 : tie.Need-returns-2
-returns-2 c = by-own (c .before .args .row .immediates) (c .before .args .so-far) _ (λ e. omega (arith, e)) (λ n. omega (arith, n))
+returns-2 c = by-own (c .before .args .own) (c .before .args .so-far) _ (λ e. omega (arith, e)) (λ n. omega (arith, n))
 
 pub immediates-of-spec : {M : Type 1} → statement M
 immediates-of-spec =

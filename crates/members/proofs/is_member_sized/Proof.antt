@@ -5,13 +5,12 @@ use Rattle.members.proofs.is_member_sized.Statement.{statement}
 use Rattle.members.proofs.is_member_sized.Tie as tie
 
 returns : tie.Need-returns
-returns c = rw (c .is-array .ensures, c .before .is-sized .ensures, add-one (c .before .before .args .j)) refl
+returns c = rw (c .is-sized .ensures, add-one (c .before .args .j)) refl
 
 pub is-member-sized-spec : {M : Type 1} → statement M
 is-member-sized-spec =
     tie.close
     (tie.spec
     (λ c. search needs)
-    (λ c κs. search needs)
     (λ c κs. search needs)
     returns)

@@ -1,25 +1,25 @@
 use borrow.Author.Needs.{needs}
 use mathlib.Core.Path.{refl, sym, _∙_}
 use Rattle.type_info.specs.Verdict.{isWithin}
-use Rattle.members.specs.Members.{memberStep, memberBounds}
+use Rattle.members.specs.Members.{memberStep}
 use Rattle.members.proofs.StateLaws.{bounds-within, uniform-by}
 use Rattle.members.proofs.member.Statement.{statement}
 use Rattle.members.proofs.member.Tie as tie
 
 returns : tie.Need-returns
-unfolding memberStep memberBounds
-returns c =
-    let a = c .before .before .before .before .before .before .before .before .before .before .before .before .before .args in
-    let d = c .before .before .before .before .before .before .before .before .before .distance-to in
-    let by = rw (c .before .before .before .before .before .bounds .given .1, c .before .before .before .before .before .before .before .before .is-within .ensures) at (c .before .before .before .before .before .before .before .member-bounds .ensures) in
-    let told = bounds-within (a .count) (a .span) (isWithin (d .result)) (a .inner) (a .offset) (a .j) (a .row) (a .state .bounds) (c .before .before .before .before .before .bounds .given .0 .0) (sym by) in
+unfolding memberStep
+returns c = 
+    let a = c .before .before .before .before .before .before .before .before .before .before .before .before .args in
+    let d = c .before .before .before .before .before .before .before .before .distance-to in
+    let by = rw (c .before .before .before .before .bounds .given .1, c .before .before .before .before .before .before .before .is-within .ensures) at (c .before .before .before .before .before .before .member-bounds .ensures) in
+    let told = bounds-within (a .count) (a .span) (isWithin (d .result)) (a .array) (a .offset) (a .j) (a .row) (a .state .bounds) (c .before .before .before .before .bounds .given .0 .0) (sym by) in
     let taken = rw (d .ensures .0) at by in
     let uniform = uniform-by (d .result) (a .state .previous) (a .i) (a .j) (a .t) (a .offset) (a .row) (a .state .uniform) (λ v. d .ensures .1 (a .i) (a .j) v told) in
-    rw (← taken, c .struct-at .ensures, c .before .immediates-of .ensures, c .before .before .storage-of .ensures, c .before .before .before .uniform-of .ensures, uniform) refl
+    rw (← taken, c .immediates-of .ensures, c .before .storage-of .ensures, c .before .before .uniform-of .ensures, uniform) refl
 
 returns-2 : tie.Need-returns-2
-unfolding memberStep memberBounds
-returns-2 c =
+unfolding memberStep
+returns-2 c = 
     let within = c .before .before .before .before .is-within .ensures ∙ c .before .before .before .before .before .distance-to .ensures .0 in
     let refused = rw (c .before .number .given .1, within) at (c .before .before .before .member-bounds .ensures) in
     rw (← refused) refl
@@ -32,7 +32,6 @@ member-spec =
     (λ c κs. search needs)
     (λ c κs. search needs)
     (λ c. search needs)
-    (λ c κs. search needs)
     (λ c κs. search needs)
     (λ c κs. search needs)
     (λ c κs. search needs)

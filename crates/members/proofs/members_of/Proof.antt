@@ -1,6 +1,6 @@
 -- `members::members_of` meets its contract. The invariant: state is what the definition has after j members. Assumes nothing.
 use borrow.Author.Needs.{needs}
-use mathlib.Core.Path.{_≡_, refl, sym, _∙_}
+use mathlib.Core.Path.{_≡_, sym, _∙_}
 use Prim.Native.Nat.{suc, _≤_, _-_}
 use native.Mathlib.Nat.{le-antisymm}
 use native.Mathlib.Numerals.{add-one}
@@ -9,7 +9,7 @@ use denote.Ref.{now}
 use Rattle.records.specs.Result.{ok}
 use Rattle.records.specs.Record.{typeInner}
 use Rattle.type_info.specs.TypeInfo.{rowsIn}
-use Rattle.members.specs.Members.{stateAfter, boundsAfter, uniformAfter, storageAfter, immediatesAfter, previousOf}
+use Rattle.members.specs.Members.{stateAfter}
 use Rattle.members.proofs.StateLaws.{state-step, state-refused}
 use Rattle.members.proofs.members_of.Statement.{statement}
 use Rattle.members.proofs.members_of.Tie as tie
@@ -21,31 +21,31 @@ abbrev μ-loop : tie.MeasureT-loop
 μ-loop types rows i part count span state₀ j₀ state j = count - j
 
 loop-holds : tie.Need-loop-holds Inv-loop μ-loop
-unfolding stateAfter boundsAfter uniformAfter storageAfter immediatesAfter previousOf
-loop-holds c = (search needs, rw (c .start .ensures) refl)
+loop-holds c = c .before .plain-members .ensures
+
+row-at-requires : tie.Need-row-at-requires Inv-loop μ-loop
+row-at-requires c κs = omega (arith, c .before .before .before .before .before .before .before .before .before .before .before .pre)
 
 returns : tie.Need-returns Inv-loop μ-loop
 returns c =
-    let m = c .before .before .before in
-    let l = c .before .before .before .before .before .before .before .before .before .loop in
-    let a = c .before .before .before .before .before .before .before .before .before .before .before .before .before .before .args in
-    let step = rw (m .before .row-at .ensures, m .before .before .type-inner .ensures, m .before .before .before .member-offset .ensures, m .before .before .before .before .member-type .ensures) at (m .member .ensures) in
+    let l = c .before .before .before .before .before .before .before .before .before .before .loop in
+    let a = c .before .before .before .before .before .before .before .before .before .before .before .before .before .before .before .before .args in
+    let step = rw (c .before .before .before .before .row-at .ensures, c .before .before .before .before .before .struct-at .ensures, c .before .before .before .before .before .before .is-array .ensures, c .before .before .before .before .before .before .before .member-offset .ensures, c .before .before .before .before .before .before .before .before .member-type .ensures) at (c .before .before .before .member .ensures) in
     let refused = rw (c .before .number .given .1) at (state-step (typeInner (now (a .types))) (rowsIn (now (a .rows))) (a .i) (a .count) (a .span) (now (a .part)) (l .j) (l .state) (l .inv .1) ∙ sym step) in
-    sym (state-refused (typeInner (now (a .types))) (rowsIn (now (a .rows))) (a .i) (a .count) (a .span) (now (a .part)) (suc (l .j)) refused (a .count) (c .before .before .before .before .before .before .before .before .loop-test .taken))
+    sym (state-refused (typeInner (now (a .types))) (rowsIn (now (a .rows))) (a .i) (a .count) (a .span) (now (a .part)) (suc (l .j)) refused (a .count) (c .before .before .before .before .before .before .before .before .before .loop-test .taken))
 
 add-j : tie.Need-add-j Inv-loop μ-loop
-add-j c = omega (arith, c .before .before .before .before .before .before .before .before .loop-test .taken, c .before .before .before .before .before .before .before .before .before .before .before .before .before .before .fits .count)
+add-j c = omega (arith, c .before .before .before .before .before .before .before .before .before .loop-test .taken, c .before .before .before .before .before .before .before .before .before .before .before .before .before .before .before .before .fits .count)
 
 loop-less : tie.Need-loop-less Inv-loop μ-loop
-loop-less c = omega (arith, c .before .before .before .before .before .before .before .before .loop-test .taken)
+loop-less c = omega (arith, c .before .before .before .before .before .before .before .before .before .loop-test .taken)
 
 loop-again : tie.Need-loop-again Inv-loop μ-loop
 loop-again c =
-    let m = c .before .before .before in
-    let l = c .before .before .before .before .before .before .before .before .before .loop in
-    let a = c .before .before .before .before .before .before .before .before .before .before .before .before .before .before .args in
-    let step = rw (m .before .row-at .ensures, m .before .before .type-inner .ensures, m .before .before .before .member-offset .ensures, m .before .before .before .before .member-type .ensures) at (m .member .ensures) in
-    (omega (arith, c .before .before .before .before .before .before .before .before .loop-test .taken), rw add-one (rw (c .before .next .given .1) at (state-step (typeInner (now (a .types))) (rowsIn (now (a .rows))) (a .i) (a .count) (a .span) (now (a .part)) (l .j) (l .state) (l .inv .1) ∙ sym step)))
+    let l = c .before .before .before .before .before .before .before .before .before .before .loop in
+    let a = c .before .before .before .before .before .before .before .before .before .before .before .before .before .before .before .before .args in
+    let step = rw (c .before .before .before .before .row-at .ensures, c .before .before .before .before .before .struct-at .ensures, c .before .before .before .before .before .before .is-array .ensures, c .before .before .before .before .before .before .before .member-offset .ensures, c .before .before .before .before .before .before .before .before .member-type .ensures) at (c .before .before .before .member .ensures) in
+    (omega (arith, c .before .before .before .before .before .before .before .before .before .loop-test .taken), rw add-one (rw (c .before .after .given .1) at (state-step (typeInner (now (a .types))) (rowsIn (now (a .rows))) (a .i) (a .count) (a .span) (now (a .part)) (l .j) (l .state) (l .inv .1) ∙ sym step)))
 
 returns-2 : tie.Need-returns-2 Inv-loop μ-loop
 returns-2 c =
@@ -64,6 +64,7 @@ members-of-spec =
     (λ c κs. search needs)
     (λ c κs. search needs)
     (λ c κs. search needs)
+    row-at-requires
     (λ c κs. search needs)
     (λ c. search needs)
     (λ c. search needs)

@@ -1,5 +1,4 @@
 use borrow.Author.Needs.{needs}
-use mathlib.Core.Path.{refl, sym, _∙_}
 use borrow.Author.Tests.{ne-eqb}
 use Rattle.type_info.specs.Verdict.{memberVerdict}
 use Rattle.type_info.proofs.member_verdict.Statement.{statement}
@@ -15,11 +14,7 @@ returns-2 c = rw (c .before .if1 .left, ne-eqb _ 0 (c .if2 .taken))
 
 returns-3 : tie.Need-returns-3
 unfolding memberVerdict
-returns-3 c = rw (c .before .before .before .before .if1 .left, c .before .before .before .if2 .left, sym (c .before .before .is-aligned .ensures) ∙ c .before .if3 .taken, c .larger .ensures) refl
-
-returns-4 : tie.Need-returns-4
-unfolding memberVerdict
-returns-4 c = rw (c .before .before .before .if1 .left, c .before .before .if2 .left, sym (c .before .is-aligned .ensures) ∙ c .if3 .left) refl
+returns-3 c = rw (c .before .before .if1 .left, c .before .if2 .left) (c .offset-verdict .ensures)
 
 pub member-verdict-spec : {M : Type 1} → statement M
 member-verdict-spec =
@@ -28,6 +23,4 @@ member-verdict-spec =
     returns
     returns-2
     (λ c κs. search needs)
-    (λ c κs. search needs)
-    returns-3
-    returns-4)
+    returns-3)

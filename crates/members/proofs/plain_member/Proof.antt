@@ -1,0 +1,58 @@
+use borrow.Author.Needs.{needs}
+use mathlib.Core.Path.{_≡_, refl, sym, _∙_}
+use Prim.Native.Nat.{_+_, _*_}
+use native.Mathlib.Nat.{add-zero}
+use native.Mathlib.Omega.{arith}
+use denote.Ref.{now}
+use borrow.Author.Tests.{not-false}
+use Rattle.records.specs.Record.{typeInner}
+use Rattle.type_info.specs.TypeInfo.{rowsIn}
+use Rattle.members.specs.Members.{isArray, structAt}
+use Rattle.members.proofs.StateLaws.{plain-step}
+use Rattle.members.proofs.KindLaws.{enough}
+use Rattle.members.proofs.plain_member.Statement.{statement}
+use Rattle.members.proofs.plain_member.Tie as tie
+
+returns-5 : tie.Need-returns-5
+unfolding rowsIn
+returns-5 c = λ count.
+    let a = c .before .before .before .before .before .before .before .before .before .before .before .before .before .before .before .before .before .before .before .before .before .before .args in
+    let row = rowsIn (now (a .rows)) (a .t) in
+    let inner = typeInner (now (a .types)) (a .t) in
+    let plain = rw (not-false (c .before .before .before .before .before .before .before .before .before .before .before .before .is-plain .result) (c .before .before .before .before .before .before .before .before .before .before .before .if1 .left)) at (c .before .before .before .before .before .before .before .before .before .before .before .before .is-plain .ensures) in
+    let end : c .before .before .before .before .before .before .before .before .before .before .before .before .before .end-of .result ≡ a .offset + row .size = rw (add-zero (a .t * 14)) (c .before .before .before .before .before .before .before .before .before .before .before .before .before .end-of .ensures) in
+    let inside = rw end at (c .before .before .before .before .before .before .before .before .if3 .left) in
+    let far = enough (c .before .before .before .before .before .before .before .distance-to .result) (sym (c .before .before .before .before .before .before .is-enough .ensures) ∙ not-false (c .before .before .before .before .before .before .is-enough .result) (c .before .before .before .before .before .if4 .left)) in
+    let within = rw far at (c .before .before .before .before .before .before .before .distance-to .ensures .0) in
+    let apart = rw far at (c .before .before .before .before .before .before .before .distance-to .ensures .1) in
+    let step = plain-step (a .i) count (a .span) (a .j) (a .t) (a .offset) (isArray inner) (structAt inner (a .offset)) row (a .state) plain (c .before .before .before .before .before .before .before .before .before .if2 .left) inside (omega (arith, c .before .before .before .before .before .before .before .before .before .before .before .before .before .before .before .before .before .before .before .before .before .before .fits .span)) (sym within) (λ v. sym (apart (a .i) (a .j) v refl)) in
+    rw (c .struct-at .ensures, c .before .immediates-of .ensures, c .before .before .member-verdict-at2 .ensures, c .before .before .before .member-verdict-at .ensures, c .before .before .before .before .both .ensures, end) step
+
+pub plain-member-spec : {M : Type 1} → statement M
+plain-member-spec =
+    tie.close
+    (tie.spec
+    (λ c. search needs)
+    (λ c. search needs)
+    (λ c. search needs)
+    (λ c. search needs)
+    (λ c. search needs)
+    (λ c. search needs)
+    (λ c. search needs)
+    (λ c. search needs)
+    (λ c. search needs)
+    (λ c κs. search needs)
+    (λ c κs. search needs)
+    (λ c. search needs)
+    (λ c. search needs)
+    (λ c. search needs)
+    (λ c κs. search needs)
+    (λ c κs. search needs)
+    (λ c. search needs)
+    (λ c. search needs)
+    (λ c κs. search needs)
+    (λ c κs. search needs)
+    (λ c κs. search needs)
+    (λ c κs. search needs)
+    (λ c κs. search needs)
+    returns-5)

@@ -1,0 +1,47 @@
+use borrow.Author.Needs.{needs}
+use mathlib.Core.Path.{refl}
+use borrow.Author.Tests.{ne-eqb}
+use Rattle.type_info.specs.Verdict.{memberVerdict}
+use Rattle.type_info.proofs.member_verdict_at.Statement.{statement}
+use Rattle.type_info.proofs.member_verdict_at.Tie as tie
+
+returns : tie.Need-returns
+unfolding memberVerdict
+returns c = rw (ne-eqb _ 0 (c .if1 .taken))
+
+returns-2 : tie.Need-returns-2
+unfolding memberVerdict
+returns-2 c = rw (c .before .before .before .before .before .before .if1 .left, ne-eqb _ 0 (c .before .before .before .if2 .taken)) refl
+
+returns-3 : tie.Need-returns-3
+unfolding memberVerdict
+returns-3 c = rw (c .before .before .before .before .if1 .left, c .before .if2 .left) (c .offset-verdict .ensures)
+
+pub member-verdict-at-spec : {M : Type 1} → statement M
+member-verdict-at-spec =
+    tie.close
+    (tie.spec
+    returns
+    (λ c. search needs)
+    (λ c. search needs)
+    (λ c. search needs)
+    (λ c. search needs)
+    (λ c. search needs)
+    (λ c. search needs)
+    (λ c. search needs)
+    (λ c. search needs)
+    (λ c. search needs)
+    (λ c. search needs)
+    (λ c. search needs)
+    (λ c. search needs)
+    (λ c. search needs)
+    (λ c. search needs)
+    (λ c. search needs)
+    (λ c. search needs)
+    (λ c. search needs)
+    (λ c. search needs)
+    (λ c. search needs)
+    (λ c. search needs)
+    returns-2
+    (λ c κs. search needs)
+    returns-3)
