@@ -1,4 +1,4 @@
--- Laws of layouts: bounds of a leaf's alignment, the loop over members, the loop over types.
+-- Laws of layouts: one type, the loop over members, the loop over types.
 -- Assumes nothing.
 use mathlib.Core.Path.{_≡_, refl, sym, ap, subst, fun-ext, _∙_}
 use mathlib.Core.Bool.{Bool, true, false}
@@ -8,39 +8,62 @@ use native.Mathlib.Omega.{arith}
 use native.Mathlib.Nat.{le-trans}
 use native.Mathlib.Numerals.{add-one}
 use native.Mathlib.Decide.{decLe, le-ind}
+use lib.Dec.{eqb}
 use lib.ListN.{length, getD, take, drop, List·getD-eq-default}
 use borrow.Author.Tests.{lt-ltb, le-ltb}
-use Rattle.records.specs.Result.{Result, err, ok, andThen, require}
-use Rattle.records.specs.Record.{Decoded, decoded, memberType, typeInner, structMembers}
-use Rattle.records.specs.Fields.{LeafBounds, rowWords}
+use Rattle.records.specs.Result.{Result, err, ok, pick, andThen, require}
+use Rattle.records.specs.Record.{Decoded, decoded, memberType, typeInner, structMembers, imageKind, samplerKind, accelerationStructureKind, rayQueryKind}
+use Rattle.records.specs.Fields.{rowWords}
 use Rattle.records.specs.Table.{table, resultAt, valueAt, outcomeAt, firstRefusal, flat}
-use Rattle.records.specs.declared.Leaf.{Leaf}
-use Rattle.records.specs.declared.Leaf.the-variants.{Scalar, Vector, Matrix, CooperativeMatrix, Atomic, RayQuery}
+use Rattle.records.specs.declared.Leaf.the-variants.{RayQuery}
+use Rattle.records.specs.declared.NonData.the-variants.{Image, Sampler, AccelerationStructure, BindingArray}
+use Rattle.records.specs.declared.TypeInner.the-variants.{Plain, Array, RuntimeArray, Other}
 use Rattle.records.proofs.TableLaws.{table-value, table-above, value-ok, flat-length, flat-word}
 use Rattle.rows.specs.Rows.{rowWord, layoutRow, withRow}
 use Rattle.rows.proofs.RowLaws.{flat-more, drop-row}
-use Rattle.alignment.proofs.PowerLaws.{vector-within, cooperative-within}
+use Rattle.alignment.proofs.PowerLaws.{vector-within}
+use Rattle.alignment.specs.Alignment.{vectorAlignment}
+use Rattle.type_methods.specs.TypeMethods.{arraySize, runtimeArraySize, trySize}
 use Rattle.layouter.specs.declared.TypeLayout.{TypeLayout}
 use Rattle.layouter.specs.declared.Laid.{Laid}
 use Rattle.layouter.specs.declared.Laid.the-variants as laid
-use Rattle.layouter.specs.Layouter.{leafWidth, leafFactor, membersAlignment, layoutOf, noLayout, layoutStep, layoutAt, layout, layoutRowAt, layoutsIn, laidResult, wordsAfter}
+use Rattle.layouter.specs.Layouter.{membersAlignment, baseAlignment, alignmentOf, sizedLayout, layoutOf, noLayout, layoutStep, layoutAt, layout, layoutRowAt, layoutsIn, laidResult, wordsAfter}
 
--- ---- bounds
-pub leaf-width-within : (leaf : Leaf) → LeafBounds leaf → leafWidth leaf ≤ 255
-leaf-width-within (Scalar k w) b = b
-leaf-width-within (Vector n k w) b = b .1
-leaf-width-within (Matrix c r k w) b = b .2
-leaf-width-within (CooperativeMatrix c r k w o) b = b .2
-leaf-width-within (Atomic k w) b = b
-leaf-width-within (RayQuery v) b = omega arith
+-- ---- one type
+pub factor-within : (n : ℕ) → vectorAlignment n ≤ 16
+factor-within n = omega (arith, vector-within n)
 
-pub leaf-factor-within : (leaf : Leaf) → LeafBounds leaf → leafFactor leaf ≤ 16
-leaf-factor-within (Scalar k w) b = omega arith
-leaf-factor-within (Vector n k w) b = omega (arith, vector-within n)
-leaf-factor-within (Matrix c r k w) b = omega (arith, vector-within r)
-leaf-factor-within (CooperativeMatrix c r k w o) b = cooperative-within r (b .1)
-leaf-factor-within (Atomic k w) b = omega arith
-leaf-factor-within (RayQuery v) b = omega arith
+-- an array, by its form
+pub array-laid : (layouts : ℕ → TypeLayout) (i base count stride : ℕ) (part : List ℕ) (t : Bool)
+    → andThen (pick t (arraySize count stride) (runtimeArraySize stride)) (sizedLayout (baseAlignment layouts i base))
+    ≡ layoutOf layouts i (pick t (Array base count stride) (RuntimeArray base stride)) part
+unfolding layoutOf trySize alignmentOf
+array-laid layouts i base count stride part true = refl
+array-laid layouts i base count stride part false = refl
+
+-- images, samplers, acceleration structures, ray queries and binding arrays measure nothing
+pub handle-laid : (layouts : ℕ → TypeLayout) (i kind a b c : ℕ) (part : List ℕ)
+    → layoutOf layouts i
+    (pick (eqb kind imageKind) (Other (Image a b c))
+    (pick (eqb kind samplerKind) (Other Sampler)
+    (pick (eqb kind accelerationStructureKind) (Other (AccelerationStructure a))
+    (pick (eqb kind rayQueryKind) (Plain (RayQuery a)) (Other (BindingArray a b c))))))
+    part
+    ≡ ok (record { size = 0; alignment = 1 })
+unfolding layoutOf trySize alignmentOf
+handle-laid layouts i kind a b c part = go (eqb kind imageKind) (eqb kind samplerKind) (eqb kind accelerationStructureKind) (eqb kind rayQueryKind)
+  where
+    go : (p q r s : Bool)
+        → layoutOf layouts i
+        (pick p (Other (Image a b c))
+        (pick q (Other Sampler) (pick r (Other (AccelerationStructure a)) (pick s (Plain (RayQuery a)) (Other (BindingArray a b c))))))
+        part
+        ≡ ok (record { size = 0; alignment = 1 })
+    go true q r s = refl
+    go false true r s = refl
+    go false false true s = refl
+    go false false false true = refl
+    go false false false false = refl
 
 -- ---- the loop over members
 module _ (layouts : ℕ → TypeLayout) (i : ℕ) (part : List ℕ) (j a : ℕ) (so-far : membersAlignment layouts i part j ≡ ok a) where

@@ -56,8 +56,11 @@ abbrev pub baseAlignment : (layouts : ℕ → TypeLayout) (i base : ℕ) → Res
 baseAlignment layouts i base = require (ltb base i) 5 0 0 (ok (layouts base .alignment))
 
 -- number 7: the width is a power of two
+abbrev pub widthAlignment : (factor width : ℕ) → Result ℕ
+widthAlignment factor width = require (powerOfTwo width) 7 0 0 (ok (factor * width))
+
 abbrev pub leafAlignment : Leaf → Result ℕ
-leafAlignment leaf = require (powerOfTwo (leafWidth leaf)) 7 0 0 (ok (leafFactor leaf * leafWidth leaf))
+leafAlignment leaf = widthAlignment (leafFactor leaf) (leafWidth leaf)
 
 -- of type i, from the layouts of those before it
 unfoldable pub alignmentOf : (layouts : ℕ → TypeLayout) → ℕ → TypeInner → (members : List ℕ) → Result ℕ
@@ -67,11 +70,12 @@ alignmentOf layouts i (RuntimeArray base stride) members = baseAlignment layouts
 alignmentOf layouts i (Struct count span) members = membersAlignment layouts i members count
 alignmentOf layouts i (Other o) members = ok 1
 
+abbrev pub sizedLayout : (alignment : Result ℕ) (size : ℕ) → Result TypeLayout
+sizedLayout alignment size = andThen alignment (λ a. ok (record { size = size; alignment = a }))
+
 -- ---- layouts: the size is tried before references and widths
 unfoldable pub layoutOf : (layouts : ℕ → TypeLayout) → ℕ → TypeInner → (members : List ℕ) → Result TypeLayout
-layoutOf layouts i inner members =
-    andThen (trySize inner)
-    (λ size. andThen (alignmentOf layouts i inner members) (λ alignment. ok (record { size = size; alignment = alignment })))
+layoutOf layouts i inner members = andThen (trySize inner) (sizedLayout (alignmentOf layouts i inner members))
 
 -- in the place of a layout that is not made yet
 abbrev pub noLayout : TypeLayout

@@ -1,16 +1,16 @@
 // Layouts: Layouter::update of naga's proc/layouter.rs, over lent rows.
-use records::Leaf;
 use records::Outcome;
-use records::TypeInner;
+use records::Words;
 use type_methods::Size;
 ghost use mathlib.Core.Path.{_≡_};
 ghost use Prim.Native.Nat.{ℕ, _+_, _*_, _≤_, _<_};
 ghost use lib.ListN.{length, take};
-ghost use Rattle.records.specs.Result.{ok};
-ghost use Rattle.records.specs.Record.{decoded, typeInner, structMembers, typeCount};
-ghost use Rattle.records.specs.Fields.{LeafBounds, InnerBounds, recordAt};
+ghost use Rattle.records.specs.Result.{ok, andThen};
+ghost use Rattle.records.specs.Record.{decoded, innerIn, typeInner, structMembers, typeCount};
+ghost use Rattle.records.specs.Fields.{InnerBounds, recordAt};
 ghost use Rattle.records.specs.Table.{firstRefusal};
-ghost use Rattle.layouter.specs.Layouter.{leafWidth, leafFactor, membersAlignment, baseAlignment, leafAlignment, alignmentOf, layoutOf, layoutsIn, alignedResult, laidResult, wordsAfter, layoutAt, layoutRows, rowsAfter, layoutOutcome, layoutAnswer, layoutWords};
+ghost use Rattle.type_methods.specs.TypeMethods.{sizeByForm};
+ghost use Rattle.layouter.specs.Layouter.{widthAlignment, membersAlignment, baseAlignment, sizedLayout, layoutOf, layoutsIn, alignedResult, laidResult, wordsAfter, layoutAt, layoutRows, rowsAfter, layoutOutcome, layoutAnswer, layoutWords};
 
 // naga's TypeLayout.
 pub struct TypeLayout {
@@ -28,39 +28,12 @@ pub enum Laid {
     Refused { number: u32, member: u32 },
 }
 
-fn leaf_width(leaf: Leaf) -> u32
-    ensures { λ r. ⌜ r ≡ leafWidth leaf ⌝ }
-{
-    match leaf {
-        Leaf::Scalar(_, width) => width,
-        Leaf::Vector(_, _, width) => width,
-        Leaf::Matrix(_, _, _, width) => width,
-        Leaf::CooperativeMatrix(_, _, _, width, _) => width,
-        Leaf::Atomic(_, width) => width,
-        Leaf::RayQuery(_) => 1,
-    }
-}
-
-fn leaf_factor(leaf: Leaf) -> u32
-    ensures { λ r. ⌜ r ≡ leafFactor leaf ⌝ }
-{
-    match leaf {
-        Leaf::Scalar(_, _) => 1,
-        Leaf::Vector(size, _, _) => alignment::vector_alignment(size),
-        Leaf::Matrix(_, rows, _, _) => alignment::vector_alignment(rows),
-        Leaf::CooperativeMatrix(_, rows, _, _, _) => rows,
-        Leaf::Atomic(_, _) => 1,
-        Leaf::RayQuery(_) => 1,
-    }
-}
-
 // Number 7 for a width that is no power of two.
-fn leaf_alignment(leaf: Leaf) -> Aligned
-    requires { ⌜ LeafBounds leaf ⌝ }
-    ensures { λ r. ⌜ alignedResult r ≡ leafAlignment leaf ⌝ }
+fn leaf_alignment(factor: u32, width: u32) -> Aligned
+    requires { ⌜ factor ≤ 16 ⌝ }
+    requires { ⌜ width ≤ 255 ⌝ }
+    ensures { λ r. ⌜ alignedResult r ≡ widthAlignment factor width ⌝ }
 {
-    let width = leaf_width(leaf);
-    let factor = leaf_factor(leaf);
     if alignment::power_of_two(width) {
         let product = factor * width;
         Aligned::To(product)
@@ -106,38 +79,75 @@ fn members_alignment(rows: &[u32], i: u32, part: &[u32], count: u32) -> Aligned
     Aligned::To(a)
 }
 
-// part: the struct's member rows.
-fn alignment_of(rows: &[u32], i: u32, inner: TypeInner, part: &[u32]) -> Aligned
-    requires { ⌜ InnerBounds inner ⌝ }
-    ensures { λ r. ⌜ alignedResult r ≡ alignmentOf (layoutsIn (now (rows .entry))) i inner (now (part .entry)) ⌝ }
+fn with_alignment(size: u32, aligned: Aligned) -> Laid
+    ensures { λ r. ⌜ laidResult r ≡ sizedLayout (alignedResult aligned) size ⌝ }
 {
-    match inner {
-        TypeInner::Plain(leaf) => leaf_alignment(leaf),
-        TypeInner::Array {
-            base,
-            count: _,
-            stride: _,
-        } => base_alignment(rows, i, base),
-        TypeInner::RuntimeArray { base, stride: _ } => base_alignment(rows, i, base),
-        TypeInner::Struct { count, span: _ } => members_alignment(rows, i, part, count),
-        TypeInner::Other(_) => Aligned::To(1),
+    match aligned {
+        Aligned::To(alignment) => Laid::Layout(TypeLayout { size, alignment }),
+        Aligned::Refused { number, member } => Laid::Refused { number, member },
     }
 }
 
-// The layout of type i, from the rows of the types before it.
-fn layout_of(rows: &[u32], i: u32, inner: TypeInner, part: &[u32]) -> Laid
-    requires { ⌜ InnerBounds inner ⌝ }
-    ensures { λ r. ⌜ laidResult r ≡ layoutOf (layoutsIn (now (rows .entry))) i inner (now (part .entry)) ⌝ }
+// The size is tried before the reference.
+fn array_layout(rows: &[u32], i: u32, base: u32, form: u32, count: u32, stride: u32) -> Laid
+    ensures { λ r. ⌜ laidResult r ≡ andThen (sizeByForm form count stride) (sizedLayout (baseAlignment (layoutsIn (now (rows .entry))) i base)) ⌝ }
 {
-    match type_methods::try_size(inner) {
-        Size::Bytes(size) => match alignment_of(rows, i, inner, part) {
-            Aligned::To(alignment) => Laid::Layout(TypeLayout { size, alignment }),
-            Aligned::Refused { number, member } => Laid::Refused { number, member },
-        },
+    match type_methods::size_by_form(form, count, stride) {
+        Size::Bytes(size) => with_alignment(size, base_alignment(rows, i, base)),
         Size::TooLarge => Laid::Refused {
             number: 4,
             member: 0,
         },
+    }
+}
+
+fn struct_layout(
+    types: &[u32],
+    members: &[u32],
+    rows: &[u32],
+    i: u32,
+    count: u32,
+    span: u32,
+) -> Laid
+    ensures { λ r. ⌜ laidResult r ≡ sizedLayout (membersAlignment (layoutsIn (now (rows .entry))) i (structMembers (now (types .entry)) (now (members .entry)) i) count) span ⌝ }
+{
+    let part = records::struct_members(types, members, i);
+    with_alignment(span, members_alignment(rows, i, part, count))
+}
+
+// The layout of type i, whose record has the words w, from the rows of the types before it.
+fn layout_of(types: &[u32], members: &[u32], rows: &[u32], i: u32, w: Words) -> Laid
+    requires { ⌜ InnerBounds (innerIn w) ⌝ }
+    ensures { λ r. ⌜ laidResult r ≡ layoutOf (layoutsIn (now (rows .entry))) i (innerIn w) (structMembers (now (types .entry)) (now (members .entry)) i) ⌝ }
+{
+    let kind = w.kind;
+    let a = w.a;
+    let b = w.b;
+    let c = w.c;
+    let d = w.d;
+    match kind {
+        0 => with_alignment(b, leaf_alignment(1, b)),
+        1 => {
+            let factor = alignment::vector_alignment(a);
+            with_alignment(type_methods::vector_size(a, c), leaf_alignment(factor, c))
+        }
+        2 => {
+            let factor = alignment::vector_alignment(b);
+            with_alignment(
+                type_methods::matrix_size(a, b, d),
+                leaf_alignment(factor, d),
+            )
+        }
+        3 => with_alignment(
+            type_methods::cooperative_size(a, b, d),
+            leaf_alignment(b, d),
+        ),
+        4 => with_alignment(b, leaf_alignment(1, b)),
+        5 => with_alignment(4, Aligned::To(1)),
+        6 => with_alignment(4, Aligned::To(1)),
+        7 => array_layout(rows, i, a, b, c, d),
+        8 => struct_layout(types, members, rows, i, b, c),
+        _ => with_alignment(0, Aligned::To(1)),
     }
 }
 
@@ -149,9 +159,8 @@ fn layout_at(types: &[u32], members: &[u32], rows: &mut [u32], i: u32) -> Laid
     ensures { λ r. ⌜ now (rows .exit) ≡ wordsAfter r (i * 14) (now (rows .entry)) ⌝ }
 {
     let at = (i as usize) * records::ROW_WORDS;
-    let inner = records::type_inner(types, i);
-    let part = records::struct_members(types, members, i);
-    let laid = layout_of(&rows[..at], i, inner, part);
+    let w = records::record_words(types, i);
+    let laid = layout_of(types, members, &rows[..at], i, w);
     match laid {
         Laid::Layout(l) => {
             rows::put_layout(rows, at, l.size, l.alignment);

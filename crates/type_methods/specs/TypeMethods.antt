@@ -2,8 +2,8 @@
 -- Assumes nothing.
 use mathlib.Core.Bool.{_&&_}
 use Prim.Native.Nat.{ℕ, _*_}
-use lib.Dec.{leb}
-use Rattle.records.specs.Result.{Result, err, ok, require}
+use lib.Dec.{eqb, leb}
+use Rattle.records.specs.Result.{Result, err, ok, pick, require}
 use Rattle.records.specs.declared.Leaf.{Leaf}
 use Rattle.records.specs.declared.Leaf.the-variants.{Scalar, Vector, Matrix, CooperativeMatrix, Atomic, RayQuery}
 use Rattle.records.specs.declared.NonData.{NonData}
@@ -48,10 +48,13 @@ sizeOf (Other o) = nonDataSize o
 abbrev pub arraySize : (count stride : ℕ) → Result ℕ
 arraySize count stride = require (leb count mostSize && leb (count * stride) mostSize) 4 0 0 (ok (count * stride))
 
+abbrev pub runtimeArraySize : (stride : ℕ) → Result ℕ
+runtimeArraySize stride = require (leb stride mostSize) 4 0 0 (ok stride)
+
 unfoldable pub trySize : TypeInner → Result ℕ
 trySize (Plain leaf) = ok (leafSize leaf)
 trySize (Array base count stride) = arraySize count stride
-trySize (RuntimeArray base stride) = require (leb stride mostSize) 4 0 0 (ok stride)
+trySize (RuntimeArray base stride) = runtimeArraySize stride
 trySize (Struct count span) = ok span
 trySize (Other o) = ok (nonDataSize o)
 
@@ -59,3 +62,7 @@ trySize (Other o) = ok (nonDataSize o)
 abbrev pub sizeResult : Size → Result ℕ
 sizeResult (Bytes size) = ok size
 sizeResult TooLarge = err 4 0 0
+
+-- of an array by its form
+abbrev pub sizeByForm : (form count stride : ℕ) → Result ℕ
+sizeByForm form count stride = pick (eqb form 0) (arraySize count stride) (runtimeArraySize stride)

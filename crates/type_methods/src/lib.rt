@@ -3,9 +3,10 @@ use records::Leaf;
 use records::NonData;
 use records::TypeInner;
 ghost use mathlib.Core.Path.{_≡_};
-ghost use Prim.Native.Nat.{_*_};
+ghost use Prim.Native.Nat.{_*_, _≤_};
 ghost use Rattle.records.specs.Fields.{LeafBounds, InnerBounds};
-ghost use Rattle.type_methods.specs.TypeMethods.{leafSize, nonDataSize, arraySize, trySize, sizeResult};
+ghost use Rattle.alignment.specs.Alignment.{vectorAlignment};
+ghost use Rattle.type_methods.specs.TypeMethods.{leafSize, nonDataSize, arraySize, runtimeArraySize, sizeByForm, trySize, sizeResult};
 
 // Number 4 is TooLarge.
 pub enum Size {
@@ -16,26 +17,50 @@ pub enum Size {
 // MAX_TYPE_SIZE of naga's valid/mod.rs.
 const MOST_SIZE: u64 = 2147483647;
 
+pub fn vector_size(size: u32, width: u32) -> u32
+    requires { ⌜ size ≤ 4 ⌝ }
+    requires { ⌜ width ≤ 255 ⌝ }
+    ensures { λ r. ⌜ r ≡ size * width ⌝ }
+{
+    let vector = size * width;
+    vector
+}
+
+// A column for each, padded as a vector of its rows.
+pub fn matrix_size(columns: u32, rows: u32, width: u32) -> u32
+    requires { ⌜ columns ≤ 4 ⌝ }
+    requires { ⌜ width ≤ 255 ⌝ }
+    ensures { λ r. ⌜ r ≡ vectorAlignment rows * width * columns ⌝ }
+{
+    let column = alignment::vector_alignment(rows) * width;
+    let matrix = column * columns;
+    matrix
+}
+
+pub fn cooperative_size(columns: u32, rows: u32, width: u32) -> u32
+    requires { ⌜ columns ≤ 16 ⌝ }
+    requires { ⌜ rows ≤ 16 ⌝ }
+    requires { ⌜ width ≤ 255 ⌝ }
+    ensures { λ r. ⌜ r ≡ columns * rows * width ⌝ }
+{
+    let cells = columns * rows;
+    let tile = cells * width;
+    tile
+}
+
 fn leaf_size(leaf: Leaf) -> u32
     requires { ⌜ LeafBounds leaf ⌝ }
     ensures { λ r. ⌜ r ≡ leafSize leaf ⌝ }
 {
     match leaf {
         Leaf::Scalar(_, width) => width,
-        Leaf::Vector(size, _, width) => {
-            let vector = size * width;
-            vector
-        }
-        Leaf::Matrix(columns, rows, _, width) => {
-            let column = alignment::vector_alignment(rows) * width;
-            let matrix = column * columns;
-            matrix
-        }
-        Leaf::CooperativeMatrix(columns, rows, _, width, _) => {
-            let cells = columns * rows;
-            let tile = cells * width;
-            tile
-        }
+        Leaf::Vector(size, _, width) => vector_size(size, width),
+        Leaf::Matrix(columns, rows, _, width) => matrix_size(columns, rows, width),
+        Leaf::CooperativeMatrix(columns, rows, _, width, _) => cooperative_size(
+            columns,
+            rows,
+            width,
+        ),
         Leaf::Atomic(_, width) => width,
         Leaf::RayQuery(_) => 0,
     }
@@ -69,6 +94,26 @@ fn array_size(count: u32, stride: u32) -> Size
     Size::Bytes(size)
 }
 
+fn runtime_array_size(stride: u32) -> Size
+    ensures { λ r. ⌜ sizeResult r ≡ runtimeArraySize stride ⌝ }
+{
+    if stride <= 2147483647 {
+        Size::Bytes(stride)
+    } else {
+        Size::TooLarge
+    }
+}
+
+// Of an array by its form: 0 for one of a count, else a runtime array.
+pub fn size_by_form(form: u32, count: u32, stride: u32) -> Size
+    ensures { λ r. ⌜ sizeResult r ≡ sizeByForm form count stride ⌝ }
+{
+    if form == 0 {
+        return array_size(count, stride);
+    }
+    runtime_array_size(stride)
+}
+
 // What a type measures, or number 4.
 pub fn try_size(inner: TypeInner) -> Size
     requires { ⌜ InnerBounds inner ⌝ }
@@ -81,13 +126,7 @@ pub fn try_size(inner: TypeInner) -> Size
             count,
             stride,
         } => array_size(count, stride),
-        TypeInner::RuntimeArray { base: _, stride } => {
-            if stride <= 2147483647 {
-                Size::Bytes(stride)
-            } else {
-                Size::TooLarge
-            }
-        }
+        TypeInner::RuntimeArray { base: _, stride } => runtime_array_size(stride),
         TypeInner::Struct { count: _, span } => Size::Bytes(span),
         TypeInner::Other(o) => Size::Bytes(non_data_size(o)),
     }

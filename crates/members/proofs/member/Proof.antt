@@ -8,7 +8,7 @@ use Rattle.members.proofs.member.Tie as tie
 
 returns : tie.Need-returns
 unfolding memberStep
-returns c = 
+returns c =
     let a = c .before .before .before .before .before .before .before .before .before .before .before .before .args in
     let d = c .before .before .before .before .before .before .before .before .distance-to in
     let by = rw (c .before .before .before .before .bounds .given .1, c .before .before .before .before .before .before .before .is-within .ensures) at (c .before .before .before .before .before .before .member-bounds .ensures) in
@@ -19,7 +19,7 @@ returns c =
 
 returns-2 : tie.Need-returns-2
 unfolding memberStep
-returns-2 c = 
+returns-2 c =
     let within = c .before .before .before .before .is-within .ensures ∙ c .before .before .before .before .before .distance-to .ensures .0 in
     let refused = rw (c .before .number .given .1, within) at (c .before .before .before .member-bounds .ensures) in
     rw (← refused) refl

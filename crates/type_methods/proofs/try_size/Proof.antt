@@ -1,5 +1,4 @@
 use borrow.Author.Needs.{needs}
-use borrow.Author.Tests.{le-leb, lt-leb}
 use Rattle.type_methods.specs.TypeMethods.{trySize}
 use Rattle.type_methods.proofs.try_size.Statement.{statement}
 use Rattle.type_methods.proofs.try_size.Tie as tie
@@ -17,19 +16,15 @@ returns-2 c = rw (c .before .before .inner2 .given .1) (c .array-size .ensures)
 
 returns-3 : tie.Need-returns-3
 unfolding trySize
-returns-3 c = rw (c .before .before .inner3 .given .1, le-leb _ _ (c .if1 .taken))
+returns-3 c = rw (c .before .before .inner3 .given .1) (c .runtime-array-size .ensures)
 
 returns-4 : tie.Need-returns-4
 unfolding trySize
-returns-4 c = rw (c .before .before .inner3 .given .1, lt-leb _ _ (c .if1 .left))
+returns-4 c = rw (c .before .inner4 .given .1)
 
 returns-5 : tie.Need-returns-5
 unfolding trySize
-returns-5 c = rw (c .before .inner4 .given .1)
-
-returns-6 : tie.Need-returns-6
-unfolding trySize
-returns-6 c = rw (c .before .before .inner5 .given .1, c .non-data-size .ensures)
+returns-5 c = rw (c .before .before .inner5 .given .1, c .non-data-size .ensures)
 
 pub try-size-spec : {M : Type 1} → statement M
 try-size-spec =
@@ -40,6 +35,7 @@ try-size-spec =
     (λ c. search needs)
     (λ c κs. search needs)
     (λ c. search needs)
+    (λ c κs. search needs)
     (λ c. search needs)
     (λ c. search needs)
     (λ c κs. search needs)
@@ -47,5 +43,4 @@ try-size-spec =
     returns-2
     returns-3
     returns-4
-    returns-5
-    returns-6)
+    returns-5)
