@@ -3,12 +3,15 @@ use place::PlaceAnswer;
 use records::Outcome;
 use slots::SlotsAnswer;
 use text::Line;
-ghost use Prim.Native.Nat.{_≤_};
-ghost use lib.ListN.{length};
+
+// The arena is one run of words: the types from its start on, the members from here on.
+pub const MEMBERS_AT: usize = 6144;
+
+pub const ARENA_WORDS: usize = 14336;
 
 pub struct Session {
     pub capabilities: u32,
-    // How many words of the tables are in use.
+    // Where the types and the members end in the arena.
     pub types: usize,
     pub members: usize,
     // The number of the line.
@@ -24,7 +27,7 @@ pub fn start() -> Session {
     Session {
         capabilities: 0,
         types: 0,
-        members: 0,
+        members: MEMBERS_AT,
         line: 1,
         waiting: 0,
         held: 0,
@@ -36,7 +39,7 @@ fn cleared(session: Session) -> Session {
     let mut s = session;
     s.capabilities = 0;
     s.types = 0;
-    s.members = 0;
+    s.members = MEMBERS_AT;
     s
 }
 
@@ -69,31 +72,40 @@ fn stop_by(session: Session, out: &mut [u8], reason: text::Reason) -> Session {
     s
 }
 
-// The first n words of a table.
-fn first_words(words: &[u32], n: usize) -> &[u32] {
-    if n <= words.len() { &words[..n] } else { words }
+// The words from `start` up to `end`.
+fn part(words: &[u32], start: usize, end: usize) -> &[u32] {
+    if words.len() < end {
+        return &words[..0];
+    }
+    if end < start {
+        return &words[..0];
+    }
+    &words[start..end]
 }
 
-// Puts a record after the words in use, if the table has room, and answers how many words are in use then.
-fn add_record(table: &mut [u32], used: usize, words: &[u32]) -> usize {
-    if table.len() < used {
-        return used;
+// Puts a record at `at`, if it ends at `limit` or before, and answers where the next one goes.
+fn add_record(arena: &mut [u32], at: usize, limit: usize, words: &[u32]) -> usize {
+    if arena.len() < limit {
+        return at;
     }
-    if table.len() - used < words.len() {
-        return used;
+    if limit < at {
+        return at;
+    }
+    if limit - at < words.len() {
+        return at;
     }
     let mut i = 0;
     while i < words.len() {
-        table[used + i] = words[i];
+        arena[at + i] = words[i];
         i += 1;
     }
-    used + i
+    at + i
 }
 
-fn add_type(session: Session, types: &mut [u32], out: &mut [u8], words: [u32; 6]) -> Session {
-    let used = session.types;
-    let after = add_record(types, used, &words);
-    if after == used {
+fn add_type(session: Session, arena: &mut [u32], out: &mut [u8], words: [u32; 6]) -> Session {
+    let at = session.types;
+    let after = add_record(arena, at, MEMBERS_AT, &words);
+    if after == at {
         return stop(session, out, b"the arena is full, with 1024 types\n");
     }
     let mut s = session;
@@ -101,10 +113,10 @@ fn add_type(session: Session, types: &mut [u32], out: &mut [u8], words: [u32; 6]
     s
 }
 
-fn add_member(session: Session, members: &mut [u32], out: &mut [u8], words: [u32; 2]) -> Session {
-    let used = session.members;
-    let after = add_record(members, used, &words);
-    if after == used {
+fn add_member(session: Session, arena: &mut [u32], out: &mut [u8], words: [u32; 2]) -> Session {
+    let at = session.members;
+    let after = add_record(arena, at, ARENA_WORDS, &words);
+    if after == at {
         return stop(
             session,
             out,
@@ -116,20 +128,15 @@ fn add_member(session: Session, members: &mut [u32], out: &mut [u8], words: [u32
     s
 }
 
-fn check(
-    session: Session,
-    types: &[u32],
-    members: &[u32],
-    rows: &mut [u32],
-    out: &mut [u8],
-) -> Session {
+fn check(session: Session, arena: &[u32], out: &mut [u8]) -> Session {
+    let mut rows = [0u32; 14336];
     let at = session.waiting;
-    let t = first_words(types, session.types);
-    let m = first_words(members, session.members);
-    match valid::check(t, m, session.capabilities, rows) {
+    let t = part(arena, 0, session.types);
+    let m = part(arena, MEMBERS_AT, session.members);
+    match valid::check(t, m, session.capabilities, &mut rows) {
         Outcome::Accepted => {
             let n = records::type_count(t) as u32;
-            with_waiting(session, output::put_rows(out, at, rows, n))
+            with_waiting(session, output::put_rows(out, at, &rows, n))
         }
         Outcome::Refused {
             number,
@@ -145,17 +152,11 @@ fn check(
     }
 }
 
-fn members_of(
-    session: Session,
-    types: &[u32],
-    members: &[u32],
-    out: &mut [u8],
-    ty: u32,
-) -> Session {
-    let t = first_words(types, session.types);
-    let m = first_words(members, session.members);
-    let part = records::struct_members(t, m, ty);
-    with_waiting(session, output::put_members(out, session.waiting, part))
+fn members_of(session: Session, arena: &[u32], out: &mut [u8], ty: u32) -> Session {
+    let t = part(arena, 0, session.types);
+    let m = part(arena, MEMBERS_AT, session.members);
+    let own = records::struct_members(t, m, ty);
+    with_waiting(session, output::put_members(out, session.waiting, own))
 }
 
 fn show_slots(session: Session, out: &mut [u8], answer: SlotsAnswer) -> Session {
@@ -178,35 +179,33 @@ fn show_slots(session: Session, out: &mut [u8], answer: SlotsAnswer) -> Session 
 
 fn slots_of(
     session: Session,
-    types: &[u32],
-    members: &[u32],
-    rows: &mut [u32],
+    arena: &[u32],
     out: &mut [u8],
     ty: u32,
     offset: u32,
 ) -> Session {
-    let t = first_words(types, session.types);
-    let m = first_words(members, session.members);
+    let mut rows = [0u32; 14336];
+    let t = part(arena, 0, session.types);
+    let m = part(arena, MEMBERS_AT, session.members);
     show_slots(
         session,
         out,
-        immediates::immediate_slots(t, m, session.capabilities, rows, ty, offset),
+        immediates::immediate_slots(t, m, session.capabilities, &mut rows, ty, offset),
     )
 }
 
 fn place_of(
     session: Session,
-    types: &[u32],
-    members: &[u32],
-    rows: &mut [u32],
+    arena: &[u32],
     out: &mut [u8],
     start: u32,
     steps: &[u32],
 ) -> Session {
+    let mut rows = [0u32; 14336];
     let at = session.waiting;
-    let t = first_words(types, session.types);
-    let m = first_words(members, session.members);
-    match place::lookup(t, m, session.capabilities, rows, start, steps) {
+    let t = part(arena, 0, session.types);
+    let m = part(arena, MEMBERS_AT, session.members);
+    match place::lookup(t, m, session.capabilities, &mut rows, start, steps) {
         PlaceAnswer::Found { byte, leaf } => with_waiting(
             session,
             output::put_place(out, at, byte, leaf),
@@ -236,18 +235,9 @@ fn steps_of(numbers: &[u32], steps: u32) -> &[u32] {
 }
 
 // Answers a line.
-pub fn answer(
-    line: &[u8],
-    session: Session,
-    types: &mut [u32],
-    members: &mut [u32],
-    rows: &mut [u32],
-    numbers: &mut [u32],
-    out: &mut [u8],
-) -> Session
-    requires { ⌜ 1025 ≤ length (now numbers) ⌝ }
-{
-    match text::read_line(line, numbers) {
+pub fn answer(line: &[u8], session: Session, arena: &mut [u32], out: &mut [u8]) -> Session {
+    let mut numbers = [0u32; 1025];
+    match text::read_line(line, &mut numbers) {
         Line::Nothing => session,
         Line::Capabilities(word) => with_capabilities(session, word),
         Line::TypeRecord {
@@ -257,23 +247,19 @@ pub fn answer(
             c,
             d,
             e,
-        } => add_type(session, types, out, [kind, a, b, c, d, e]),
-        Line::MemberRecord { ty, offset } => add_member(session, members, out, [ty, offset]),
-        Line::Check => check(session, types, members, rows, out),
-        Line::Members(ty) => members_of(session, types, members, out, ty),
-        Line::Slots { ty, offset } => slots_of(session, types, members, rows, out, ty, offset),
+        } => add_type(session, arena, out, [kind, a, b, c, d, e]),
+        Line::MemberRecord { ty, offset } => add_member(session, arena, out, [ty, offset]),
+        Line::Check => check(session, arena, out),
+        Line::Members(ty) => members_of(session, arena, out, ty),
+        Line::Slots { ty, offset } => slots_of(session, arena, out, ty, offset),
         Line::Range { offset, size } => show_slots(session, out, slots::range(offset, size)),
-        Line::Place { start, steps } => {
-            place_of(
-                session,
-                types,
-                members,
-                rows,
-                out,
-                start,
-                steps_of(numbers, steps),
-            )
-        }
+        Line::Place { start, steps } => place_of(
+            session,
+            arena,
+            out,
+            start,
+            steps_of(&numbers, steps),
+        ),
         Line::Clear => cleared(session),
         Line::Wrong(reason) => stop_by(session, out, reason),
     }

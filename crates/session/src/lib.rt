@@ -4,17 +4,24 @@ mod answer;
 use answer::Session;
 ghost use Prim.Native.Nat.{_≤_};
 ghost use lib.ListN.{length};
-ghost use Rattle.session.specs.Held.{heldIn};
 
-// What a read left in the buffer, and how many bytes that are.
-pub enum Input {
-    Held(usize),
-    Ended(usize),
+// How a read ended.
+pub enum Read {
+    More,
+    Ended,
     Full,
     Failed,
 }
 
+// How many bytes of the buffer are to be answered.
+pub struct Input {
+    pub end: usize,
+    pub read: Read,
+}
+
 const STDIN: i32 = 0;
+
+const NEWLINE: u8 = 10;
 
 // Moves the bytes from `from` up to `end` to the front.
 fn keep_rest(buffer: &mut [u8], from: usize, end: usize)
@@ -45,16 +52,7 @@ fn with_held(session: Session, held: usize) -> Session
 }
 
 // Answers the whole lines of the input, and says how many bytes are left.
-fn answer_lines(
-    input: &[u8],
-    session: Session,
-    types: &mut [u32],
-    members: &mut [u32],
-    rows: &mut [u32],
-    numbers: &mut [u32],
-    out: &mut [u8],
-) -> Session
-    requires { ⌜ 1025 ≤ length (now numbers) ⌝ }
+fn answer_lines(input: &[u8], session: Session, arena: &mut [u32], out: &mut [u8]) -> Session
     ensures { λ r. ⌜ r .held ≤ length (now (input .entry)) ⌝ }
 {
     let mut s = session;
@@ -63,7 +61,7 @@ fn answer_lines(
     while end < input.len() {
         let start = at;
         at = end + 1;
-        s = answer::answer(&input[start..end], s, types, members, rows, numbers, out);
+        s = answer::answer(&input[start..end], s, arena, out);
         let stopped = s.stopped;
         if stopped {
             return with_held(s, 0);
@@ -74,86 +72,62 @@ fn answer_lines(
     with_held(s, input.len() - at)
 }
 
-// A last line without a newline is a line.
-fn answer_last(
-    input: &[u8],
-    session: Session,
-    types: &mut [u32],
-    members: &mut [u32],
-    rows: &mut [u32],
-    numbers: &mut [u32],
-    out: &mut [u8],
-) -> Session
-    requires { ⌜ 1025 ≤ length (now numbers) ⌝ }
-{
-    let mut s = answer::answer(input, session, types, members, rows, numbers, out);
-    s.stopped = true;
-    s
-}
-
 // Answers the whole lines of the buffer, and keeps the rest.
 fn answer_input(
     buffer: &mut [u8],
     end: usize,
     session: Session,
-    types: &mut [u32],
-    members: &mut [u32],
-    rows: &mut [u32],
-    numbers: &mut [u32],
+    arena: &mut [u32],
     out: &mut [u8],
 ) -> Session
     requires { ⌜ end ≤ length (now buffer) ⌝ }
-    requires { ⌜ 1025 ≤ length (now numbers) ⌝ }
 {
-    let s = answer_lines(&buffer[..end], session, types, members, rows, numbers, out);
+    let s = answer_lines(&buffer[..end], session, arena, out);
     let left = s.held;
     keep_rest(buffer, end - left, end);
     s
 }
 
-// Reads once, after the bytes that are held.
+// Reads once, after the bytes that are held. At the end of the input a newline ends its last line.
 fn read_more(buffer: &mut [u8], held: usize) -> Input
-    ensures { λ r. ⌜ heldIn r ≤ length (now (buffer .entry)) ⌝ }
+    ensures { λ r. ⌜ r .end ≤ length (now (buffer .entry)) ⌝ }
 {
     if buffer.len() <= held {
-        return Input::Full;
+        return Input { end: 0, read: Read::Full };
     }
     let got = libc::read(STDIN, &mut buffer[held..]);
     if got < 0 {
-        return Input::Failed;
+        return Input { end: 0, read: Read::Failed };
     }
     let more = io::count(got, &buffer[held..]);
     if more == 0 {
-        return Input::Ended(held);
+        buffer[held] = NEWLINE;
+        return Input { end: held + 1, read: Read::Ended };
     }
-    Input::Held(held + more)
+    Input { end: held + more, read: Read::More }
 }
 
-fn turn(
-    buffer: &mut [u8],
-    session: Session,
-    types: &mut [u32],
-    members: &mut [u32],
-    rows: &mut [u32],
-    numbers: &mut [u32],
-    out: &mut [u8],
-) -> Session
-    requires { ⌜ 1025 ≤ length (now numbers) ⌝ }
-{
-    match read_more(buffer, session.held) {
-        Input::Held(end) => answer_input(buffer, end, session, types, members, rows, numbers, out),
-        Input::Ended(end) => answer_last(
-            &buffer[..end],
-            session,
-            types,
-            members,
-            rows,
-            numbers,
-            out,
-        ),
-        Input::Full => answer::stop(session, out, b"longer than 65535 bytes\n"),
-        Input::Failed => answer::stop(session, out, b"the input cannot be read\n"),
+// Stops where no more can be read.
+fn after_read(session: Session, read: Read, out: &mut [u8]) -> Session {
+    match read {
+        Read::More => session,
+        Read::Ended => stopped(session),
+        Read::Full => answer::stop(session, out, b"longer than 65535 bytes\n"),
+        Read::Failed => answer::stop(session, out, b"the input cannot be read\n"),
     }
+}
+
+fn stopped(session: Session) -> Session {
+    let mut s = session;
+    s.stopped = true;
+    s
+}
+
+fn turn(buffer: &mut [u8], session: Session, arena: &mut [u32], out: &mut [u8]) -> Session {
+    let input = read_more(buffer, session.held);
+    let end = input.end;
+    let read = input.read;
+    after_read(answer_input(buffer, end, session, arena, out), read, out)
 }
 
 // Writes the answers that wait.
@@ -167,20 +141,11 @@ fn flushed(session: Session, out: &[u8]) -> Session {
 }
 
 // A proved loop has to end, and nothing says that the input does: the turns are counted down from a number that no run uses up.
-fn answer_all(
-    buffer: &mut [u8],
-    types: &mut [u32],
-    members: &mut [u32],
-    rows: &mut [u32],
-    numbers: &mut [u32],
-    out: &mut [u8],
-)
-    requires { ⌜ 1025 ≤ length (now numbers) ⌝ }
-{
+fn answer_all(buffer: &mut [u8], arena: &mut [u32], out: &mut [u8]) {
     let mut s = answer::start();
     let mut turns = u64::MAX;
     while turns > 0 {
-        s = turn(buffer, s, types, members, rows, numbers, out);
+        s = turn(buffer, s, arena, out);
         s = flushed(s, out);
         let stopped = s.stopped;
         if stopped {
@@ -192,18 +157,8 @@ fn answer_all(
 
 // The whole program: it ends with the input, or at a line that cannot be read.
 pub fn run() {
-    let mut types = [0u32; 6144];
-    let mut members = [0u32; 8192];
-    let mut rows = [0u32; 14336];
-    let mut numbers = [0u32; 1025];
+    let mut arena = [0u32; 14336];
     let mut buffer = [0u8; 65536];
     let mut out = [0u8; 65536];
-    answer_all(
-        &mut buffer,
-        &mut types,
-        &mut members,
-        &mut rows,
-        &mut numbers,
-        &mut out,
-    );
+    answer_all(&mut buffer, &mut arena, &mut out);
 }

@@ -6,10 +6,10 @@ use Rattle.session.proofs.answer.add_record.Statement.{statement}
 use Rattle.session.proofs.answer.add_record.Tie as tie
 
 abbrev Inv-loop : tie.InvT-loop
-Inv-loop table₀ used words i₀ table i = (i ≤ length words) × (length table ≡ length table₀)
+Inv-loop arena₀ at limit words i₀ arena i = (i ≤ length words) × (length arena ≡ length arena₀)
 
 abbrev μ-loop : tie.MeasureT-loop
-μ-loop table₀ used words i₀ table i = length words - i
+μ-loop arena₀ at limit words i₀ arena i = length words - i
 
 pub add-record-spec : {M : Type 1} → statement M
 add-record-spec =
