@@ -2,8 +2,8 @@ use borrow.Author.Needs.{needs}
 use mathlib.Core.Path.{_≡_}
 use Prim.Native.Nat.{_+_, _-_, _≤_}
 use lib.ListN.{length}
-use Rattle.session.proofs.answer.add_record.Statement.{statement}
-use Rattle.session.proofs.answer.add_record.Tie as tie
+use Rattle.commands.proofs.add_record.Statement.{statement}
+use Rattle.commands.proofs.add_record.Tie as tie
 
 abbrev Inv-loop : tie.InvT-loop
 Inv-loop arena₀ at limit words i₀ arena i = (i ≤ length words) × (length arena ≡ length arena₀)

@@ -2,8 +2,8 @@ use borrow.Author.Needs.{needs}
 use mathlib.Core.Path.{_≡_}
 use Prim.Native.Nat.{_-_, _≤_}
 use lib.ListN.{length}
-use Rattle.session.proofs.keep_rest.Statement.{statement}
-use Rattle.session.proofs.keep_rest.Tie as tie
+use Rattle.input.proofs.keep_rest.Statement.{statement}
+use Rattle.input.proofs.keep_rest.Tie as tie
 
 abbrev Inv-loop : tie.InvT-loop
 Inv-loop buffer₀ from end i₀ buffer i = (from ≤ i) × (length buffer ≡ length buffer₀)
