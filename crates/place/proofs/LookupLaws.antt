@@ -19,7 +19,7 @@ use Rattle.records.proofs.ResultLaws.{and-left}
 use Rattle.records.proofs.RecordLaws.{tables-fitting}
 use Rattle.valid.specs.Arena.{arenaOutcome, arenaAnswer, arena}
 use Rattle.valid.proofs.ArenaLaws.{arena-parts, accepted-types}
-use Rattle.place.specs.declared.Step.the-variants.{To, NoStep}
+use Rattle.steps.specs.declared.Step.the-variants.{To, NoStep}
 use Rattle.place.specs.declared.Place.the-variants.{At, NoPlace}
 use Rattle.place.specs.Place.{follow, stepIn, leafIn, placeIn, placeOf}
 use Rattle.place.proofs.ByteLaws.{Standing, standing-start, standing-step, standing-fits}

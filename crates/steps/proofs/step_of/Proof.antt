@@ -1,10 +1,10 @@
--- `place::step_of` meets its contract: each answer follows from what the type is and the tests on the way. Assumes nothing.
+-- `steps::step_of` meets its contract: each answer follows from what the type is and the tests on the way. Assumes nothing.
 use borrow.Author.Needs.{needs}
 use Prim.Native.Nat.{_^_}
 use borrow.Author.Tests.{lt-ltb, le-ltb}
-use Rattle.place.specs.Place.{stepOf}
-use Rattle.place.proofs.step_of.Statement.{statement}
-use Rattle.place.proofs.step_of.Tie as tie
+use Rattle.steps.specs.Steps.{stepOf}
+use Rattle.steps.proofs.step_of.Statement.{statement}
+use Rattle.steps.proofs.step_of.Tie as tie
 
 returns : tie.Need-returns
 unfolding stepOf

@@ -1,8 +1,8 @@
--- `place::element` meets its contract: a product of two 32-bit words fits 64 bits. Assumes nothing.
+-- `steps::element` meets its contract: a product of two 32-bit words fits 64 bits. Assumes nothing.
 use borrow.Author.Needs.{needs}
-use Rattle.place.proofs.ByteLaws.{product-fits}
-use Rattle.place.proofs.element.Statement.{statement}
-use Rattle.place.proofs.element.Tie as tie
+use Rattle.steps.proofs.ProductLaws.{product-fits}
+use Rattle.steps.proofs.element.Statement.{statement}
+use Rattle.steps.proofs.element.Tie as tie
 
 mul-bytes : tie.Need-mul-bytes
 mul-bytes c = record { fits = product-fits (c .args .step) (c .args .stride) (c .fits .step .fits) (c .fits .stride .fits) }
