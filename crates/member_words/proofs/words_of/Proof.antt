@@ -1,4 +1,4 @@
--- `doorway::words_of` meets its contract: a walk of its MIR, by hand, with a loop.
+-- `member_words::words_of` meets its contract: a walk of its MIR, by hand, with a loop.
 -- The slice is looked into once, before the loop, and shut once, after it. The array is taken apart into its words once, before the loop, and put together again after it. Assumes nothing.
 use mathlib.Core.Path.{_≡_, refl, sym, _∙_, subst}
 use Prim.Native.Nat.{ℕ, _+_, _*_, _-_, _<_, _≤_, _^_, zero-le}
@@ -46,16 +46,16 @@ use denote.Triple.Spec.{Meets, tripleOf}
 use denote.Triple.Table.{entered}
 use denote.Triple.Walked.{says, needs, Stays, stay-none, stay-none-slice, walkOf, goes-none, goes-none-slice, Walks, ends-at, walked, walk-meets}
 use denote.Exit.{yes}
-use Rattle.doorway.specs.Flat.{flat}
-use Rattle.doorway.specs.declared.Member.{Member}
-use Rattle.doorway.proofs.FlatLaws.{none, one-more, none-yet}
-use Rattle.doorway.proofs.Member as T
-use Rattle.doorway.proofs.Member.Laws as T′
-use Rattle.doorway.proofs.words_of.Key.{name as #doorway·words-of}
-use Rattle.doorway.proofs.words_of as fun
-use Rattle.doorway.proofs.words_of.Statement as stated
-use Rattle.doorway.proofs.words_of.Code as code
-use Rattle.doorway.proofs.words_of.Code.Mir as Mir
+use Rattle.member_words.specs.Flat.{flat}
+use Rattle.member_words.specs.declared.Member.{Member}
+use Rattle.member_words.proofs.FlatLaws.{none, one-more, none-yet}
+use Rattle.member_words.proofs.Member as T
+use Rattle.member_words.proofs.Member.Laws as T′
+use Rattle.member_words.proofs.words_of.Key.{name as #member-words·words-of}
+use Rattle.member_words.proofs.words_of as fun
+use Rattle.member_words.proofs.words_of.Statement as stated
+use Rattle.member_words.proofs.words_of.Code as code
+use Rattle.member_words.proofs.words_of.Code.Mir as Mir
 
 abbrev stayed : Stays (fun.ended .signature .params) (fun.ended .kept)
 stayed = (stay-none-slice (0 ∷ []) tt (plain (λ _. T.the-row)) yes, (stay-none (λ _. usize) yes, tt))
@@ -296,5 +296,5 @@ pub words-of-spec : {M : Type 1} → stated.statement M
 unfolding code.routine tablesOf
 words-of-spec 𝓤 H 𝓜 𝓖 𝓡 =
     entered 𝓤 H (tripleOf 𝓤 H (𝓖 .A) fun.signature (fun.spec 𝓤 H (𝓖 .A) (𝓜 .mem) (𝓡 .run)))
-    (tables 𝓤 H 𝓜 𝓡 code.env .C) (tables 𝓤 H 𝓜 𝓡 code.env .Λ) #doorway·words-of code.function (code.unfolded 𝓤 H 𝓜 𝓡)
+    (tables 𝓤 H 𝓜 𝓡 code.env .C) (tables 𝓤 H 𝓜 𝓡 code.env .Λ) #member-words·words-of code.function (code.unfolded 𝓤 H 𝓜 𝓡)
     (meets 𝓤 H (𝓖 .A) (givenOf 𝓤 H 𝓜 𝓖) (𝓜 .mem) (𝓡 .run) (tablesOf 𝓤 H 𝓜 (tables 𝓤 H 𝓜 𝓡 code.env)))

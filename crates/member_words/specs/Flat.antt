@@ -2,7 +2,7 @@
 -- Assumes nothing.
 use Prim.Native.Nat.{ℕ}
 use mathlib.Core.List.{List, [], _∷_}
-use Rattle.doorway.specs.declared.Member.{Member}
+use Rattle.member_words.specs.declared.Member.{Member}
 
 -- the words of the records, one record after the other, type then offset
 unfoldable pub flat : List Member → List ℕ

@@ -12,8 +12,8 @@ use lib.ListN.{length, getD, set, take}
 use lib.Seq.{take-suc, take-suc-set, append-snoc, lt-length-set, take-length, length-take-le}
 use borrow.Author.Tests.{leb-true, leb-false}
 use Rattle.records.specs.Result.{pick}
-use Rattle.doorway.specs.Flat.{flat}
-use Rattle.doorway.specs.declared.Member.{Member}
+use Rattle.member_words.specs.Flat.{flat}
+use Rattle.member_words.specs.declared.Member.{Member}
 
 -- what a read past the end would give
 abbrev pub none : Member

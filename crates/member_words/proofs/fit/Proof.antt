@@ -1,6 +1,6 @@
 use borrow.Author.Tests.{le-leb, lt-leb}
-use Rattle.doorway.proofs.fit.Statement.{statement}
-use Rattle.doorway.proofs.fit.Tie as tie
+use Rattle.member_words.proofs.fit.Statement.{statement}
+use Rattle.member_words.proofs.fit.Tie as tie
 
 returns : tie.Need-returns
 returns c = simp (le-leb _ _ (c .if1 .taken))
