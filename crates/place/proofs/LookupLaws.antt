@@ -82,6 +82,10 @@ module _ {ts ms : List ℕ} {start : ℕ} {steps : List ℕ} {i ty byte : ℕ} (
       let f = tables-fitting (length ts) (length ms) (typeCount ts * rowWords) (T-true _ (arena-parts (l .capabilities) ts ms (l .accepted) .fits)) in
       standing-fits (l .capabilities) (decoded ts ms) (typeCount ts) (f .types) ty byte (l .standing)
 
+  -- at the byte place that the code holds
+  pub looking-at : (held : ℕ) → byte ≡ held → Looking ts ms start steps i ty held
+  looking-at held e = rw e at l
+
   -- the next step is followed
   next : i < length steps
       → follow (stepIn (decoded ts ms) ty (getD steps i 0)) (λ next bytes. placeIn (decoded ts ms) next (byte + bytes) (drop (i + 1) steps))
