@@ -25,18 +25,30 @@ pub fn read_more(buffer: &mut [u8], held: usize) -> Input
     ensures { λ r. ⌜ r .end ≤ length (now (buffer .entry)) ⌝ }
 {
     if buffer.len() <= held {
-        return Input { end: 0, read: Read::Full };
+        return Input {
+            end: 0,
+            read: Read::Full,
+        };
     }
     let got = libc::read(STDIN, &mut buffer[held..]);
     if got < 0 {
-        return Input { end: 0, read: Read::Failed };
+        return Input {
+            end: 0,
+            read: Read::Failed,
+        };
     }
     let more = io::count(got, &buffer[held..]);
     if more == 0 {
         buffer[held] = NEWLINE;
-        return Input { end: held + 1, read: Read::Ended };
+        return Input {
+            end: held + 1,
+            read: Read::Ended,
+        };
     }
-    Input { end: held + more, read: Read::More }
+    Input {
+        end: held + more,
+        read: Read::More,
+    }
 }
 
 // Moves the bytes from `from` up to `end` to the front.

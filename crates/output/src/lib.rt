@@ -111,13 +111,25 @@ pub fn put_place(out: &mut [u8], at: usize, byte: u64, leaf: u32) -> usize {
 fn put_usage(out: &mut [u8], at: usize, command: arguments::Command) -> usize {
     match command {
         arguments::Command::Capabilities => put_text(out, at, b"caps takes one number\n"),
-        arguments::Command::TypeRecord => put_text(out, at, b"type takes a kind and at most 5 words\n"),
-        arguments::Command::MemberRecord => put_text(out, at, b"member takes a type and an offset\n"),
+        arguments::Command::TypeRecord => put_text(
+            out,
+            at,
+            b"type takes a kind and at most 5 words\n",
+        ),
+        arguments::Command::MemberRecord => put_text(
+            out,
+            at,
+            b"member takes a type and an offset\n",
+        ),
         arguments::Command::Check => put_text(out, at, b"check takes no number\n"),
         arguments::Command::Members => put_text(out, at, b"members takes a type\n"),
         arguments::Command::Slots => put_text(out, at, b"slots takes a type and an offset\n"),
         arguments::Command::Range => put_text(out, at, b"range takes an offset and a size\n"),
-        arguments::Command::Place => put_text(out, at, b"place takes a type and at most 1024 steps\n"),
+        arguments::Command::Place => put_text(
+            out,
+            at,
+            b"place takes a type and at most 1024 steps\n",
+        ),
         arguments::Command::Clear => put_text(out, at, b"clear takes no number\n"),
         arguments::Command::Unknown => put_text(
             out,
@@ -135,7 +147,12 @@ fn put_word(out: &mut [u8], at: usize, word: u32, what: &[u8]) -> usize {
 
 pub fn put_reason(out: &mut [u8], at: usize, reason: arguments::Reason) -> usize {
     match reason {
-        arguments::Reason::NotANumber(word) => put_word(out, at, word, b" is not a decimal number\n"),
+        arguments::Reason::NotANumber(word) => put_word(
+            out,
+            at,
+            word,
+            b" is not a decimal number\n",
+        ),
         arguments::Reason::TooLarge(word) => put_word(out, at, word, b" is above 4294967295\n"),
         arguments::Reason::Usage(command) => put_usage(out, at, command),
     }

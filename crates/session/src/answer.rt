@@ -28,13 +28,7 @@ fn check(session: Session, arena: &[u32], out: &mut [u8]) -> Session {
     }
 }
 
-fn slots_of(
-    session: Session,
-    arena: &[u32],
-    out: &mut [u8],
-    ty: u32,
-    offset: u32,
-) -> Session {
+fn slots_of(session: Session, arena: &[u32], out: &mut [u8], ty: u32, offset: u32) -> Session {
     let mut rows = [0u32; 14336];
     let t = commands::part(arena, 0, session.types);
     let m = commands::part(arena, commands::MEMBERS_AT, session.members);
@@ -45,13 +39,7 @@ fn slots_of(
     )
 }
 
-fn place_of(
-    session: Session,
-    arena: &[u32],
-    out: &mut [u8],
-    start: u32,
-    steps: &[u32],
-) -> Session {
+fn place_of(session: Session, arena: &[u32], out: &mut [u8], start: u32, steps: &[u32]) -> Session {
     let mut rows = [0u32; 14336];
     let at = session.waiting;
     let t = commands::part(arena, 0, session.types);
