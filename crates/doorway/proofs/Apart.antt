@@ -29,12 +29,12 @@ use denote.Triple.Spec.{tripleOf}
 use denote.Triple.Clauses.{ensured, lasts}
 use denote.Triple.Walked.{says}
 use Rattle.records.specs.Result.{pick as choose}
-use Rattle.doorway.specs.Flat.{flat}
-use Rattle.doorway.specs.declared.Member.{Member}
-use Rattle.doorway.proofs.FlatLaws.{fit-le}
-use Rattle.doorway.proofs.Member as T
-use Rattle.doorway.proofs.fit as fit
-use Rattle.doorway.proofs.words_of as words
+use Rattle.member_words.specs.Flat.{flat}
+use Rattle.member_words.specs.declared.Member.{Member}
+use Rattle.member_words.proofs.FlatLaws.{fit-le}
+use Rattle.member_words.proofs.Member as T
+use Rattle.member_words.proofs.fit as fit
+use Rattle.member_words.proofs.words_of as words
 
 abbrev pub Words : RattleType
 Words = Array u32 8194

@@ -1,3 +1,2 @@
-mod FlatLaws
 mod CoreLaws
 mod Apart

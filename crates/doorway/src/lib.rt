@@ -1,45 +1,15 @@
 // Members as a lent run of member records, taken apart for the word core.
+use member_words::Member;
 use place::PlaceAnswer;
 use records::Outcome;
 use slots::SlotsAnswer;
 ghost use mathlib.Core.Path.{_≡_};
 ghost use Prim.Native.Nat.{_*_, _≤_};
-ghost use lib.Dec.{leb};
-ghost use lib.ListN.{length, take};
-ghost use Rattle.records.specs.Result.{pick};
+ghost use lib.ListN.{take};
 ghost use Rattle.valid.specs.Arena.{arenaAnswer, arenaWords};
 ghost use Rattle.place.specs.Place.{lookupAnswer};
 ghost use Rattle.immediates.specs.Walk.{slotsAnswer};
-ghost use Rattle.doorway.specs.Flat.{flat};
-
-// StructMember of naga's ir/mod.rs: a type and an offset.
-pub struct Member {
-    pub ty: u32,
-    pub offset: u32,
-}
-
-// How many records are taken apart: one more than the core takes, so that the core refuses what is too long.
-fn fit(n: usize) -> usize
-    ensures { λ r. ⌜ r ≡ pick (leb n 4097) n 4097 ⌝ }
-{
-    if n <= 4097 { n } else { 4097 }
-}
-
-// The words of the first n records.
-fn words_of(ms: &[Member], n: usize) -> [u32; 8194]
-    requires { ⌜ (n ≤ length (now ms)) × (n ≤ 4097) ⌝ }
-    ensures { λ r. ⌜ take (n * 2) r ≡ flat (take n (now (ms .entry))) ⌝ }
-{
-    let mut words = [0u32; 8194];
-    let mut i = 0;
-    while i < n {
-        let m = ms[i];
-        words[i * 2] = m.ty;
-        words[i * 2 + 1] = m.offset;
-        i = i + 1;
-    }
-    words
-}
+ghost use Rattle.member_words.specs.Flat.{flat};
 
 // The arena check on the words of n records.
 fn check_words(
@@ -67,8 +37,8 @@ pub fn check_members(
     ensures { λ r. ⌜ r ≡ arenaAnswer capabilities (now (types .entry)) (flat (now (members .entry))) (now (rows .entry)) ⌝ }
     ensures { λ _. ⌜ now (rows .exit) ≡ arenaWords capabilities (now (types .entry)) (flat (now (members .entry))) (now (rows .entry)) ⌝ }
 {
-    let n = fit(members.len());
-    let words = words_of(members, n);
+    let n = member_words::fit(members.len());
+    let words = member_words::words_of(members, n);
     check_words(types, words, n, capabilities, rows)
 }
 
@@ -102,8 +72,8 @@ pub fn place_members(
     ensures { λ r. ⌜ r ≡ lookupAnswer capabilities (now (types .entry)) (flat (now (members .entry))) (now (rows .entry)) start (now (steps .entry)) ⌝ }
     ensures { λ _. ⌜ now (rows .exit) ≡ arenaWords capabilities (now (types .entry)) (flat (now (members .entry))) (now (rows .entry)) ⌝ }
 {
-    let n = fit(members.len());
-    let words = words_of(members, n);
+    let n = member_words::fit(members.len());
+    let words = member_words::words_of(members, n);
     place_words(types, words, n, capabilities, rows, start, steps)
 }
 
@@ -137,7 +107,7 @@ pub fn slots_members(
     ensures { λ r. ⌜ r ≡ slotsAnswer capabilities (now (types .entry)) (flat (now (members .entry))) (now (rows .entry)) ty offset ⌝ }
     ensures { λ _. ⌜ now (rows .exit) ≡ arenaWords capabilities (now (types .entry)) (flat (now (members .entry))) (now (rows .entry)) ⌝ }
 {
-    let n = fit(members.len());
-    let words = words_of(members, n);
+    let n = member_words::fit(members.len());
+    let words = member_words::words_of(members, n);
     slots_words(types, words, n, capabilities, rows, ty, offset)
 }

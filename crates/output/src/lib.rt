@@ -108,18 +108,30 @@ pub fn put_place(out: &mut [u8], at: usize, byte: u64, leaf: u32) -> usize {
     put_byte(out, c, b'\n')
 }
 
-fn put_usage(out: &mut [u8], at: usize, command: text::Command) -> usize {
+fn put_usage(out: &mut [u8], at: usize, command: arguments::Command) -> usize {
     match command {
-        text::Command::Capabilities => put_text(out, at, b"caps takes one number\n"),
-        text::Command::TypeRecord => put_text(out, at, b"type takes a kind and at most 5 words\n"),
-        text::Command::MemberRecord => put_text(out, at, b"member takes a type and an offset\n"),
-        text::Command::Check => put_text(out, at, b"check takes no number\n"),
-        text::Command::Members => put_text(out, at, b"members takes a type\n"),
-        text::Command::Slots => put_text(out, at, b"slots takes a type and an offset\n"),
-        text::Command::Range => put_text(out, at, b"range takes an offset and a size\n"),
-        text::Command::Place => put_text(out, at, b"place takes a type and at most 1024 steps\n"),
-        text::Command::Clear => put_text(out, at, b"clear takes no number\n"),
-        text::Command::Unknown => put_text(
+        arguments::Command::Capabilities => put_text(out, at, b"caps takes one number\n"),
+        arguments::Command::TypeRecord => put_text(
+            out,
+            at,
+            b"type takes a kind and at most 5 words\n",
+        ),
+        arguments::Command::MemberRecord => put_text(
+            out,
+            at,
+            b"member takes a type and an offset\n",
+        ),
+        arguments::Command::Check => put_text(out, at, b"check takes no number\n"),
+        arguments::Command::Members => put_text(out, at, b"members takes a type\n"),
+        arguments::Command::Slots => put_text(out, at, b"slots takes a type and an offset\n"),
+        arguments::Command::Range => put_text(out, at, b"range takes an offset and a size\n"),
+        arguments::Command::Place => put_text(
+            out,
+            at,
+            b"place takes a type and at most 1024 steps\n",
+        ),
+        arguments::Command::Clear => put_text(out, at, b"clear takes no number\n"),
+        arguments::Command::Unknown => put_text(
             out,
             at,
             b"no such command; there are caps, type, member, check, members, slots, range, place and clear\n",
@@ -133,11 +145,16 @@ fn put_word(out: &mut [u8], at: usize, word: u32, what: &[u8]) -> usize {
     put_text(out, b, what)
 }
 
-pub fn put_reason(out: &mut [u8], at: usize, reason: text::Reason) -> usize {
+pub fn put_reason(out: &mut [u8], at: usize, reason: arguments::Reason) -> usize {
     match reason {
-        text::Reason::NotANumber(word) => put_word(out, at, word, b" is not a decimal number\n"),
-        text::Reason::TooLarge(word) => put_word(out, at, word, b" is above 4294967295\n"),
-        text::Reason::Usage(command) => put_usage(out, at, command),
+        arguments::Reason::NotANumber(word) => put_word(
+            out,
+            at,
+            word,
+            b" is not a decimal number\n",
+        ),
+        arguments::Reason::TooLarge(word) => put_word(out, at, word, b" is above 4294967295\n"),
+        arguments::Reason::Usage(command) => put_usage(out, at, command),
     }
 }
 

@@ -22,18 +22,13 @@ use Rattle.flags.specs.Flags.{bit, sizedBit}
 use Rattle.flags.proofs.BitLaws.{bit-and}
 use Rattle.valid.specs.Arena.{row}
 use Rattle.valid.proofs.AcceptedLaws.{AcceptedTypes, base-sized, runtime-array-row, struct-member}
-use Rattle.place.specs.declared.Step.the-variants.{To}
-use Rattle.place.specs.Place.{stepOf, stepIn}
+use Rattle.steps.specs.declared.Step.the-variants.{To}
+use Rattle.steps.specs.Steps.{stepOf}
+use Rattle.place.specs.Place.{stepIn}
 use Rattle.place.proofs.WalkLaws.{plain-step, array-step, runtime-array-step, struct-step, other-step}
 use Rattle.place.proofs.StepLaws.{stepped}
 
 -- the product of two 32-bit words fits 64 bits
-pub product-fits : (a b : ℕ) → a < 2 ^ 32 → b < 2 ^ 32 → a * b < 2 ^ 64
-product-fits a b h l =
-    let p : a ≤ 4294967295 = omega arith in
-    let q : b ≤ 4294967295 = omega arith in
-    omega (arith, mul-within a b p q)
-
 -- type t is SIZED
 abbrev Sized : (c : ℕ) (types : ℕ → Decoded) → ℕ → Type 0
 Sized c types t = T (bit (row c types t .flags) sizedBit)

@@ -21,7 +21,8 @@ use Rattle.valid.specs.Arena.{row, judgeOutcome, arenaOutcome, arena}
 use Rattle.valid.proofs.AcceptedLaws.{AcceptedTypes, array-row, runtime-array-row, member-earlier}
 use Rattle.valid.proofs.ArenaLaws.{accepted-types}
 use Rattle.place.specs.declared.Place.the-variants.{At}
-use Rattle.place.specs.Place.{stepOf, placeOf}
+use Rattle.steps.specs.Steps.{stepOf}
+use Rattle.place.specs.Place.{placeOf}
 use Rattle.place.specs.Term3.{rowIn, HostShareableData, Reached, itself, element, runtimeElement, member, strideCovers, StridesCover, rewrite}
 use Rattle.place.proofs.Term3Proof.{term3}
 

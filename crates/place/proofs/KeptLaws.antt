@@ -7,10 +7,11 @@ use native.Mathlib.Omega.{arith}
 use Rattle.records.specs.Result.{pick}
 use Rattle.records.specs.Record.{Decoded}
 use Rattle.valid.proofs.AcceptedLaws.{AcceptedTypes}
-use Rattle.place.specs.declared.Step.{Step}
-use Rattle.place.specs.declared.Step.the-variants.{To, NoStep}
+use Rattle.steps.specs.declared.Step.{Step}
+use Rattle.steps.specs.declared.Step.the-variants.{To, NoStep}
 use Rattle.place.specs.declared.Place.the-variants.{At, NoPlace}
-use Rattle.place.specs.Place.{isLeaf, stepOf, stepIn, placeIn}
+use Rattle.steps.specs.Steps.{isLeaf, stepOf}
+use Rattle.place.specs.Place.{stepIn, placeIn}
 use Rattle.place.proofs.StepLaws.{stepped}
 
 -- two arenas whose records below n are the same, the first accepted

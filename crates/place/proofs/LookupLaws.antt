@@ -19,7 +19,7 @@ use Rattle.records.proofs.ResultLaws.{and-left}
 use Rattle.records.proofs.RecordLaws.{tables-fitting}
 use Rattle.valid.specs.Arena.{arenaOutcome, arenaAnswer, arena}
 use Rattle.valid.proofs.ArenaLaws.{arena-parts, accepted-types}
-use Rattle.place.specs.declared.Step.the-variants.{To, NoStep}
+use Rattle.steps.specs.declared.Step.the-variants.{To, NoStep}
 use Rattle.place.specs.declared.Place.the-variants.{At, NoPlace}
 use Rattle.place.specs.Place.{follow, stepIn, leafIn, placeIn, placeOf}
 use Rattle.place.proofs.ByteLaws.{Standing, standing-start, standing-step, standing-fits}
@@ -81,6 +81,10 @@ module _ {ts ms : List ℕ} {start : ℕ} {steps : List ℕ} {i ty byte : ℕ} (
   looking-fits =
       let f = tables-fitting (length ts) (length ms) (typeCount ts * rowWords) (T-true _ (arena-parts (l .capabilities) ts ms (l .accepted) .fits)) in
       standing-fits (l .capabilities) (decoded ts ms) (typeCount ts) (f .types) ty byte (l .standing)
+
+  -- at the byte place that the code holds
+  pub looking-at : (held : ℕ) → byte ≡ held → Looking ts ms start steps i ty held
+  looking-at held e = rw e at l
 
   -- the next step is followed
   next : i < length steps

@@ -22,10 +22,11 @@ use Rattle.members.specs.Members.{isArray, storageAfter}
 use Rattle.members.proofs.MemberLaws.{storage-members}
 use Rattle.valid.specs.Arena.{row}
 use Rattle.valid.proofs.AcceptedLaws.{AcceptedTypes, ArrayRow, base-sized, array-row, runtime-array-row, member-earlier, struct-row, struct-member, row-power}
-use Rattle.place.specs.declared.Step.{Step}
-use Rattle.place.specs.declared.Step.the-variants.{To, NoStep}
+use Rattle.steps.specs.declared.Step.{Step}
+use Rattle.steps.specs.declared.Step.the-variants.{To, NoStep}
 use Rattle.place.specs.declared.Place.the-variants.{At}
-use Rattle.place.specs.Place.{stepOf, stepIn, leafIn, placeIn}
+use Rattle.steps.specs.Steps.{stepOf}
+use Rattle.place.specs.Place.{stepIn, leafIn, placeIn}
 use Rattle.place.specs.Term3.{itself, element, runtimeElement, member, strideCovers, StridesCover, firstElement, after, FirstElements}
 use Rattle.place.proofs.WalkLaws.{followed, at-leaf, along, after-start, plain-step, array-step, runtime-array-step, struct-step, other-step}
 

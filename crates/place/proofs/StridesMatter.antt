@@ -20,7 +20,8 @@ use Rattle.members.specs.Members.{previousOf, memberBounds, boundsAfter, unifor
 use Rattle.valid.specs.Valid.{leafFlags, flagsOf, uniformOf, storageOf, immediatesOf, rowOf, judge}
 use Rattle.valid.specs.Arena.{row, judgeOutcome, arenaOutcome, arena}
 use Rattle.place.specs.declared.Place.the-variants.{At}
-use Rattle.place.specs.Place.{stepOf, placeOf}
+use Rattle.steps.specs.Steps.{stepOf}
+use Rattle.place.specs.Place.{placeOf}
 use Rattle.place.specs.Term3.{rowIn, HostShareableData, rewrite, leafMeasure}
 
 abbrev types : List ℕ

@@ -12,11 +12,12 @@ use Rattle.records.specs.Record.{memberType, memberOffset}
 use Rattle.records.specs.declared.NonData.{NonData}
 use Rattle.records.specs.declared.TypeInner.{TypeInner}
 use Rattle.records.specs.declared.TypeInner.the-variants.{Plain, Array, RuntimeArray, Struct, Other}
-use Rattle.place.specs.declared.Step.{Step}
-use Rattle.place.specs.declared.Step.the-variants.{To, NoStep}
+use Rattle.steps.specs.declared.Step.{Step}
+use Rattle.steps.specs.declared.Step.the-variants.{To, NoStep}
 use Rattle.place.specs.declared.Place.{Place}
 use Rattle.place.specs.declared.Place.the-variants.{At, NoPlace}
-use Rattle.place.specs.Place.{isLeaf, stepOf, follow, walk}
+use Rattle.steps.specs.Steps.{isLeaf, stepOf}
+use Rattle.place.specs.Place.{follow, walk}
 
 -- a step that is followed to a place is a step
 pub followed : (o : Step) (rest : ℕ → ℕ → Place) (byte leaf : ℕ) → follow o rest ≡ At byte leaf

@@ -1,40 +1,22 @@
 -- 01, 'The place': steps (member numbers, element numbers) lead from a DATA type to a leaf. Fed the type and member records, the start
 -- and the steps, never a row.
 -- Assumes nothing.
-use mathlib.Core.Bool.{Bool, true, false}
+use mathlib.Core.Bool.{Bool}
 use mathlib.Core.List.{List, [], _∷_}
-use Prim.Native.Nat.{ℕ, _+_, _*_, _^_}
+use Prim.Native.Nat.{ℕ, _+_}
 use lib.Dec.{ltb}
 use Rattle.records.specs.Result.{pick}
-use Rattle.records.specs.Record.{typeCount, memberType, memberOffset, Decoded, decoded}
-use Rattle.records.specs.declared.TypeInner.{TypeInner}
-use Rattle.records.specs.declared.TypeInner.the-variants.{Plain, Array, RuntimeArray, Struct, Other}
+use Rattle.records.specs.Record.{typeCount, Decoded, decoded}
 use Rattle.records.specs.declared.Outcome.{Outcome}
 use Rattle.records.specs.declared.Outcome.the-variants as outcome
 use Rattle.valid.specs.Arena.{arenaAnswer}
+use Rattle.steps.specs.Steps.{isLeaf, stepOf}
 use Rattle.place.specs.declared.PlaceAnswer.{PlaceAnswer}
 use Rattle.place.specs.declared.PlaceAnswer.the-variants as answer
-use Rattle.place.specs.declared.Step.{Step}
-use Rattle.place.specs.declared.Step.the-variants.{To, NoStep}
+use Rattle.steps.specs.declared.Step.{Step}
+use Rattle.steps.specs.declared.Step.the-variants.{To, NoStep}
 use Rattle.place.specs.declared.Place.{Place}
 use Rattle.place.specs.declared.Place.the-variants.{At, NoPlace}
-
--- a leaf: a DATA type that is neither array nor struct. A matrix is one leaf
-abbrev pub isLeaf : TypeInner → Bool
-isLeaf (Plain leaf) = true
-isLeaf (Array base count stride) = false
-isLeaf (RuntimeArray base stride) = false
-isLeaf (Struct count span) = false
-isLeaf (Other o) = false
-
--- one step. At an array, a step below the count adds step times stride and goes on with the base; a runtime array takes any 32-bit
--- element number. At a struct, a step below the member count adds that member's offset and goes on with its type
-unfoldable pub stepOf : TypeInner → (members : List ℕ) → (step : ℕ) → Step
-stepOf (Plain leaf) members step = NoStep
-stepOf (Array base count stride) members step = pick (ltb step count) (To base (step * stride)) NoStep
-stepOf (RuntimeArray base stride) members step = pick (ltb step (2 ^ 32)) (To base (step * stride)) NoStep
-stepOf (Struct count span) members step = pick (ltb step count) (To (memberType members step) (memberOffset members step)) NoStep
-stepOf (Other o) members step = NoStep
 
 abbrev pub follow : Step → (ℕ → ℕ → Place) → Place
 follow (To ty bytes) rest = rest ty bytes

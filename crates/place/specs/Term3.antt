@@ -17,8 +17,8 @@ use Rattle.flags.specs.Flags.{bit, dataBit, hostShareableBit}
 use Rattle.type_info.specs.declared.Row.{Row}
 use Rattle.type_info.specs.Verdict.{isOk, alignmentIn}
 use Rattle.valid.specs.Arena.{arena, row}
-use Rattle.place.specs.declared.Step.{Step}
-use Rattle.place.specs.declared.Step.the-variants.{To, NoStep}
+use Rattle.steps.specs.declared.Step.{Step}
+use Rattle.steps.specs.declared.Step.the-variants.{To, NoStep}
 use Rattle.place.specs.declared.Place.the-variants.{At}
 use Rattle.place.specs.Place.{stepIn, placeOf}
 

@@ -1,18 +1,11 @@
 // The place lookup: from a type along steps to the byte place of a leaf.
 use records::Outcome;
-use records::TypeInner;
+use steps::Step;
 ghost use mathlib.Core.Path.{_≡_};
-ghost use Prim.Native.Nat.{ℕ, _*_};
+ghost use Prim.Native.Nat.{ℕ};
 ghost use Rattle.records.specs.declared.Outcome.the-variants.{Accepted};
 ghost use Rattle.valid.specs.Arena.{arena, arenaWords};
-ghost use Rattle.place.specs.declared.Step.the-variants.{To};
-ghost use Rattle.place.specs.Place.{isLeaf, stepOf, placeOf, placeAnswer, lookupAnswer};
-
-// What one step does: the next type and the bytes added.
-pub enum Step {
-    To { ty: u32, bytes: u64 },
-    NoStep,
-}
+ghost use Rattle.place.specs.Place.{placeOf, placeAnswer, lookupAnswer};
 
 // The byte place of a leaf and its type.
 pub enum Place {
@@ -33,66 +26,6 @@ pub enum PlaceAnswer {
     },
 }
 
-fn is_leaf(inner: TypeInner) -> bool
-    ensures { λ r. ⌜ r ≡ isLeaf inner ⌝ }
-{
-    match inner {
-        TypeInner::Plain(_) => true,
-        TypeInner::Array {
-            base: _,
-            count: _,
-            stride: _,
-        } => false,
-        TypeInner::RuntimeArray { base: _, stride: _ } => false,
-        TypeInner::Struct { count: _, span: _ } => false,
-        TypeInner::Other(_) => false,
-    }
-}
-
-// Element `step` of an array.
-fn element(base: u32, stride: u32, step: u32) -> Step
-    ensures { λ r. ⌜ r ≡ To base (step * stride) ⌝ }
-{
-    let bytes = (step as u64) * (stride as u64);
-    Step::To { ty: base, bytes }
-}
-
-// One step from a type whose member rows are in part.
-fn step_of(inner: TypeInner, part: &[u32], step: u32) -> Step
-    ensures { λ r. ⌜ r ≡ stepOf inner (now (part .entry)) step ⌝ }
-{
-    match inner {
-        TypeInner::Plain(_) => Step::NoStep,
-        TypeInner::Array {
-            base,
-            count,
-            stride,
-        } => {
-            if step < count {
-                element(base, stride, step)
-            } else {
-                Step::NoStep
-            }
-        }
-        TypeInner::RuntimeArray { base, stride } => element(base, stride, step),
-        TypeInner::Struct {
-            count: members,
-            span: _,
-        } => {
-            if step < members {
-                let bytes = records::member_offset(part, step) as u64;
-                Step::To {
-                    ty: records::member_type(part, step),
-                    bytes,
-                }
-            } else {
-                Step::NoStep
-            }
-        }
-        TypeInner::Other(_) => Step::NoStep,
-    }
-}
-
 // The place that steps lead to, in an accepted arena.
 fn place_of(types: &[u32], members: &[u32], start: u32, steps: &[u32]) -> Place
     requires { ⌜ ((c : ℕ) × (arena c (now types) (now members) ≡ Accepted)) ⌝ }
@@ -107,7 +40,7 @@ fn place_of(types: &[u32], members: &[u32], start: u32, steps: &[u32]) -> Place
     while i < steps.len() {
         let inner = records::type_inner(types, ty);
         let part = records::struct_members(types, members, ty);
-        match step_of(inner, part, steps[i]) {
+        match steps::step_of(inner, part, steps[i]) {
             Step::To { ty: next, bytes } => {
                 ty = next;
                 byte += bytes;
@@ -118,7 +51,7 @@ fn place_of(types: &[u32], members: &[u32], start: u32, steps: &[u32]) -> Place
         }
         i += 1;
     }
-    if is_leaf(records::type_inner(types, ty)) {
+    if steps::is_leaf(records::type_inner(types, ty)) {
         return Place::At { byte, leaf: ty };
     }
     Place::NoPlace

@@ -3,11 +3,12 @@
 use mathlib.Core.Path.{_≡_, refl}
 use mathlib.Core.List.{List, [], _∷_}
 use Prim.Native.Nat.{ℕ}
-use Rattle.text.specs.Words.{runOf, beforeComment, withoutReturn, textOf, pieces, words}
-use Rattle.text.specs.Number.{allDigits, decimal, numberOf}
-use Rattle.text.specs.Line.{same, commandOf, numbersOf, argumentsOf, lineOf, numbersRead}
-use Rattle.text.specs.declared.Command.the-variants as command
-use Rattle.text.specs.declared.Reason.the-variants as reason
+use Rattle.words.specs.Words.{runOf, beforeComment, withoutReturn, textOf, pieces, words}
+use Rattle.words.specs.Number.{allDigits, decimal, numberOf}
+use Rattle.arguments.specs.Arguments.{numbersOf}
+use Rattle.text.specs.Line.{same, lastCommandOf, laterCommandOf, commandOf, argumentsOf, lineOf, numbersRead}
+use Rattle.arguments.specs.declared.Command.the-variants as command
+use Rattle.arguments.specs.declared.Reason.the-variants as reason
 use Rattle.text.specs.declared.Line.{Line}
 use Rattle.text.specs.declared.Line.the-variants as line
 
@@ -19,12 +20,12 @@ abbrev rangeLine : List ℕ
 rangeLine = 114 ∷ 97 ∷ 110 ∷ 103 ∷ 101 ∷ 32 ∷ 32 ∷ 51 ∷ 32 ∷ 50 ∷ 53 ∷ 50 ∷ 32 ∷ 35 ∷ 32 ∷ 49 ∷ 13 ∷ []
 
 range-line : (read rangeLine ≡ line.Range 3 252) × (numbersRead (words (textOf rangeLine)) ≡ 3 ∷ 252 ∷ [])
-unfolding runOf beforeComment withoutReturn pieces words allDigits decimal numberOf same commandOf numbersOf argumentsOf
+unfolding runOf beforeComment withoutReturn pieces words allDigits decimal numberOf same lastCommandOf laterCommandOf commandOf numbersOf argumentsOf
 range-line = (refl, refl)
 
 -- "\ttype 8 0 2": words left off are 0
 type-line : read (9 ∷ 116 ∷ 121 ∷ 112 ∷ 101 ∷ 32 ∷ 56 ∷ 32 ∷ 48 ∷ 32 ∷ 50 ∷ []) ≡ line.TypeRecord 8 0 2 0 0 0
-unfolding runOf beforeComment withoutReturn pieces words allDigits decimal numberOf same commandOf numbersOf argumentsOf
+unfolding runOf beforeComment withoutReturn pieces words allDigits decimal numberOf same lastCommandOf laterCommandOf commandOf numbersOf argumentsOf
 type-line = refl
 
 -- " # x" does nothing
@@ -34,18 +35,18 @@ comment-line = refl
 
 -- "caps 4294967296" and "caps 1x"
 large-line : read (99 ∷ 97 ∷ 112 ∷ 115 ∷ 32 ∷ 52 ∷ 50 ∷ 57 ∷ 52 ∷ 57 ∷ 54 ∷ 55 ∷ 50 ∷ 57 ∷ 54 ∷ []) ≡ line.Wrong (reason.TooLarge 2)
-unfolding runOf beforeComment withoutReturn pieces words allDigits decimal numberOf same commandOf numbersOf argumentsOf
+unfolding runOf beforeComment withoutReturn pieces words allDigits decimal numberOf same lastCommandOf laterCommandOf commandOf numbersOf argumentsOf
 large-line = refl
 
 word-line : read (99 ∷ 97 ∷ 112 ∷ 115 ∷ 32 ∷ 49 ∷ 120 ∷ []) ≡ line.Wrong (reason.NotANumber 2)
-unfolding runOf beforeComment withoutReturn pieces words allDigits decimal numberOf same commandOf numbersOf argumentsOf
+unfolding runOf beforeComment withoutReturn pieces words allDigits decimal numberOf same lastCommandOf laterCommandOf commandOf numbersOf argumentsOf
 word-line = refl
 
 -- "check 1" and "chec"
 check-line : read (99 ∷ 104 ∷ 101 ∷ 99 ∷ 107 ∷ 32 ∷ 49 ∷ []) ≡ line.Wrong (reason.Usage command.Check)
-unfolding runOf beforeComment withoutReturn pieces words allDigits decimal numberOf same commandOf numbersOf argumentsOf
+unfolding runOf beforeComment withoutReturn pieces words allDigits decimal numberOf same lastCommandOf laterCommandOf commandOf numbersOf argumentsOf
 check-line = refl
 
 unknown-line : read (99 ∷ 104 ∷ 101 ∷ 99 ∷ []) ≡ line.Wrong (reason.Usage command.Unknown)
-unfolding runOf beforeComment withoutReturn pieces words allDigits decimal numberOf same commandOf numbersOf argumentsOf
+unfolding runOf beforeComment withoutReturn pieces words allDigits decimal numberOf same lastCommandOf laterCommandOf commandOf numbersOf argumentsOf
 unknown-line = refl

@@ -1,4 +1,2 @@
-pub mod WordLaws
-pub mod NumberLaws
 pub mod LineLaws
 pub mod Examples

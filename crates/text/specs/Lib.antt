@@ -1,3 +1,1 @@
-pub mod Words
-pub mod Number
 pub mod Line

@@ -3,22 +3,14 @@
 use mathlib.Core.Path.{_≡_}
 use mathlib.Core.Bool.{Bool, true, false, _&&_}
 use mathlib.Core.List.{List, [], _∷_}
-use Prim.Native.Nat.{ℕ, zero, suc, _+_, _-_, _≤_}
+use Prim.Native.Nat.{ℕ, _-_}
 use lib.Dec.{eqb, leb}
-use lib.ListN.{length, getD, take, drop}
+use lib.ListN.{length, getD, take}
 use Rattle.records.specs.Result.{pick}
-use Rattle.text.specs.Words.{words}
-use Rattle.text.specs.Number.{numberOf}
-use Rattle.text.specs.declared.Number.{Number}
-use Rattle.text.specs.declared.Number.the-variants as number
-use Rattle.text.specs.declared.Command.{Command}
-use Rattle.text.specs.declared.Command.the-variants as command
-use Rattle.text.specs.declared.Reason.{Reason}
-use Rattle.text.specs.declared.Reason.the-variants as reason
-use Rattle.text.specs.declared.Count.{Count}
-use Rattle.text.specs.declared.Count.the-variants as count
-use Rattle.text.specs.declared.Next.{Next}
-use Rattle.text.specs.declared.Next.the-variants as next
+use Rattle.arguments.specs.Arguments.{Arguments, read, wrong, numbersOf}
+use Rattle.arguments.specs.declared.Command.{Command}
+use Rattle.arguments.specs.declared.Command.the-variants as command
+use Rattle.arguments.specs.declared.Reason.the-variants as reason
 use Rattle.text.specs.declared.Line.{Line}
 use Rattle.text.specs.declared.Line.the-variants as line
 
@@ -28,19 +20,29 @@ same [] (y ∷ t) = false
 same (x ∷ s) [] = false
 same (x ∷ s) (y ∷ t) = eqb x y && same s t
 
--- caps, type, member, check, members, slots, range, place, clear
+-- range, place, clear
+unfoldable pub lastCommandOf : List ℕ → Command
+lastCommandOf w =
+    pick (same w (114 ∷ 97 ∷ 110 ∷ 103 ∷ 101 ∷ [])) command.Range
+    (pick (same w (112 ∷ 108 ∷ 97 ∷ 99 ∷ 101 ∷ [])) command.Place
+    (pick (same w (99 ∷ 108 ∷ 101 ∷ 97 ∷ 114 ∷ [])) command.Clear
+    command.Unknown))
+
+-- check, members, slots
+unfoldable pub laterCommandOf : List ℕ → Command
+laterCommandOf w =
+    pick (same w (99 ∷ 104 ∷ 101 ∷ 99 ∷ 107 ∷ [])) command.Check
+    (pick (same w (109 ∷ 101 ∷ 109 ∷ 98 ∷ 101 ∷ 114 ∷ 115 ∷ [])) command.Members
+    (pick (same w (115 ∷ 108 ∷ 111 ∷ 116 ∷ 115 ∷ [])) command.Slots
+    (lastCommandOf w)))
+
+-- caps, type, member, and those above
 unfoldable pub commandOf : List ℕ → Command
 commandOf w =
     pick (same w (99 ∷ 97 ∷ 112 ∷ 115 ∷ [])) command.Capabilities
     (pick (same w (116 ∷ 121 ∷ 112 ∷ 101 ∷ [])) command.TypeRecord
     (pick (same w (109 ∷ 101 ∷ 109 ∷ 98 ∷ 101 ∷ 114 ∷ [])) command.MemberRecord
-    (pick (same w (99 ∷ 104 ∷ 101 ∷ 99 ∷ 107 ∷ [])) command.Check
-    (pick (same w (109 ∷ 101 ∷ 109 ∷ 98 ∷ 101 ∷ 114 ∷ 115 ∷ [])) command.Members
-    (pick (same w (115 ∷ 108 ∷ 111 ∷ 116 ∷ 115 ∷ [])) command.Slots
-    (pick (same w (114 ∷ 97 ∷ 110 ∷ 103 ∷ 101 ∷ [])) command.Range
-    (pick (same w (112 ∷ 108 ∷ 97 ∷ 99 ∷ 101 ∷ [])) command.Place
-    (pick (same w (99 ∷ 108 ∷ 101 ∷ 97 ∷ 114 ∷ [])) command.Clear
-    command.Unknown))))))))
+    (laterCommandOf w)))
 
 -- the fewest and the most numbers after a command; no count is right after a word that is none
 abbrev pub leastOf : Command → ℕ
@@ -67,27 +69,7 @@ mostOf command.Place = 1025
 mostOf command.Clear = 0
 mostOf command.Unknown = 0
 
--- ---- the numbers after a command
-pub data Arguments : Type 0 where
-  read : List ℕ → Arguments
-  wrong : Reason → Arguments
-
-abbrev pub before : ℕ → Arguments → Arguments
-before n (read ns) = read (n ∷ ns)
-before n (wrong r) = wrong r
-
-abbrev pub withNumber : Number → (at : ℕ) → Arguments → Arguments
-withNumber (number.Value n) at rest = before n rest
-withNumber number.NotANumber at rest = wrong (reason.NotANumber at)
-withNumber number.TooLarge at rest = wrong (reason.TooLarge at)
-
--- at most `left` numbers; `at` is the number of the first word in the line
-unfoldable pub numbersOf : Command → (left at : ℕ) → List (List ℕ) → Arguments
-numbersOf c left at [] = read []
-numbersOf c zero at (w ∷ ws) = wrong (reason.Usage c)
-numbersOf c (suc left) at (w ∷ ws) = withNumber (numberOf w) at (numbersOf c left (suc at) ws)
-
--- and not too few
+-- ---- the numbers after a command, and not too few
 abbrev pub enough : Command → Arguments → Arguments
 enough c (read ns) = pick (leb (leastOf c) (length ns)) (read ns) (wrong (reason.Usage c))
 enough c (wrong r) = wrong r
@@ -125,22 +107,6 @@ abbrev pub numbersRead : List (List ℕ) → List ℕ
 numbersRead [] = []
 numbersRead (w ∷ ws) = listOf (argumentsOf (commandOf w) ws)
 
--- ---- what the code's answers say
 -- the words begin with the numbers
 abbrev pub Holds : List ℕ → List ℕ → Type 0
 Holds xs ns = take (length ns) xs ≡ ns
-
-abbrev pub numbersIn : Count → List ℕ → Arguments
-numbersIn (count.Numbers k) xs = read (take k xs)
-numbersIn (count.Wrong r) xs = wrong r
-
-abbrev pub countOf : Count → ℕ
-countOf (count.Numbers k) = k
-countOf (count.Wrong r) = 0
-
--- the answer is the next number from `at` on, and the other words follow it
-abbrev pub NumberAt : List ℕ → ℕ → Next → Type 0
-NumberAt s at next.End = words (drop at s) ≡ []
-NumberAt s at (next.Value n end) = (end ≤ length s) × ((c : Command) (left k : ℕ) → numbersOf c (suc left) k (words (drop at s)) ≡ before n (numbersOf c left (suc k) (words (drop end s))))
-NumberAt s at next.NotANumber = (c : Command) (left k : ℕ) → numbersOf c (suc left) k (words (drop at s)) ≡ wrong (reason.NotANumber k)
-NumberAt s at next.TooLarge = (c : Command) (left k : ℕ) → numbersOf c (suc left) k (words (drop at s)) ≡ wrong (reason.TooLarge k)

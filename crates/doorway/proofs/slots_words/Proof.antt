@@ -19,4 +19,4 @@ slots-words-spec =
     slice-aggregate-immediate-slots
     (λ c κs. search needs)
     (λ c. search needs)
-    (λ c. search needs))
+    (λ c. c .before .before .immediate-slots .ensures))

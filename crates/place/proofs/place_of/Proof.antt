@@ -1,10 +1,10 @@
 -- `place::place_of` meets its contract. The invariant: the rest of the steps from here lead where all of them lead from the start. Assumes nothing.
 use borrow.Author.Needs.{needs}
-use mathlib.Core.Path.{sym, _∙_}
+use mathlib.Core.Path.{refl, sym, _∙_}
 use Prim.Native.Nat.{_-_}
 use native.Mathlib.Omega.{arith}
 use lib.ListN.{length}
-use Rattle.place.proofs.LookupLaws.{Looking, no-start, looking-start, looking-fits, looking-ends, looking-step, looking-done}
+use Rattle.place.proofs.LookupLaws.{Looking, no-start, looking-start, looking-fits, looking-ends, looking-step, looking-at, looking-done}
 use Rattle.place.proofs.place_of.Statement.{statement}
 use Rattle.place.proofs.place_of.Tie as tie
 
@@ -27,7 +27,7 @@ returns-2 : tie.Need-returns-2 Inv-loop μ-loop
 returns-2 c = looking-ends (c .before .before .before .before .before .before .before .loop .inv) (c .before .before .before .before .before .before .loop-test .taken) (sym (c .enum-told .given .1) ∙ (rw (c .before .before .before .before .struct-members .ensures, c .before .before .before .before .before .type-inner .ensures) at (c .before .before .step-of .ensures)))
 
 loop-again : tie.Need-loop-again Inv-loop μ-loop
-loop-again c = looking-step (c .before .before .before .before .before .before .before .before .loop .inv) (c .before .before .before .before .before .before .before .loop-test .taken) (sym (c .before .next .given .1) ∙ (rw (c .before .before .before .before .before .struct-members .ensures, c .before .before .before .before .before .before .type-inner .ensures) at (c .before .before .before .step-of .ensures)))
+loop-again c = looking-at (looking-step (c .before .before .before .before .before .before .before .before .loop .inv) (c .before .before .before .before .before .before .before .loop-test .taken) (sym (c .before .next .given .1) ∙ (rw (c .before .before .before .before .before .struct-members .ensures, c .before .before .before .before .before .before .type-inner .ensures) at (c .before .before .before .step-of .ensures)))) _ refl
 
 returns-3 : tie.Need-returns-3 Inv-loop μ-loop
 returns-3 c =

@@ -8,29 +8,22 @@ use Rattle.session.proofs.answer_lines.Statement.{statement}
 use Rattle.session.proofs.answer_lines.Tie as tie
 
 abbrev Inv-loop : tie.InvT-loop
-Inv-loop input types₀ members₀ rows₀ numbers₀ out₀ s₀ at₀ end₀ types members rows numbers out s at end = (at ≤ end) × (end ≤ length input) × (1025 ≤ length numbers) × (length types ≡ length types₀) × (length members ≡ length members₀) × (length rows ≡ length rows₀) × (length numbers ≡ length numbers₀) × (length out ≡ length out₀)
+Inv-loop input arena₀ out₀ s₀ at₀ end₀ arena out s at end = (at ≤ end) × (end ≤ length input) × (length arena ≡ length arena₀) × (length out ≡ length out₀)
 
 abbrev μ-loop : tie.MeasureT-loop
-μ-loop input types₀ members₀ rows₀ numbers₀ out₀ s₀ at₀ end₀ types members rows numbers out s at end = length input - at
-
-run-end-requires-2 : tie.Need-run-end-requires-2 Inv-loop μ-loop
-run-end-requires-2 c κs = omega (arith, c .before .before .before .before .before .before .before .before .before .before .before .before .before .before .before .before .before .before .before .loop-test .taken)
+μ-loop input arena₀ out₀ s₀ at₀ end₀ arena out s at end = length input - at
 
 loop-less : tie.Need-loop-less Inv-loop μ-loop
-loop-less c = omega (arith, c .before .before .before .before .before .before .before .before .before .before .before .before .before .before .before .before .before .before .before .before .loop-test .taken, c .before .before .before .before .before .before .before .before .before .before .before .before .before .before .before .before .before .before .before .before .before .loop .inv .0)
+loop-less c = omega (arith, c .before .before .before .before .before .before .before .before .before .before .before .loop-test .taken, c .before .before .before .before .before .before .before .before .before .before .before .before .loop .inv .0)
 
 loop-again : tie.Need-loop-again Inv-loop μ-loop
 loop-again c =
-    let i = c .before .before .before .before .before .before .before .before .before .before .before .before .before .before .before .before .before .before .before .before .before .loop .inv in
-    let k = c .before .before .before .before .before .before .before .before .before .before .before .before .before .answer .kept in (
+    let i = c .before .before .before .before .before .before .before .before .before .before .before .before .loop .inv in
+    let k = c .before .before .before .before .before .before .before .answer .kept in (
       c .run-end2 .ensures .1 .0,
       c .run-end2 .ensures .1 .1,
-      omega (arith, i .2, k .1 .1 .1 .1 .1 .0),
-      omega (arith, i .3, k .1 .1 .0),
-      omega (arith, i .4, k .1 .1 .1 .0),
-      omega (arith, i .5, k .1 .1 .1 .1 .0),
-      omega (arith, i .6, k .1 .1 .1 .1 .1 .0),
-      omega (arith, i .7, k .1 .1 .1 .1 .1 .1 .0),
+      omega (arith, i .2, k .1 .1 .0),
+      omega (arith, i .3, k .1 .1 .1 .0),
     )
 
 pub answer-lines-spec : {M : Type 1} → statement M
@@ -50,18 +43,12 @@ answer-lines-spec =
     (λ c. search needs)
     (λ c. search needs)
     (λ c. search needs)
-    (λ c. search needs)
-    (λ c. search needs)
-    (λ c. search needs)
     (λ c κs. search needs)
-    run-end-requires-2
+    (λ c κs. search needs)
     loop-less
     loop-again
     (λ c. search needs)
     (λ c κs. search needs)
-    (λ c. search needs)
-    (λ c. search needs)
-    (λ c. search needs)
     (λ c. search needs)
     (λ c. search needs)
     (λ c. search needs))

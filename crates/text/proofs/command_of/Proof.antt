@@ -19,31 +19,7 @@ returns-3 c = rw (sym (c .before .before .before .before .before .before .before
 
 returns-4 : tie.Need-returns-4
 unfolding commandOf
-returns-4 c = rw (sym (c .before .before .before .before .before .before .before .before .before .before .is-same .ensures) ∙ c .before .before .before .before .before .before .before .before .before .if1 .left, sym (c .before .before .before .before .before .before .before .is-same2 .ensures) ∙ c .before .before .before .before .before .before .if2 .left, sym (c .before .before .before .before .is-same3 .ensures) ∙ c .before .before .before .if3 .left, sym (c .before .is-same4 .ensures) ∙ c .if4 .taken)
-
-returns-5 : tie.Need-returns-5
-unfolding commandOf
-returns-5 c = rw (sym (c .before .before .before .before .before .before .before .before .before .before .before .before .before .is-same .ensures) ∙ c .before .before .before .before .before .before .before .before .before .before .before .before .if1 .left, sym (c .before .before .before .before .before .before .before .before .before .before .is-same2 .ensures) ∙ c .before .before .before .before .before .before .before .before .before .if2 .left, sym (c .before .before .before .before .before .before .before .is-same3 .ensures) ∙ c .before .before .before .before .before .before .if3 .left, sym (c .before .before .before .before .is-same4 .ensures) ∙ c .before .before .before .if4 .left, sym (c .before .is-same5 .ensures) ∙ c .if5 .taken)
-
-returns-6 : tie.Need-returns-6
-unfolding commandOf
-returns-6 c = rw (sym (c .before .before .before .before .before .before .before .before .before .before .before .before .before .before .before .before .is-same .ensures) ∙ c .before .before .before .before .before .before .before .before .before .before .before .before .before .before .before .if1 .left, sym (c .before .before .before .before .before .before .before .before .before .before .before .before .before .is-same2 .ensures) ∙ c .before .before .before .before .before .before .before .before .before .before .before .before .if2 .left, sym (c .before .before .before .before .before .before .before .before .before .before .is-same3 .ensures) ∙ c .before .before .before .before .before .before .before .before .before .if3 .left, sym (c .before .before .before .before .before .before .before .is-same4 .ensures) ∙ c .before .before .before .before .before .before .if4 .left, sym (c .before .before .before .before .is-same5 .ensures) ∙ c .before .before .before .if5 .left, sym (c .before .is-same6 .ensures) ∙ c .if6 .taken)
-
-returns-7 : tie.Need-returns-7
-unfolding commandOf
-returns-7 c = rw (sym (c .before .before .before .before .before .before .before .before .before .before .before .before .before .before .before .before .before .before .before .is-same .ensures) ∙ c .before .before .before .before .before .before .before .before .before .before .before .before .before .before .before .before .before .before .if1 .left, sym (c .before .before .before .before .before .before .before .before .before .before .before .before .before .before .before .before .is-same2 .ensures) ∙ c .before .before .before .before .before .before .before .before .before .before .before .before .before .before .before .if2 .left, sym (c .before .before .before .before .before .before .before .before .before .before .before .before .before .is-same3 .ensures) ∙ c .before .before .before .before .before .before .before .before .before .before .before .before .if3 .left, sym (c .before .before .before .before .before .before .before .before .before .before .is-same4 .ensures) ∙ c .before .before .before .before .before .before .before .before .before .if4 .left, sym (c .before .before .before .before .before .before .before .is-same5 .ensures) ∙ c .before .before .before .before .before .before .if5 .left, sym (c .before .before .before .before .is-same6 .ensures) ∙ c .before .before .before .if6 .left, sym (c .before .is-same7 .ensures) ∙ c .if7 .taken)
-
-returns-8 : tie.Need-returns-8
-unfolding commandOf
-returns-8 c = rw (sym (c .before .before .before .before .before .before .before .before .before .before .before .before .before .before .before .before .before .before .before .before .before .before .is-same .ensures) ∙ c .before .before .before .before .before .before .before .before .before .before .before .before .before .before .before .before .before .before .before .before .before .if1 .left, sym (c .before .before .before .before .before .before .before .before .before .before .before .before .before .before .before .before .before .before .before .is-same2 .ensures) ∙ c .before .before .before .before .before .before .before .before .before .before .before .before .before .before .before .before .before .before .if2 .left, sym (c .before .before .before .before .before .before .before .before .before .before .before .before .before .before .before .before .is-same3 .ensures) ∙ c .before .before .before .before .before .before .before .before .before .before .before .before .before .before .before .if3 .left, sym (c .before .before .before .before .before .before .before .before .before .before .before .before .before .is-same4 .ensures) ∙ c .before .before .before .before .before .before .before .before .before .before .before .before .if4 .left, sym (c .before .before .before .before .before .before .before .before .before .before .is-same5 .ensures) ∙ c .before .before .before .before .before .before .before .before .before .if5 .left, sym (c .before .before .before .before .before .before .before .is-same6 .ensures) ∙ c .before .before .before .before .before .before .if6 .left, sym (c .before .before .before .before .is-same7 .ensures) ∙ c .before .before .before .if7 .left, sym (c .before .is-same8 .ensures) ∙ c .if8 .taken)
-
-returns-9 : tie.Need-returns-9
-unfolding commandOf
-returns-9 c = rw (sym (c .before .before .before .before .before .before .before .before .before .before .before .before .before .before .before .before .before .before .before .before .before .before .before .before .before .is-same .ensures) ∙ c .before .before .before .before .before .before .before .before .before .before .before .before .before .before .before .before .before .before .before .before .before .before .before .before .if1 .left, sym (c .before .before .before .before .before .before .before .before .before .before .before .before .before .before .before .before .before .before .before .before .before .before .is-same2 .ensures) ∙ c .before .before .before .before .before .before .before .before .before .before .before .before .before .before .before .before .before .before .before .before .before .if2 .left, sym (c .before .before .before .before .before .before .before .before .before .before .before .before .before .before .before .before .before .before .before .is-same3 .ensures) ∙ c .before .before .before .before .before .before .before .before .before .before .before .before .before .before .before .before .before .before .if3 .left, sym (c .before .before .before .before .before .before .before .before .before .before .before .before .before .before .before .before .is-same4 .ensures) ∙ c .before .before .before .before .before .before .before .before .before .before .before .before .before .before .before .if4 .left, sym (c .before .before .before .before .before .before .before .before .before .before .before .before .before .is-same5 .ensures) ∙ c .before .before .before .before .before .before .before .before .before .before .before .before .if5 .left, sym (c .before .before .before .before .before .before .before .before .before .before .is-same6 .ensures) ∙ c .before .before .before .before .before .before .before .before .before .if6 .left, sym (c .before .before .before .before .before .before .before .is-same7 .ensures) ∙ c .before .before .before .before .before .before .if7 .left, sym (c .before .before .before .before .is-same8 .ensures) ∙ c .before .before .before .if8 .left, sym (c .before .is-same9 .ensures) ∙ c .if9 .taken)
-
-returns-10 : tie.Need-returns-10
-unfolding commandOf
-returns-10 c = rw (sym (c .before .before .before .before .before .before .before .before .before .before .before .before .before .before .before .before .before .before .before .before .before .before .before .before .before .is-same .ensures) ∙ c .before .before .before .before .before .before .before .before .before .before .before .before .before .before .before .before .before .before .before .before .before .before .before .before .if1 .left, sym (c .before .before .before .before .before .before .before .before .before .before .before .before .before .before .before .before .before .before .before .before .before .before .is-same2 .ensures) ∙ c .before .before .before .before .before .before .before .before .before .before .before .before .before .before .before .before .before .before .before .before .before .if2 .left, sym (c .before .before .before .before .before .before .before .before .before .before .before .before .before .before .before .before .before .before .before .is-same3 .ensures) ∙ c .before .before .before .before .before .before .before .before .before .before .before .before .before .before .before .before .before .before .if3 .left, sym (c .before .before .before .before .before .before .before .before .before .before .before .before .before .before .before .before .is-same4 .ensures) ∙ c .before .before .before .before .before .before .before .before .before .before .before .before .before .before .before .if4 .left, sym (c .before .before .before .before .before .before .before .before .before .before .before .before .before .is-same5 .ensures) ∙ c .before .before .before .before .before .before .before .before .before .before .before .before .if5 .left, sym (c .before .before .before .before .before .before .before .before .before .before .is-same6 .ensures) ∙ c .before .before .before .before .before .before .before .before .before .if6 .left, sym (c .before .before .before .before .before .before .before .is-same7 .ensures) ∙ c .before .before .before .before .before .before .if7 .left, sym (c .before .before .before .before .is-same8 .ensures) ∙ c .before .before .before .if8 .left, sym (c .before .is-same9 .ensures) ∙ c .if9 .left)
+returns-4 c = rw (sym (c .before .before .before .before .before .before .before .before .is-same .ensures) ∙ c .before .before .before .before .before .before .before .if1 .left, sym (c .before .before .before .before .before .is-same2 .ensures) ∙ c .before .before .before .before .if2 .left, sym (c .before .before .is-same3 .ensures) ∙ c .before .if3 .left) (c .later-command .ensures)
 
 pub command-of-spec : {M : Type 1} → statement M
 command-of-spec =
@@ -58,22 +34,5 @@ command-of-spec =
     (λ c. search needs)
     (λ c κs. search needs)
     returns-3
-    (λ c. search needs)
     (λ c κs. search needs)
-    returns-4
-    (λ c. search needs)
-    (λ c κs. search needs)
-    returns-5
-    (λ c. search needs)
-    (λ c κs. search needs)
-    returns-6
-    (λ c. search needs)
-    (λ c κs. search needs)
-    returns-7
-    (λ c. search needs)
-    (λ c κs. search needs)
-    returns-8
-    (λ c. search needs)
-    (λ c κs. search needs)
-    returns-9
-    returns-10)
+    returns-4)

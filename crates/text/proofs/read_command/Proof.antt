@@ -6,7 +6,7 @@ use native.Mathlib.Omega.{arith}
 use denote.Ref.{now}
 use lib.ListN.{length, drop}
 use lib.Seq.{length-take-le}
-use Rattle.text.specs.Words.{words}
+use Rattle.words.specs.Words.{words}
 use Rattle.text.proofs.LineLaws.{arguments-few, arguments-read, arguments-wrong, holds-take}
 use Rattle.text.proofs.read_command.Statement.{statement}
 use Rattle.text.proofs.read_command.Tie as tie

@@ -11,7 +11,7 @@ use Rattle.session.proofs.answer.check.Tie as tie
 
 cast-n : tie.Need-cast-n
 cast-n c =
-    let accepted = answer-accepted _ _ _ _ (sym (c .before .before .before .before .before .check .ensures .0) ∙ c .before .enum-told .given .1) in
+    let accepted = answer-accepted _ _ _ _ (sym (c .before .before .before .before .check .ensures .0) ∙ c .before .enum-told .given .1) in
     let fits = tables-fitting _ _ _ (T-true _ (arena-parts _ _ _ accepted .fits)) in
     omega (arith, fits .types, c .type-count .ensures)
 
@@ -21,17 +21,17 @@ check-spec =
     (tie.spec
     (λ c κs. search needs)
     (λ c κs. search needs)
+    (λ c. search needs)
     (λ c κs. search needs)
     (λ c. search needs)
     (λ c κs. search needs)
     cast-n
-    (λ c κs. search needs)
-    (λ c κs. search needs)
     (λ c. search needs)
     (λ c κs. search needs)
     (λ c κs. search needs)
     (λ c. search needs)
-    (λ c. search needs)
+    (λ c κs. search needs)
+    (λ c κs. search needs)
     (λ c. search needs)
     (λ c. search needs)
     (λ c. search needs)

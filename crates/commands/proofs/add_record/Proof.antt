@@ -1,0 +1,34 @@
+use borrow.Author.Needs.{needs}
+use mathlib.Core.Path.{_≡_}
+use Prim.Native.Nat.{_+_, _-_, _≤_}
+use lib.ListN.{length}
+use Rattle.commands.proofs.add_record.Statement.{statement}
+use Rattle.commands.proofs.add_record.Tie as tie
+
+abbrev Inv-loop : tie.InvT-loop
+Inv-loop arena₀ at limit words i₀ arena i = (i ≤ length words) × (length arena ≡ length arena₀)
+
+abbrev μ-loop : tie.MeasureT-loop
+μ-loop arena₀ at limit words i₀ arena i = length words - i
+
+pub add-record-spec : {M : Type 1} → statement M
+add-record-spec =
+    tie.close
+    (tie.spec
+    Inv-loop
+    μ-loop
+    (λ c. search needs)
+    (λ c. search needs)
+    (λ c. search needs)
+    (λ c. search needs)
+    (λ c. search needs)
+    (λ c. search needs)
+    (λ c. search needs)
+    (λ c. search needs)
+    (λ c. search needs)
+    (λ c. search needs)
+    (λ c. search needs)
+    (λ c. search needs)
+    (λ c. search needs)
+    (λ c. search needs)
+    (λ c. search needs))

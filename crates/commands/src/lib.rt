@@ -1,0 +1,218 @@
+// The state of a session, and the commands that ask for no check of the arena.
+use input::Read;
+use slots::SlotsAnswer;
+use text::Line;
+ghost use Prim.Native.Nat.{_≤_};
+
+// The arena is one run of words: the types from its start on, the members from here on.
+pub const MEMBERS_AT: usize = 6144;
+
+pub const ARENA_WORDS: usize = 14336;
+
+pub struct Session {
+    pub capabilities: u32,
+    // Where the types and the members end in the arena.
+    pub types: usize,
+    pub members: usize,
+    // The number of the line.
+    pub line: u64,
+    // How many bytes of answers wait to be written.
+    pub waiting: usize,
+    // How many bytes of the input wait for the end of their line.
+    pub held: usize,
+    pub stopped: bool,
+}
+
+pub fn start() -> Session {
+    Session {
+        capabilities: 0,
+        types: 0,
+        members: MEMBERS_AT,
+        line: 1,
+        waiting: 0,
+        held: 0,
+        stopped: false,
+    }
+}
+
+pub fn next_line(session: Session) -> Session {
+    let mut s = session;
+    s.line = std::num::wrapping_add_u64(s.line, 1);
+    s
+}
+
+pub fn with_held(session: Session, held: usize) -> Session
+    ensures { λ r. ⌜ r .held ≤ held ⌝ }
+{
+    let mut s = session;
+    s.held = held;
+    s
+}
+
+fn cleared(session: Session) -> Session {
+    let mut s = session;
+    s.capabilities = 0;
+    s.types = 0;
+    s.members = MEMBERS_AT;
+    s
+}
+
+fn with_capabilities(session: Session, word: u32) -> Session {
+    let mut s = session;
+    s.capabilities = word;
+    s
+}
+
+pub fn with_waiting(session: Session, waiting: usize) -> Session {
+    let mut s = session;
+    s.waiting = waiting;
+    s
+}
+
+// A line that cannot be read is the last.
+pub fn stop(session: Session, out: &mut [u8], why: &[u8]) -> Session {
+    let mut s = session;
+    let at = output::put_line(out, s.waiting, s.line);
+    s.waiting = output::put_text(out, at, why);
+    s.stopped = true;
+    s
+}
+
+fn stop_by(session: Session, out: &mut [u8], reason: arguments::Reason) -> Session {
+    let mut s = session;
+    let at = output::put_line(out, s.waiting, s.line);
+    s.waiting = output::put_reason(out, at, reason);
+    s.stopped = true;
+    s
+}
+
+// The words from `start` up to `end`.
+pub fn part(words: &[u32], start: usize, end: usize) -> &[u32] {
+    if words.len() < end {
+        return &words[..0];
+    }
+    if end < start {
+        return &words[..0];
+    }
+    &words[start..end]
+}
+
+// Puts a record at `at`, if it ends at `limit` or before, and answers where the next one goes.
+fn add_record(arena: &mut [u32], at: usize, limit: usize, words: &[u32]) -> usize {
+    if arena.len() < limit {
+        return at;
+    }
+    if limit < at {
+        return at;
+    }
+    if limit - at < words.len() {
+        return at;
+    }
+    let mut i = 0;
+    while i < words.len() {
+        arena[at + i] = words[i];
+        i += 1;
+    }
+    at + i
+}
+
+fn add_type(session: Session, arena: &mut [u32], out: &mut [u8], words: [u32; 6]) -> Session {
+    let at = session.types;
+    let after = add_record(arena, at, MEMBERS_AT, &words);
+    if after == at {
+        return stop(session, out, b"the arena is full, with 1024 types\n");
+    }
+    let mut s = session;
+    s.types = after;
+    s
+}
+
+fn add_member(session: Session, arena: &mut [u32], out: &mut [u8], words: [u32; 2]) -> Session {
+    let at = session.members;
+    let after = add_record(arena, at, ARENA_WORDS, &words);
+    if after == at {
+        return stop(
+            session,
+            out,
+            b"the member table is full, with 4096 members\n",
+        );
+    }
+    let mut s = session;
+    s.members = after;
+    s
+}
+
+fn members_of(session: Session, arena: &[u32], out: &mut [u8], ty: u32) -> Session {
+    let t = part(arena, 0, session.types);
+    let m = part(arena, MEMBERS_AT, session.members);
+    let own = records::struct_members(t, m, ty);
+    with_waiting(session, output::put_members(out, session.waiting, own))
+}
+
+pub fn show_slots(session: Session, out: &mut [u8], answer: SlotsAnswer) -> Session {
+    let at = session.waiting;
+    match answer {
+        SlotsAnswer::Slots(mask) => with_waiting(session, output::put_slots(out, at, mask)),
+        SlotsAnswer::Refused {
+            number,
+            ty,
+            member,
+            detail,
+        } => {
+            with_waiting(
+                session,
+                output::put_refusal(out, at, number, ty, member, detail),
+            )
+        }
+    }
+}
+
+// Writes the answers that wait.
+pub fn flushed(session: Session, out: &[u8]) -> Session {
+    let mut s = session;
+    if !output::flush(out, s.waiting) {
+        s.stopped = true;
+    }
+    s.waiting = 0;
+    s
+}
+
+fn stopped(session: Session) -> Session {
+    let mut s = session;
+    s.stopped = true;
+    s
+}
+
+// Stops where no more can be read.
+pub fn after_read(session: Session, read: Read, out: &mut [u8]) -> Session {
+    match read {
+        Read::More => session,
+        Read::Ended => stopped(session),
+        Read::Full => stop(session, out, b"longer than 65535 bytes\n"),
+        Read::Failed => stop(session, out, b"the input cannot be read\n"),
+    }
+}
+
+// What a line does that asks for no check; any other leaves the session as it is.
+pub fn change(line: Line, session: Session, arena: &mut [u32], out: &mut [u8]) -> Session {
+    match line {
+        Line::Nothing => session,
+        Line::Capabilities(word) => with_capabilities(session, word),
+        Line::TypeRecord {
+            kind,
+            a,
+            b,
+            c,
+            d,
+            e,
+        } => add_type(session, arena, out, [kind, a, b, c, d, e]),
+        Line::MemberRecord { ty, offset } => add_member(session, arena, out, [ty, offset]),
+        Line::Check => session,
+        Line::Members(ty) => members_of(session, arena, out, ty),
+        Line::Slots { ty: _, offset: _ } => session,
+        Line::Range { offset, size } => show_slots(session, out, slots::range(offset, size)),
+        Line::Place { start: _, steps: _ } => session,
+        Line::Clear => cleared(session),
+        Line::Wrong(reason) => stop_by(session, out, reason),
+    }
+}

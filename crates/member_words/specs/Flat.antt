@@ -1,0 +1,10 @@
+-- 01, 'Features to use': members as a lent run of member records, and the member words that they stand for.
+-- Assumes nothing.
+use Prim.Native.Nat.{ℕ}
+use mathlib.Core.List.{List, [], _∷_}
+use Rattle.member_words.specs.declared.Member.{Member}
+
+-- the words of the records, one record after the other, type then offset
+unfoldable pub flat : List Member → List ℕ
+flat [] = []
+flat (m ∷ ms) = m .ty ∷ m .offset ∷ flat ms

@@ -1,0 +1,36 @@
+// Member records, and the words that they stand for.
+ghost use mathlib.Core.Path.{_≡_};
+ghost use Prim.Native.Nat.{_*_, _≤_};
+ghost use lib.Dec.{leb};
+ghost use lib.ListN.{length, take};
+ghost use Rattle.records.specs.Result.{pick};
+ghost use Rattle.member_words.specs.Flat.{flat};
+
+// StructMember of naga's ir/mod.rs: a type and an offset.
+pub struct Member {
+    pub ty: u32,
+    pub offset: u32,
+}
+
+// How many records are taken apart: one more than the core takes, so that the core refuses what is too long.
+pub fn fit(n: usize) -> usize
+    ensures { λ r. ⌜ r ≡ pick (leb n 4097) n 4097 ⌝ }
+{
+    if n <= 4097 { n } else { 4097 }
+}
+
+// The words of the first n records.
+pub fn words_of(ms: &[Member], n: usize) -> [u32; 8194]
+    requires { ⌜ (n ≤ length (now ms)) × (n ≤ 4097) ⌝ }
+    ensures { λ r. ⌜ take (n * 2) r ≡ flat (take n (now (ms .entry))) ⌝ }
+{
+    let mut words = [0u32; 8194];
+    let mut i = 0;
+    while i < n {
+        let m = ms[i];
+        words[i * 2] = m.ty;
+        words[i * 2 + 1] = m.offset;
+        i = i + 1;
+    }
+    words
+}
