@@ -10,11 +10,12 @@ use Rattle.records.specs.declared.TypeInner.{TypeInner}
 use Rattle.records.specs.declared.TypeInner.the-variants.{Array, RuntimeArray}
 use Rattle.layouter.specs.declared.TypeLayout.{TypeLayout}
 use Rattle.flags.specs.Flags.{arrayFlags, runtimeArrayFlags}
+use Rattle.type_flags.specs.TypeFlags.{isArrayBase}
 use Rattle.type_info.specs.declared.Row.{Row}
 use Rattle.members.specs.declared.Bounds.{Bounds}
 use Rattle.members.specs.declared.State.{State}
 use Rattle.members.specs.Members.{boundsAfter, uniformAfter, storageAfter, immediatesAfter, previousOf, stateAfter}
-use Rattle.valid.specs.Valid.{isArrayBase, arrayRow, judge, flagsOf, rowOf, uniformOf, storageOf, immediatesOf}
+use Rattle.valid.specs.Valid.{arrayRow, judge, flagsOf, rowOf, uniformOf, storageOf, immediatesOf}
 
 -- what follows a value that a test lets through
 pub require-then {ℓ κ} : {A : Type ℓ} {B : Type κ} (b : Bool) (n m d : ℕ) (a : A) (f : A → Result B)

@@ -5,8 +5,9 @@ use denote.Ref.{now}
 use lib.Dec.{eqb}
 use borrow.Author.Tests.{ne-eqb}
 use Rattle.records.specs.Record.{innerOf, typeInner, structMembers}
+use Rattle.type_flags.specs.TypeFlags.{leafFlags}
 use Rattle.type_info.specs.TypeInfo.{rowsIn}
-use Rattle.valid.specs.Valid.{judge, flagsOf, rowOf, uniformOf, storageOf, immediatesOf, leafFlags, nonDataFlags}
+use Rattle.valid.specs.Valid.{judge, flagsOf, rowOf, uniformOf, storageOf, immediatesOf, nonDataFlags}
 use Rattle.valid.proofs.RowParts.{array-judged}
 use Rattle.valid.proofs.judge.Statement.{statement}
 use Rattle.valid.proofs.judge.Tie as tie
