@@ -1,4 +1,4 @@
--- Laws for the judgement of one type: a test before a value, and the parts of a struct's state.
+-- Laws for the judgement of one type: a test before a value, what a record's kind makes of it, and the parts of a struct's state.
 -- Assumes nothing.
 use mathlib.Core.Path.{_≡_, refl, sym, _∙_, ap}
 use mathlib.Core.Bool.{Bool, true, false}
@@ -20,8 +20,8 @@ use Rattle.type_info.specs.declared.Row.{Row}
 use Rattle.members.specs.declared.Bounds.{Bounds}
 use Rattle.members.specs.declared.State.{State}
 use Rattle.members.specs.Members.{boundsAfter, uniformAfter, storageAfter, immediatesAfter, previousOf, stateAfter}
-use Rattle.valid.specs.Valid.{nonDataFlags, flagsOf, leafVerdictAlignment, leafImmediates, uniformOf, storageOf, immediatesOf, rowOf, judge, judgedResult, plainRow, arrayRow, arrayOf}
 use Rattle.valid.specs.declared.Judged.{Judged}
+use Rattle.valid.specs.Valid.{nonDataFlags, flagsOf, leafVerdictAlignment, leafImmediates, uniformOf, storageOf, immediatesOf, rowOf, judge, judgedResult, plainRow, arrayRow, arrayOf}
 
 -- what follows a value that a test lets through
 pub require-then {ℓ κ} : {A : Type ℓ} {B : Type κ} (b : Bool) (n m d : ℕ) (a : A) (f : A → Result B)
@@ -30,14 +30,14 @@ require-then true n m d a f = refl
 require-then false n m d a f = refl
 
 module _ (c : ℕ) (inner : ℕ → TypeInner) (rows : ℕ → Row) (i : ℕ) (layout : TypeLayout) (part : List ℕ) (w : Words) (answer : Judged) where
-  -- a record that says a leaf is judged by the leaf's flags
+  -- where a record says a leaf, it is judged by the leaf's flags
   pub leaf-judged : (leaf : Leaf) → innerIn w ≡ Plain leaf
       → judgedResult answer ≡ andThen (leafFlags c leaf) (λ f. ok (plainRow layout (leafVerdictAlignment leaf) (leafImmediates leaf) f))
       → judgedResult answer ≡ judge c inner rows i layout (innerIn w) part
   unfolding judge flagsOf rowOf uniformOf storageOf immediatesOf
   leaf-judged leaf says e = rw says e
 
-  -- and one that says what is no data by the flags of that
+  -- where it says what is no data, by the flags of that
   pub other-judged : (o : NonData) → innerIn w ≡ Other o
       → judgedResult answer ≡ andThen (nonDataFlags c inner rows o) (λ f. ok (plainRow layout 1 0 f))
       → judgedResult answer ≡ judge c inner rows i layout (innerIn w) part

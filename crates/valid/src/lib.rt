@@ -8,7 +8,7 @@ use type_info::Row;
 ghost use mathlib.Core.Path.{_≡_};
 ghost use Prim.Native.Nat.{ℕ, _+_, _*_, _≤_, _<_};
 ghost use lib.ListN.{length, take};
-ghost use Rattle.records.specs.Result.{err, ok, require, andThen};
+ghost use Rattle.records.specs.Result.{ok, require, andThen};
 ghost use Rattle.records.specs.Record.{decoded, innerIn, typeInner, structMembers, typeCount};
 ghost use Rattle.records.specs.Fields.{InnerBounds};
 ghost use Rattle.alignment.specs.Alignment.{vectorAlignment};
