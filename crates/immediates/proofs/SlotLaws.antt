@@ -18,7 +18,7 @@ use Rattle.records.proofs.ResultLaws.{or-cases}
 use Rattle.alignment.specs.Alignment.{most}
 use Rattle.flags.specs.Flags.{bit}
 use Rattle.type_methods.specs.TypeMethods.{sizeOf}
-use Rattle.valid.specs.Valid.{isStruct}
+use Rattle.type_flags.specs.TypeFlags.{isStruct}
 use Rattle.slots.specs.declared.Slots.{Slots}
 use Rattle.slots.specs.declared.Slots.the-variants.{Mask, Past}
 use Rattle.slots.specs.declared.SlotsAnswer.the-variants as answer

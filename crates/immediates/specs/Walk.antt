@@ -15,7 +15,7 @@ use Rattle.records.specs.declared.TypeInner.the-variants.{Plain, Array, Runtime
 use Rattle.alignment.specs.Alignment.{most}
 use Rattle.records.specs.Fields.{InnerBounds}
 use Rattle.type_methods.specs.TypeMethods.{sizeOf, trySize}
-use Rattle.valid.specs.Valid.{isStruct}
+use Rattle.type_flags.specs.TypeFlags.{isStruct}
 use Rattle.valid.specs.Arena.{arenaAnswer}
 use Rattle.slots.specs.declared.Slots.{Slots}
 use Rattle.slots.specs.declared.Slots.the-variants.{Mask, Past}

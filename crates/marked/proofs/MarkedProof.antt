@@ -15,10 +15,11 @@ use Rattle.records.proofs.ResultLaws.{and-left, and-right}
 use Rattle.type_methods.specs.TypeMethods.{trySize}
 use Rattle.layouter.specs.Layouter.{membersAlignment, alignmentOf, layoutOf, layoutOutcome, layoutAnswer, layoutRows}
 use Rattle.width.specs.Width.{integerWidth, floatWidth, checkWidth, integerAtomic, atomicWidth}
+use Rattle.type_flags.specs.TypeFlags.{leafFlags}
 use Rattle.type_info.specs.TypeInfo.{wordsOf}
 use Rattle.type_info.specs.Verdict.{arrayVerdict, shareVerdict, memberVerdict, distanceVerdict, distanceOk, unsizedVerdict, spanVerdict}
 use Rattle.members.specs.Members.{previousOf, memberBounds, boundsAfter, uniformAfter, storageAfter, immediatesAfter}
-use Rattle.valid.specs.Valid.{leafFlags, nonDataFlags, flagsOf, uniformOf, storageOf, immediatesOf, rowOf, judge}
+use Rattle.valid.specs.Valid.{nonDataFlags, flagsOf, uniformOf, storageOf, immediatesOf, rowOf, judge}
 use Rattle.valid.specs.Arena.{judgeOutcome, arenaOutcome, arenaAnswer, arenaRows, arenaWords}
 use Rattle.slots.specs.declared.SlotsAnswer.{SlotsAnswer}
 use Rattle.slots.specs.declared.SlotsAnswer.the-variants as slots

@@ -30,6 +30,7 @@ use Rattle.layouter.proofs.LayoutAccepted.{plain-layout, plain-width, array-lay
 use Rattle.layouter.proofs.LayoutPower.{power-one, layout-power}
 use Rattle.flags.specs.Flags.{bit, dataBit, sizedBit, creationResolvedBit}
 use Rattle.flags.proofs.BitLaws.{bit-or-left, bit-or-right}
+use Rattle.type_flags.specs.TypeFlags.{leafFlags, isArrayBase}
 use Rattle.type_info.specs.declared.Row.{Row}
 use Rattle.type_info.specs.TypeInfo.{emptyRow}
 use Rattle.type_info.specs.Verdict.{minUniform, minStorage, okVerdict, arrayVerdict, spanVerdict}
@@ -38,7 +39,7 @@ use Rattle.members.specs.declared.Bounds.{Bounds}
 use Rattle.members.specs.Members.{isArray, boundsAfter, uniformAfter, storageAfter, immediatesAfter}
 use Rattle.members.proofs.MemberLaws.{MemberIn, members-in, storage-power-after, uniform-power-after}
 use Rattle.members.proofs.MemberSame.{bounds-rows, uniform-rows, storage-rows, immediates-rows}
-use Rattle.valid.specs.Valid.{leafFlags, isArrayBase, flagsOf, leafVerdictAlignment, leafImmediates, uniformOf, storageOf, immediatesOf, rowOf, judge}
+use Rattle.valid.specs.Valid.{flagsOf, leafVerdictAlignment, leafImmediates, uniformOf, storageOf, immediatesOf, rowOf, judge}
 use Rattle.valid.specs.Arena.{judgeStep, judgedAt, row}
 use Rattle.valid.proofs.CapabilityLaws.{HasAll, judge-more}
 use Rattle.valid.proofs.JudgeLaws.{Judged, judged-parts, isDataInner, flags-data}

@@ -16,8 +16,9 @@ use Rattle.records.proofs.ResultLaws.{required, require-pass, and-then-ok}
 use Rattle.layouter.specs.declared.TypeLayout.{TypeLayout}
 use Rattle.flags.specs.Flags.{bit}
 use Rattle.width.specs.Width.{float64, shaderFloat16, shaderInt16, shaderInt64, shaderFloat32Atomic, shaderInt64AtomicMinMax, shaderInt64AtomicAllOps, cooperativeMatrix, cubeArrayTextures, textureExternal, rayQuery, rayTracingPipeline, rayHitVertexPosition, uint, float, integerWidth, floatWidth, checkWidth, integerAtomic, atomicWidth}
+use Rattle.type_flags.specs.TypeFlags.{leafFlags, imageFlags}
 use Rattle.type_info.specs.declared.Row.{Row}
-use Rattle.valid.specs.Valid.{leafFlags, imageFlags, nonDataFlags, flagsOf, judge}
+use Rattle.valid.specs.Valid.{nonDataFlags, flagsOf, judge}
 
 -- every capability of c is one of d
 abbrev pub HasAll : (c d : ℕ) → Type 0

@@ -18,13 +18,14 @@ use Rattle.layouter.specs.declared.TypeLayout.{TypeLayout}
 use Rattle.flags.specs.Flags.{bit, dataBit, sizedBit, creationResolvedBit, scalarFlags, bindingArrayFlags}
 use Rattle.flags.proofs.BitLaws.{bit-and, bit-and-both}
 use Rattle.width.specs.Width.{float, cooperativeMatrix, cubeArrayTextures, textureExternal, rayQuery, rayTracingPipeline, rayHitVertexPosition, checkWidth, atomicWidth}
+use Rattle.type_flags.specs.TypeFlags.{leafFlags, isStruct, isExternalImage, isArrayBase}
 use Rattle.type_info.specs.declared.Row.{Row}
 use Rattle.type_info.specs.Verdict.{minUniform, spanVerdict}
 use Rattle.members.specs.declared.Bounds.{Bounds}
 use Rattle.members.specs.Members.{boundsAfter}
 use Rattle.members.proofs.MemberLaws.{members-in, members-data}
 use Rattle.members.proofs.MemberSame.{bounds-inner, uniform-inner}
-use Rattle.valid.specs.Valid.{leafFlags, nonDataFlags, isStruct, isExternalImage, isArrayBase, flagsOf, uniformOf, rowOf, judge}
+use Rattle.valid.specs.Valid.{nonDataFlags, flagsOf, uniformOf, rowOf, judge}
 
 -- ---- parts: the flags, and the row made with them
 pub record Judged (c : ℕ) (inner : ℕ → TypeInner) (rows : ℕ → Row) (i : ℕ) (l : TypeLayout) (this : TypeInner) (members : List ℕ) (r : Row) : Type 0 where

@@ -1,20 +1,27 @@
--- Laws for the judgement of one type: a test before a value, and the parts of a struct's state.
+-- Laws for the judgement of one type: a test before a value, what a record's kind makes of it, and the parts of a struct's state.
 -- Assumes nothing.
 use mathlib.Core.Path.{_≡_, refl, sym, _∙_, ap}
 use mathlib.Core.Bool.{Bool, true, false}
 use mathlib.Core.List.{List}
 use Prim.Native.Nat.{ℕ}
 use native.Mathlib.Omega.{arith}
+use lib.Dec.{eqb}
 use Rattle.records.specs.Result.{Result, err, ok, pick, require, andThen}
+use Rattle.records.specs.Record.{innerIn}
+use Rattle.records.specs.declared.Words.{Words}
+use Rattle.records.specs.declared.Leaf.{Leaf}
+use Rattle.records.specs.declared.NonData.{NonData}
 use Rattle.records.specs.declared.TypeInner.{TypeInner}
-use Rattle.records.specs.declared.TypeInner.the-variants.{Array, RuntimeArray}
+use Rattle.records.specs.declared.TypeInner.the-variants.{Plain, Array, RuntimeArray, Struct, Other}
 use Rattle.layouter.specs.declared.TypeLayout.{TypeLayout}
 use Rattle.flags.specs.Flags.{arrayFlags, runtimeArrayFlags}
+use Rattle.type_flags.specs.TypeFlags.{leafFlags, isArrayBase}
 use Rattle.type_info.specs.declared.Row.{Row}
 use Rattle.members.specs.declared.Bounds.{Bounds}
 use Rattle.members.specs.declared.State.{State}
 use Rattle.members.specs.Members.{boundsAfter, uniformAfter, storageAfter, immediatesAfter, previousOf, stateAfter}
-use Rattle.valid.specs.Valid.{isArrayBase, arrayRow, judge, flagsOf, rowOf, uniformOf, storageOf, immediatesOf}
+use Rattle.valid.specs.declared.Judged.{Judged}
+use Rattle.valid.specs.Valid.{nonDataFlags, flagsOf, leafVerdictAlignment, leafImmediates, uniformOf, storageOf, immediatesOf, rowOf, judge, judgedResult, plainRow, arrayRow, arrayOf}
 
 -- what follows a value that a test lets through
 pub require-then {ℓ κ} : {A : Type ℓ} {B : Type κ} (b : Bool) (n m d : ℕ) (a : A) (f : A → Result B)
@@ -22,16 +29,40 @@ pub require-then {ℓ κ} : {A : Type ℓ} {B : Type κ} (b : Bool) (n m d : ℕ
 require-then true n m d a f = refl
 require-then false n m d a f = refl
 
--- an array is judged by its form
-pub array-judged : (c : ℕ) (inner : ℕ → TypeInner) (rows : ℕ → Row) (i : ℕ) (layout : TypeLayout) (base count stride : ℕ) (part : List ℕ) (t : Bool)
-    → require (isArrayBase (rows base .flags)) 15 0 0
-    (ok (arrayRow i stride (rows base) layout (pick t (arrayFlags (rows base .flags)) (runtimeArrayFlags (rows base .flags)))))
-    ≡ judge c inner rows i layout (pick t (Array base count stride) (RuntimeArray base stride)) part
-unfolding judge flagsOf rowOf uniformOf storageOf immediatesOf
-array-judged c inner rows i layout base count stride part true =
-    sym (require-then (isArrayBase (rows base .flags)) 15 0 0 (arrayFlags (rows base .flags)) _)
-array-judged c inner rows i layout base count stride part false =
-    sym (require-then (isArrayBase (rows base .flags)) 15 0 0 (runtimeArrayFlags (rows base .flags)) _)
+module _ (c : ℕ) (inner : ℕ → TypeInner) (rows : ℕ → Row) (i : ℕ) (layout : TypeLayout) (part : List ℕ) (w : Words) (answer : Judged) where
+  -- where a record says a leaf, it is judged by the leaf's flags
+  pub leaf-judged : (leaf : Leaf) → innerIn w ≡ Plain leaf
+      → judgedResult answer ≡ andThen (leafFlags c leaf) (λ f. ok (plainRow layout (leafVerdictAlignment leaf) (leafImmediates leaf) f))
+      → judgedResult answer ≡ judge c inner rows i layout (innerIn w) part
+  unfolding judge flagsOf rowOf uniformOf storageOf immediatesOf
+  leaf-judged leaf says e = rw says e
+
+  -- where it says what is no data, by the flags of that
+  pub other-judged : (o : NonData) → innerIn w ≡ Other o
+      → judgedResult answer ≡ andThen (nonDataFlags c inner rows o) (λ f. ok (plainRow layout 1 0 f))
+      → judgedResult answer ≡ judge c inner rows i layout (innerIn w) part
+  unfolding judge flagsOf rowOf uniformOf storageOf immediatesOf
+  other-judged o says e = rw says e
+
+  -- an array is judged by its form
+  pub array-judged : (base form count stride : ℕ) → innerIn w ≡ pick (eqb form 0) (Array base count stride) (RuntimeArray base stride)
+      → judgedResult answer ≡ arrayOf form i stride (rows base) layout → judgedResult answer ≡ judge c inner rows i layout (innerIn w) part
+  unfolding judge flagsOf rowOf uniformOf storageOf immediatesOf
+  array-judged base form count stride says e = rw says (go (eqb form 0) e)
+    where
+      go : (t : Bool)
+          → judgedResult answer ≡ require (isArrayBase (rows base .flags)) 15 0 0
+          (ok (arrayRow i stride (rows base) layout (pick t (arrayFlags (rows base .flags)) (runtimeArrayFlags (rows base .flags)))))
+          → judgedResult answer ≡ judge c inner rows i layout (pick t (Array base count stride) (RuntimeArray base stride)) part
+      go true q = rw (require-then (isArrayBase (rows base .flags)) 15 0 0 (arrayFlags (rows base .flags)) (λ f. ok (arrayRow i stride (rows base) layout f))) q
+      go false q = rw (require-then (isArrayBase (rows base .flags)) 15 0 0 (runtimeArrayFlags (rows base .flags)) (λ f. ok (arrayRow i stride (rows base) layout f))) q
+
+  -- a struct asks for no capability
+  pub struct-judged : (count span : ℕ) → innerIn w ≡ Struct count span
+      → judgedResult answer ≡ judge 0 inner rows i layout (Struct count span) part
+      → judgedResult answer ≡ judge c inner rows i layout (innerIn w) part
+  unfolding judge flagsOf
+  struct-judged count span says e = rw says e
 
 module _ (inner : ℕ → TypeInner) (rows : ℕ → Row) (i count span : ℕ) (part : List ℕ) (j : ℕ) where
   -- the state after j members, part by part

@@ -15,13 +15,14 @@ use Rattle.records.proofs.ResultLaws.{required, and-then-ok, ok-inj}
 use Rattle.records.proofs.TableLaws.{all-ok, value-ok, table-value}
 use Rattle.layouter.specs.Layouter.{layout}
 use Rattle.flags.specs.Flags.{arrayFlags, runtimeArrayFlags}
+use Rattle.type_flags.specs.TypeFlags.{leafFlags, isArrayBase}
 use Rattle.type_info.specs.declared.Verdict.{Verdict}
 use Rattle.type_info.specs.declared.Row.{Row}
 use Rattle.type_info.specs.TypeInfo.{emptyRow}
 use Rattle.type_info.specs.Verdict.{minUniform, okVerdict, arrayVerdict, spanVerdict}
 use Rattle.members.specs.declared.Bounds.{Bounds}
 use Rattle.members.specs.Members.{boundsAfter, uniformAfter, storageAfter}
-use Rattle.valid.specs.Valid.{leafFlags, isArrayBase, flagsOf, leafVerdictAlignment, uniformOf, storageOf, rowOf, judge}
+use Rattle.valid.specs.Valid.{flagsOf, leafVerdictAlignment, uniformOf, storageOf, rowOf, judge}
 use Rattle.valid.specs.Arena.{judgeStep, judgedAt, row}
 use Rattle.wgsl.specs.Constraints.{Space, storage, uniform}
 use Rattle.wgsl.proofs.TreeLaws.{leastIn}

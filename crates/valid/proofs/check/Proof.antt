@@ -1,8 +1,10 @@
 use borrow.Author.Needs.{needs}
 use mathlib.Core.Path.{_≡_, refl, sym, _∙_}
+use mathlib.Core.Bool.{false}
 use native.Mathlib.Omega.{arith}
 use denote.Ref.{now}
 use borrow.Author.Tests.{not-true, not-false}
+use Rattle.records.specs.Fields.{capabilitiesKnown}
 use Rattle.valid.specs.Arena.{judgeOutcome, arenaAnswer, arenaWords}
 use Rattle.valid.proofs.CheckLaws.{laid-out, fitting, laid-bounds, laid-rows, answer-judged, words-judged, refused-same}
 use Rattle.valid.proofs.check.Statement.{statement}
@@ -10,7 +12,10 @@ use Rattle.valid.proofs.check.Tie as tie
 
 returns : tie.Need-returns
 unfolding arenaAnswer arenaWords
-returns c = let unknown = sym (c .before .capabilities-known .ensures) ∙ not-true _ (c .if1 .taken) in (rw unknown refl, rw unknown refl)
+returns c =
+    let a = c .before .before .before .before .before .args in
+    let unknown : capabilitiesKnown (a .capabilities) ≡ false = sym (c .before .capabilities-known .ensures) ∙ not-true _ (c .if1 .taken) in
+    (rw unknown refl, rw unknown refl)
 
 cast-n : tie.Need-cast-n
 cast-n c = let a = c .before .before .before .before .before .before .before .before .before .before .before .args in let ts = now (a .types) in let ms = now (a .members) in let rows = now (a .rows) in let l = laid-out ts ms rows (sym (c .before .before .before .before .layout .ensures .0) ∙ c .enum-told .given .1) in omega (arith, fitting ts ms rows l .types)

@@ -1,0 +1,289 @@
+// What validate_type of naga's valid/type.rs says of a type's flags, by its kind.
+use records::NonData;
+use records::TypeInner;
+use width::Width;
+ghost use mathlib.Core.Path.{_≡_};
+ghost use Rattle.records.specs.Result.{err, ok};
+ghost use Rattle.records.specs.Record.{atomicKind, valuePointerKind, samplerKind};
+ghost use Rattle.records.specs.declared.TypeInner.the-variants.{Other};
+ghost use Rattle.flags.specs.Flags.{startingFlags, pointerFlags};
+ghost use Rattle.width.specs.Width.{widthResult, checkWidth, atomicWidth};
+ghost use Rattle.type_flags.specs.TypeFlags.{withWidth, cooperativeFlags, vertexFlags, matrixFlags, rayQueryFlags, isFlat, cubeAllowed, isExternalForm, externalAllowed, imageFlags, isStruct, isExternalImage, pointerTo, accelerationFlags, isBindingBase, bindingArrayOf, isArrayBase, flaggedResult};
+
+// The flags of a type, or its refusal.
+pub enum Flagged {
+    Flags(u32),
+    Refused {
+        number: u32,
+        member: u32,
+        detail: u32,
+    },
+}
+
+const STORAGE_SPACE: u32 = 4;
+
+const D2: u32 = 1;
+
+const D3: u32 = 2;
+
+const CUBE: u32 = 3;
+
+const EXTERNAL: u32 = 2;
+
+fn refused(number: u32) -> Flagged
+    ensures { λ r. ⌜ flaggedResult r ≡ err number 0 0 ⌝ }
+{
+    Flagged::Refused {
+        number,
+        member: 0,
+        detail: 0,
+    }
+}
+
+// Number 8, with the capability's bit.
+fn missing(bit: u32) -> Flagged
+    ensures { λ r. ⌜ flaggedResult r ≡ err 8 0 bit ⌝ }
+{
+    Flagged::Refused {
+        number: 8,
+        member: 0,
+        detail: bit,
+    }
+}
+
+// The flags, where the width is allowed.
+pub fn with_width(width: Width, flags: u32) -> Flagged
+    ensures { λ r. ⌜ flaggedResult r ≡ withWidth (widthResult width) flags ⌝ }
+{
+    match width {
+        Width::Allowed => Flagged::Flags(flags),
+        Width::Refused { number, detail } => Flagged::Refused {
+            number,
+            member: 0,
+            detail,
+        },
+    }
+}
+
+pub fn cooperative_flags(capabilities: u32, kind: u32, width: u32) -> Flagged
+    ensures { λ r. ⌜ flaggedResult r ≡ cooperativeFlags capabilities kind width ⌝ }
+{
+    if !flags::capable(capabilities, width::COOPERATIVE_MATRIX) {
+        return missing(width::COOPERATIVE_MATRIX);
+    }
+    if (kind == width::FLOAT) & ((width == 2) | (width == 4)) {
+        return Flagged::Flags(flags::starting_flags(flags::COOPERATIVE_MATRIX_KIND));
+    }
+    refused(11)
+}
+
+// vertex_return asks for a capability of its own.
+fn vertex_flags(capabilities: u32, vertex_return: u32, flags: u32) -> Flagged
+    ensures { λ r. ⌜ flaggedResult r ≡ vertexFlags capabilities «vertex_return» flags ⌝ }
+{
+    if (vertex_return == 0) | flags::capable(capabilities, width::RAY_HIT_VERTEX_POSITION) {
+        return Flagged::Flags(flags);
+    }
+    missing(width::RAY_HIT_VERTEX_POSITION)
+}
+
+pub fn matrix_flags(capabilities: u32, kind: u32, width: u32) -> Flagged
+    ensures { λ r. ⌜ flaggedResult r ≡ matrixFlags capabilities kind width ⌝ }
+{
+    if kind != width::FLOAT {
+        return refused(11);
+    }
+    with_width(
+        width::check_width(capabilities, kind, width),
+        flags::starting_flags(flags::MATRIX_KIND),
+    )
+}
+
+pub fn atomic_flags(capabilities: u32, kind: u32, width: u32) -> Flagged
+    ensures { λ r. ⌜ flaggedResult r ≡ withWidth (atomicWidth capabilities kind width) (startingFlags atomicKind) ⌝ }
+{
+    with_width(
+        width::atomic_width(capabilities, kind, width),
+        flags::starting_flags(flags::ATOMIC_KIND),
+    )
+}
+
+pub fn ray_query_flags(capabilities: u32, vertex_return: u32) -> Flagged
+    ensures { λ r. ⌜ flaggedResult r ≡ rayQueryFlags capabilities «vertex_return» ⌝ }
+{
+    if flags::capable(capabilities, width::RAY_QUERY) {
+        return vertex_flags(
+            capabilities,
+            vertex_return,
+            flags::starting_flags(flags::RAY_QUERY_KIND),
+        );
+    }
+    missing(width::RAY_QUERY)
+}
+
+// Number 22: a D3 image is not arrayed.
+fn is_flat(dim: u32, arrayed: u32) -> bool
+    ensures { λ r. ⌜ r ≡ isFlat dim arrayed ⌝ }
+{
+    !((arrayed == 1) & (dim == D3))
+}
+
+fn cube_allowed(capabilities: u32, dim: u32, arrayed: u32) -> bool
+    ensures { λ r. ⌜ r ≡ cubeAllowed capabilities dim arrayed ⌝ }
+{
+    let capable = flags::capable(capabilities, width::CUBE_ARRAY_TEXTURES);
+    !((arrayed == 1) & (dim == CUBE)) | capable
+}
+
+// Number 22: an external image is D2 and not arrayed.
+fn is_external_form(dim: u32, arrayed: u32, class: u32) -> bool
+    ensures { λ r. ⌜ r ≡ isExternalForm dim arrayed class ⌝ }
+{
+    !(class == EXTERNAL) | (dim == D2) & (arrayed == 0)
+}
+
+fn external_allowed(capabilities: u32, class: u32) -> bool
+    ensures { λ r. ⌜ r ≡ externalAllowed capabilities class ⌝ }
+{
+    let capable = flags::capable(capabilities, width::TEXTURE_EXTERNAL);
+    !(class == EXTERNAL) | capable
+}
+
+pub fn image_flags(capabilities: u32, dim: u32, arrayed: u32, class: u32) -> Flagged
+    ensures { λ r. ⌜ flaggedResult r ≡ imageFlags capabilities dim arrayed class ⌝ }
+{
+    if !is_flat(dim, arrayed) {
+        return refused(22);
+    }
+    if !cube_allowed(capabilities, dim, arrayed) {
+        return missing(width::CUBE_ARRAY_TEXTURES);
+    }
+    if !is_external_form(dim, arrayed, class) {
+        return refused(22);
+    }
+    if !external_allowed(capabilities, class) {
+        return missing(width::TEXTURE_EXTERNAL);
+    }
+    Flagged::Flags(flags::starting_flags(flags::IMAGE_KIND))
+}
+
+// A pointer to a base with these flags.
+pub fn pointer_to(base: u32, space: u32) -> Flagged
+    ensures { λ r. ⌜ flaggedResult r ≡ pointerTo base space ⌝ }
+{
+    if !flags::is_data(base) {
+        return refused(13);
+    }
+    if flags::is_sized(base) | (space == STORAGE_SPACE) {
+        return Flagged::Flags(flags::pointer_flags(
+            space,
+            flags::starting_flags(flags::POINTER_KIND),
+        ));
+    }
+    refused(14)
+}
+
+fn is_struct(inner: TypeInner) -> bool
+    ensures { λ r. ⌜ r ≡ isStruct inner ⌝ }
+{
+    match inner {
+        TypeInner::Plain(_) => false,
+        TypeInner::Array {
+            base: _,
+            count: _,
+            stride: _,
+        } => false,
+        TypeInner::RuntimeArray { base: _, stride: _ } => false,
+        TypeInner::Struct { count: _, span: _ } => true,
+        TypeInner::Other(_) => false,
+    }
+}
+
+fn is_external(o: NonData) -> bool
+    ensures { λ r. ⌜ r ≡ isExternalImage (Other o) ⌝ }
+{
+    match o {
+        NonData::Pointer(_, _) => false,
+        NonData::ValuePointer(_, _, _) => false,
+        NonData::Image(_, _, class) => class == EXTERNAL,
+        NonData::Sampler => false,
+        NonData::AccelerationStructure(_) => false,
+        NonData::BindingArray(_, _, _) => false,
+    }
+}
+
+fn is_external_image(inner: TypeInner) -> bool
+    ensures { λ r. ⌜ r ≡ isExternalImage inner ⌝ }
+{
+    match inner {
+        TypeInner::Plain(_) => false,
+        TypeInner::Array {
+            base: _,
+            count: _,
+            stride: _,
+        } => false,
+        TypeInner::RuntimeArray { base: _, stride: _ } => false,
+        TypeInner::Struct { count: _, span: _ } => false,
+        TypeInner::Other(o) => is_external(o),
+    }
+}
+
+// Number 23: data in a binding array is a struct.
+fn is_binding_base(inner: TypeInner, base: u32) -> bool
+    ensures { λ r. ⌜ r ≡ isBindingBase inner base ⌝ }
+{
+    !flags::is_data(base) | is_struct(inner)
+}
+
+// A binding array over a base with these flags.
+pub fn binding_array_of(inner: TypeInner, base: u32, form: u32) -> Flagged
+    ensures { λ r. ⌜ flaggedResult r ≡ bindingArrayOf inner base form ⌝ }
+{
+    if !is_binding_base(inner, base) {
+        return refused(23);
+    }
+    if is_external_image(inner) {
+        return refused(24);
+    }
+    if flags::is_creation_resolved(base) {
+        return Flagged::Flags(flags::binding_array_flags(form, base));
+    }
+    refused(17)
+}
+
+pub fn acceleration_flags(capabilities: u32, vertex_return: u32) -> Flagged
+    ensures { λ r. ⌜ flaggedResult r ≡ accelerationFlags capabilities «vertex_return» ⌝ }
+{
+    if flags::capable(capabilities, width::RAY_TRACING_PIPELINE)
+        | flags::capable(capabilities, width::RAY_QUERY)
+    {
+        return vertex_flags(
+            capabilities,
+            vertex_return,
+            flags::starting_flags(flags::ACCELERATION_STRUCTURE_KIND),
+        );
+    }
+    missing(width::RAY_QUERY)
+}
+
+pub fn sampler_flags() -> Flagged
+    ensures { λ r. ⌜ flaggedResult r ≡ ok (startingFlags samplerKind) ⌝ }
+{
+    Flagged::Flags(flags::starting_flags(flags::SAMPLER_KIND))
+}
+
+pub fn value_pointer_flags(capabilities: u32, kind: u32, width: u32, space: u32) -> Flagged
+    ensures { λ r. ⌜ flaggedResult r ≡ withWidth (checkWidth capabilities kind width) (pointerFlags space (startingFlags valuePointerKind)) ⌝ }
+{
+    with_width(
+        width::check_width(capabilities, kind, width),
+        flags::pointer_flags(space, flags::starting_flags(flags::VALUE_POINTER_KIND)),
+    )
+}
+
+// Number 15 for a base that cannot be an element.
+pub fn is_array_base(flags: u32) -> bool
+    ensures { λ r. ⌜ r ≡ isArrayBase flags ⌝ }
+{
+    flags::is_data(flags) & flags::is_sized(flags) & flags::is_creation_resolved(flags)
+}
