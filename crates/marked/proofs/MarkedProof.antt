@@ -17,7 +17,7 @@ use Rattle.layouter.specs.Layouter.{membersAlignment, alignmentOf, layoutOf, la
 use Rattle.width.specs.Width.{integerWidth, floatWidth, checkWidth, integerAtomic, atomicWidth}
 use Rattle.type_info.specs.TypeInfo.{wordsOf}
 use Rattle.type_info.specs.Verdict.{arrayVerdict, shareVerdict, memberVerdict, distanceVerdict, distanceOk, unsizedVerdict, spanVerdict}
-use Rattle.members.specs.Members.{previousOf, memberBounds, boundsAfter, uniformAfter, storageAfter, immediatesAfter}
+use Rattle.member_rules.specs.MemberRules.{previousOf, memberBounds, boundsAfter, uniformAfter, storageAfter, immediatesAfter}
 use Rattle.valid.specs.Valid.{leafFlags, nonDataFlags, flagsOf, uniformOf, storageOf, immediatesOf, rowOf, judge}
 use Rattle.valid.specs.Arena.{judgeOutcome, arenaOutcome, arenaAnswer, arenaRows, arenaWords}
 use Rattle.slots.specs.declared.SlotsAnswer.{SlotsAnswer}

@@ -34,10 +34,10 @@ use Rattle.type_info.specs.declared.Row.{Row}
 use Rattle.type_info.specs.TypeInfo.{emptyRow}
 use Rattle.type_info.specs.Verdict.{minUniform, minStorage, okVerdict, arrayVerdict, spanVerdict}
 use Rattle.type_info.proofs.VerdictLaws.{OkPower, ok-power, array-power, span-ok, same-power}
-use Rattle.members.specs.declared.Bounds.{Bounds}
-use Rattle.members.specs.Members.{isArray, boundsAfter, uniformAfter, storageAfter, immediatesAfter}
-use Rattle.members.proofs.MemberLaws.{MemberIn, members-in, storage-power-after, uniform-power-after}
-use Rattle.members.proofs.MemberSame.{bounds-rows, uniform-rows, storage-rows, immediates-rows}
+use Rattle.member_rules.specs.declared.Bounds.{Bounds}
+use Rattle.member_rules.specs.MemberRules.{isArray, boundsAfter, uniformAfter, storageAfter, immediatesAfter}
+use Rattle.member_rules.proofs.MemberLaws.{MemberIn, members-in, storage-power-after, uniform-power-after}
+use Rattle.member_rules.proofs.MemberSame.{bounds-rows, uniform-rows, storage-rows, immediates-rows}
 use Rattle.valid.specs.Valid.{leafFlags, isArrayBase, flagsOf, leafVerdictAlignment, leafImmediates, uniformOf, storageOf, immediatesOf, rowOf, judge}
 use Rattle.valid.specs.Arena.{judgeStep, judgedAt, row}
 use Rattle.valid.proofs.CapabilityLaws.{HasAll, judge-more}

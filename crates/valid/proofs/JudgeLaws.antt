@@ -20,10 +20,10 @@ use Rattle.flags.proofs.BitLaws.{bit-and, bit-and-both}
 use Rattle.width.specs.Width.{float, cooperativeMatrix, cubeArrayTextures, textureExternal, rayQuery, rayTracingPipeline, rayHitVertexPosition, checkWidth, atomicWidth}
 use Rattle.type_info.specs.declared.Row.{Row}
 use Rattle.type_info.specs.Verdict.{minUniform, spanVerdict}
-use Rattle.members.specs.declared.Bounds.{Bounds}
-use Rattle.members.specs.Members.{boundsAfter}
-use Rattle.members.proofs.MemberLaws.{members-in, members-data}
-use Rattle.members.proofs.MemberSame.{bounds-inner, uniform-inner}
+use Rattle.member_rules.specs.declared.Bounds.{Bounds}
+use Rattle.member_rules.specs.MemberRules.{boundsAfter}
+use Rattle.member_rules.proofs.MemberLaws.{members-in, members-data}
+use Rattle.member_rules.proofs.MemberSame.{bounds-inner, uniform-inner}
 use Rattle.valid.specs.Valid.{leafFlags, nonDataFlags, isStruct, isExternalImage, isArrayBase, flagsOf, uniformOf, rowOf, judge}
 
 -- ---- parts: the flags, and the row made with them

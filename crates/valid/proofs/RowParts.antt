@@ -11,9 +11,10 @@ use Rattle.records.specs.declared.TypeInner.the-variants.{Array, RuntimeArray}
 use Rattle.layouter.specs.declared.TypeLayout.{TypeLayout}
 use Rattle.flags.specs.Flags.{arrayFlags, runtimeArrayFlags}
 use Rattle.type_info.specs.declared.Row.{Row}
-use Rattle.members.specs.declared.Bounds.{Bounds}
+use Rattle.member_rules.specs.declared.Bounds.{Bounds}
 use Rattle.members.specs.declared.State.{State}
-use Rattle.members.specs.Members.{boundsAfter, uniformAfter, storageAfter, immediatesAfter, previousOf, stateAfter}
+use Rattle.member_rules.specs.MemberRules.{boundsAfter, uniformAfter, storageAfter, immediatesAfter, previousOf}
+use Rattle.members.specs.Members.{stateAfter}
 use Rattle.valid.specs.Valid.{isArrayBase, arrayRow, judge, flagsOf, rowOf, uniformOf, storageOf, immediatesOf}
 
 -- what follows a value that a test lets through

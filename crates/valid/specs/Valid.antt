@@ -22,14 +22,14 @@ use Rattle.type_info.specs.declared.Row.{Row}
 use Rattle.type_info.specs.Verdict.{minUniform, minStorage, okVerdict, arrayVerdict, spanVerdict}
 use Rattle.rows.specs.Rows.{withRow}
 use Rattle.type_info.specs.TypeInfo.{wordsOf}
-use Rattle.members.specs.declared.Bounds.{Bounds}
+use Rattle.member_rules.specs.declared.Bounds.{Bounds}
 use Rattle.valid.specs.declared.Flagged.{Flagged}
 use Rattle.valid.specs.declared.Flagged.the-variants as flagged
 use Rattle.valid.specs.declared.Flagged.the-variants.{Flags}
 use Rattle.valid.specs.declared.Judged.{Judged}
 use Rattle.valid.specs.declared.Judged.the-variants as judged
 use Rattle.valid.specs.declared.Judged.the-variants.{Made}
-use Rattle.members.specs.Members.{boundsAfter, uniformAfter, storageAfter, immediatesAfter}
+use Rattle.member_rules.specs.MemberRules.{boundsAfter, uniformAfter, storageAfter, immediatesAfter}
 
 -- ---- flags of a leaf, numbers 8 to 12
 -- where the width is allowed

@@ -26,7 +26,7 @@ use Rattle.width.specs.Width.{checkWidth, atomicWidth}
 use Rattle.type_info.specs.declared.Verdict.{Verdict}
 use Rattle.type_info.specs.declared.Row.{Row}
 use Rattle.type_info.specs.Verdict.{minUniform, arrayVerdict}
-use Rattle.members.specs.Members.{isArray, previousOf}
+use Rattle.member_rules.specs.MemberRules.{isArray, previousOf}
 use Rattle.valid.specs.Valid.{leafFlags, leafVerdictAlignment, isArrayBase}
 use Rattle.valid.specs.Arena.{judgedAt, row}
 use Rattle.wgsl.specs.Wgsl.{Scalar, bool, Integer, integer, Float, float, i32, u32, Dimension, WgslType, scalar, vector, matrix, atomic, array, runtimeArray, struct, Members, memberTotal, number, alignOf, sizeOf, strideOf, offsetOfMember, kindOf, widthOf, Numeric, HostShareable, AllHostShareable, IsType}

@@ -12,9 +12,9 @@ use Rattle.records.specs.declared.TypeInner.{TypeInner}
 use Rattle.records.proofs.ResultLaws.{and-then-ok}
 use Rattle.flags.specs.Flags.{bit, creationResolvedBit}
 use Rattle.type_info.specs.declared.Row.{Row}
-use Rattle.members.specs.declared.Bounds.{Bounds}
-use Rattle.members.specs.Members.{previousOf, structAt, boundsAfter, uniformAfter, storageAfter, immediatesAfter}
-use Rattle.members.proofs.MemberLaws.{member-taken, members-in}
+use Rattle.member_rules.specs.declared.Bounds.{Bounds}
+use Rattle.member_rules.specs.MemberRules.{previousOf, structAt, boundsAfter, uniformAfter, storageAfter, immediatesAfter}
+use Rattle.member_rules.proofs.MemberLaws.{member-taken, members-in}
 
 -- ---- two tables of rows that agree on the members' types
 module _ (rows rows′ : ℕ → Row) (members : List ℕ) (n : ℕ) (same : (j : ℕ) → j < n → rows (memberType members j) ≡ rows′ (memberType members j)) where

@@ -2,9 +2,9 @@ use borrow.Author.Needs.{needs}
 use mathlib.Core.Path.{refl, sym, _∙_}
 use denote.Ref.{now}
 use Rattle.records.specs.Record.{typeInner, innerOf, typeWord}
-use Rattle.members.proofs.KindLaws.{no-struct-kind}
-use Rattle.members.proofs.struct_at.Statement.{statement}
-use Rattle.members.proofs.struct_at.Tie as tie
+use Rattle.member_rules.proofs.KindLaws.{no-struct-kind}
+use Rattle.member_rules.proofs.struct_at.Statement.{statement}
+use Rattle.member_rules.proofs.struct_at.Tie as tie
 
 returns : tie.Need-returns
 unfolding typeInner innerOf

@@ -17,7 +17,7 @@ use Rattle.type_info.specs.declared.Distance.{Distance}
 use Rattle.type_info.specs.declared.Distance.the-variants.{Enough, Short, Overflow}
 use Rattle.type_info.specs.declared.Previous.{Previous}
 use Rattle.type_info.specs.declared.Previous.the-variants.{NoStruct}
-use Rattle.members.specs.Members.{isArray, structAt, Plainly, isEnough}
+use Rattle.member_rules.specs.MemberRules.{isArray, structAt, Plainly, isEnough}
 
 -- whichever of two is picked, where both are alike to f
 both-alike : {A : Type 0} (f : TypeInner → A) (v : A) (t : Bool) (x y : TypeInner) → f x ≡ v → f y ≡ v → f (pick t x y) ≡ v

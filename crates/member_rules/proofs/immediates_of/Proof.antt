@@ -1,4 +1,4 @@
--- `members::immediates_of` meets its contract, by the two cases of the definition. Assumes nothing.
+-- `member_rules::immediates_of` meets its contract, by the two cases of the definition. Assumes nothing.
 use mathlib.Core.Bool.{Bool, true, false}
 use mathlib.Core.Path.{_≡_, refl}
 use Prim.Native.Nat.{ℕ}
@@ -6,8 +6,8 @@ use lib.Dec.{eqb}
 use borrow.Author.Tests.{eqb-true, eqb-false}
 use native.Mathlib.Omega.{arith}
 use Rattle.records.specs.Result.{pick}
-use Rattle.members.proofs.immediates_of.Statement.{statement}
-use Rattle.members.proofs.immediates_of.Tie as tie
+use Rattle.member_rules.proofs.immediates_of.Statement.{statement}
+use Rattle.member_rules.proofs.immediates_of.Tie as tie
 
 -- what is answered is the word so far where the member has none, else the member's own
 by-own : (own so-far r : ℕ) → (own ≡ 0 → r ≡ so-far) → ((own ≡ 0 → ⊥) → r ≡ own) → r ≡ pick (eqb own 0) so-far own

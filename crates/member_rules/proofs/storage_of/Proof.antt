@@ -1,7 +1,7 @@
 use borrow.Author.Needs.{needs}
 use mathlib.Core.Path.{refl}
-use Rattle.members.proofs.storage_of.Statement.{statement}
-use Rattle.members.proofs.storage_of.Tie as tie
+use Rattle.member_rules.proofs.storage_of.Statement.{statement}
+use Rattle.member_rules.proofs.storage_of.Tie as tie
 
 returns : tie.Need-returns
 returns c = rw (c .member-verdict .ensures, c .before .share-verdict .ensures, c .before .before .is-host-shareable .ensures) refl

@@ -22,8 +22,8 @@ use Rattle.type_info.specs.declared.Previous.{Previous}
 use Rattle.type_info.specs.declared.Row.{Row}
 use Rattle.type_info.specs.Verdict.{isOk, alignmentIn, shareVerdict, memberVerdict, distanceVerdict, distanceOk, unsizedVerdict}
 use Rattle.type_info.proofs.VerdictLaws.{OkPower, ok-power, MemberOk, member-ok, share-ok, distance-ok, unsized-ok, member-power, same-power}
-use Rattle.members.specs.declared.Bounds.{Bounds}
-use Rattle.members.specs.Members.{isArray, previousOf, memberFlags, memberBounds, boundsAfter, uniformAfter, storageAfter}
+use Rattle.member_rules.specs.declared.Bounds.{Bounds}
+use Rattle.member_rules.specs.MemberRules.{isArray, previousOf, memberFlags, memberBounds, boundsAfter, uniformAfter, storageAfter}
 
 -- ---- one member
 -- what an accepted member says; r is the row of its type
