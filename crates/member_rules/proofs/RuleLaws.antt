@@ -4,7 +4,7 @@ use mathlib.Core.Path.{_≡_, ap}
 use mathlib.Core.Bool.{Bool, true}
 use Prim.Native.Nat.{ℕ, _+_}
 use lib.Bits.{bitAnd}
-use lib.Dec.{T, leb}
+use lib.Dec.{leb}
 use Rattle.records.specs.Result.{Result, ok, require}
 use Rattle.records.proofs.ResultLaws.{required, T-true}
 use Rattle.alignment.specs.Alignment.{most}

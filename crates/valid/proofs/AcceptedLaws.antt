@@ -25,9 +25,12 @@ use Rattle.records.proofs.TableLaws.{table-value, value-ok, same-value, same-go
 use Rattle.alignment.specs.Alignment.{Power}
 use Rattle.alignment.proofs.PowerLaws.{power-of-width, power-vector}
 use Rattle.type_methods.specs.TypeMethods.{leafSize}
-use Rattle.layouter.specs.Layouter.{leafWidth, noLayout, layoutStep, layoutAt, layout}
-use Rattle.layouter.proofs.LayoutAccepted.{plain-layout, plain-width, array-layout, runtime-array-layout, struct-layout, members-earlier}
-use Rattle.layouter.proofs.LayoutPower.{power-one, layout-power}
+use Rattle.type_layout.specs.TypeLayout.{leafWidth}
+use Rattle.layouter.specs.Layouter.{noLayout, layoutStep, layoutAt, layout}
+use Rattle.type_layout.proofs.AcceptedParts.{members-earlier}
+use Rattle.layouter.proofs.LayoutAccepted.{plain-layout, plain-width, array-layout, runtime-array-layout, struct-layout}
+use Rattle.type_layout.proofs.AlignmentPower.{power-one}
+use Rattle.layouter.proofs.LayoutPower.{layout-power}
 use Rattle.flags.specs.Flags.{bit, dataBit, sizedBit, creationResolvedBit}
 use Rattle.flags.proofs.BitLaws.{bit-or-left, bit-or-right}
 use Rattle.type_info.specs.declared.Row.{Row}

@@ -8,7 +8,7 @@ use native.Mathlib.Omega.{arith}
 use Rattle.records.specs.Result.{Result, err, ok, pick, require, andThen}
 use Rattle.records.specs.declared.TypeInner.{TypeInner}
 use Rattle.records.specs.declared.TypeInner.the-variants.{Array, RuntimeArray}
-use Rattle.layouter.specs.declared.TypeLayout.{TypeLayout}
+use Rattle.type_layout.specs.declared.TypeLayout.{TypeLayout}
 use Rattle.flags.specs.Flags.{arrayFlags, runtimeArrayFlags}
 use Rattle.type_info.specs.declared.Row.{Row}
 use Rattle.member_rules.specs.declared.Bounds.{Bounds}

@@ -14,7 +14,7 @@ use Rattle.records.specs.declared.NonData.the-variants.{Pointer, ValuePointer, 
 use Rattle.records.specs.declared.TypeInner.{TypeInner}
 use Rattle.records.specs.declared.TypeInner.the-variants.{Plain, Array, RuntimeArray, Struct, Other}
 use Rattle.alignment.specs.Alignment.{vectorAlignment}
-use Rattle.layouter.specs.declared.TypeLayout.{TypeLayout}
+use Rattle.type_layout.specs.declared.TypeLayout.{TypeLayout}
 use Rattle.flags.specs.Flags.{bit, dataBit, sizedBit, creationResolvedBit, startingFlags, scalarFlags, pointerFlags, arrayFlags, runtimeArrayFlags, bindingArrayFlags}
 use Rattle.width.specs.Width.{float, capability, checkWidth, atomicWidth, immediatesWord, cooperativeMatrix, cubeArrayTextures, textureExternal, rayQuery, rayTracingPipeline, rayHitVertexPosition}
 use Rattle.type_info.specs.declared.Verdict.{Verdict}

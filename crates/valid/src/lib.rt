@@ -1,11 +1,11 @@
 // validate_type of naga's valid/type.rs, and the arena check.
-use layouter::TypeLayout;
 use members::Members;
 use records::NonData;
 use records::Outcome;
 use records::TypeInner;
 use records::Words;
 use type_info::Row;
+use type_layout::TypeLayout;
 use width::Width;
 ghost use mathlib.Core.Path.{_≡_};
 ghost use Prim.Native.Nat.{ℕ, _+_, _*_, _≤_, _<_};
@@ -17,7 +17,8 @@ ghost use Rattle.alignment.specs.Alignment.{vectorAlignment};
 ghost use Rattle.flags.specs.Flags.{startingFlags, scalarFlags, pointerFlags};
 ghost use Rattle.records.specs.Table.{firstRefusal};
 ghost use Rattle.records.specs.declared.TypeInner.the-variants.{Struct, Other};
-ghost use Rattle.layouter.specs.Layouter.{layoutsIn, layoutRows, rowsAfter};
+ghost use Rattle.type_layout.specs.TypeLayout.{layoutsIn};
+ghost use Rattle.layouter.specs.Layouter.{layoutRows, rowsAfter};
 ghost use Rattle.width.specs.Width.{widthResult, checkWidth, atomicWidth, immediatesWord};
 ghost use Rattle.type_info.specs.TypeInfo.{rowsIn};
 ghost use Rattle.valid.specs.Valid.{isFlat, cubeAllowed, isExternalForm, externalAllowed, isBindingBase, cooperativeFlags, pointerTo, accelerationFlags, bindingArrayOf, matrixFlags, rayQueryFlags, imageFlags, isStruct, isExternalImage, isArrayBase, arrayOf, judge, flaggedResult, judgedResult, plainRow, arrayRow, rowsWith, withWidth, vertexFlags};

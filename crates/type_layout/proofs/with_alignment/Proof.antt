@@ -1,7 +1,7 @@
 use borrow.Author.Needs.{needs}
 use mathlib.Core.Path.{refl}
-use Rattle.layouter.proofs.with_alignment.Statement.{statement}
-use Rattle.layouter.proofs.with_alignment.Tie as tie
+use Rattle.type_layout.proofs.with_alignment.Statement.{statement}
+use Rattle.type_layout.proofs.with_alignment.Tie as tie
 
 returns : tie.Need-returns
 returns c = rw (c .before .aligned .given .1) refl

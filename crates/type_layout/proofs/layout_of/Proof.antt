@@ -1,4 +1,4 @@
--- `layouter::layout_of` meets its contract: each arm knows the kind, and the record's meaning computes. Assumes nothing.
+-- `type_layout::layout_of` meets its contract: each arm knows the kind, and the record's meaning computes. Assumes nothing.
 use borrow.Author.Needs.{needs}
 use mathlib.Core.Path.{sym, _∙_}
 use native.Mathlib.Omega.{arith}
@@ -8,10 +8,10 @@ use borrow.Author.Tests.{ne-eqb}
 use Rattle.records.specs.Record.{innerOf, structMembers}
 use Rattle.type_methods.specs.TypeMethods.{trySize}
 use Rattle.alignment.proofs.PowerLaws.{cooperative-within}
-use Rattle.layouter.specs.Layouter.{layoutOf, alignmentOf, layoutsIn}
-use Rattle.layouter.proofs.LayoutLaws.{array-laid, handle-laid, factor-within}
-use Rattle.layouter.proofs.layout_of.Statement.{statement}
-use Rattle.layouter.proofs.layout_of.Tie as tie
+use Rattle.type_layout.specs.TypeLayout.{layoutOf, alignmentOf, layoutsIn}
+use Rattle.type_layout.proofs.TypeLayoutLaws.{array-laid, handle-laid, factor-within}
+use Rattle.type_layout.proofs.layout_of.Statement.{statement}
+use Rattle.type_layout.proofs.layout_of.Tie as tie
 
 leaf-alignment-requires : tie.Need-leaf-alignment-requires
 unfolding innerOf

@@ -1,6 +1,6 @@
 use borrow.Author.Needs.{needs}
-use Rattle.layouter.proofs.struct_layout.Statement.{statement}
-use Rattle.layouter.proofs.struct_layout.Tie as tie
+use Rattle.type_layout.proofs.struct_layout.Statement.{statement}
+use Rattle.type_layout.proofs.struct_layout.Tie as tie
 
 returns : tie.Need-returns
 returns c = rw (c .before .members-alignment .ensures, c .before .before .struct-members .ensures) at (c .with-alignment .ensures)

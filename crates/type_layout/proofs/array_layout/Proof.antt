@@ -1,7 +1,7 @@
 use borrow.Author.Needs.{needs}
 use mathlib.Core.Path.{refl}
-use Rattle.layouter.proofs.array_layout.Statement.{statement}
-use Rattle.layouter.proofs.array_layout.Tie as tie
+use Rattle.type_layout.proofs.array_layout.Statement.{statement}
+use Rattle.type_layout.proofs.array_layout.Tie as tie
 
 returns : tie.Need-returns
 returns c = let size = rw (c .before .before .before .size .given .1) at (c .before .before .before .before .before .size-by-form .ensures) in rw (← size) (rw (c .before .base-alignment .ensures) at (c .with-alignment .ensures))
