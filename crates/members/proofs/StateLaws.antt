@@ -7,7 +7,6 @@ use Prim.Native.Nat.{ℕ, suc, _+_, _≤_}
 use native.Mathlib.Omega.{arith}
 use native.Mathlib.Decide.{le-ind}
 use lib.Bits.{bitAnd}
-use lib.Dec.{leb}
 use borrow.Author.Tests.{le-leb}
 use Rattle.records.specs.Result.{Result, err, ok, andThen}
 use Rattle.records.specs.Record.{memberType, memberOffset}

@@ -214,12 +214,12 @@ pub fn members_of(
     let mut state = reached.state;
     let mut j: u32 = reached.taken;
     while j < count {
-        let t = records::member_type(part, j);
+        let ty = records::member_type(part, j);
         let offset = records::member_offset(part, j);
-        let array = member_rules::is_array(types, t);
-        let next = member_rules::struct_at(types, t, offset);
-        let row = type_info::row_at(rows, t);
-        match member(i, count, span, j, t, offset, array, next, row, state) {
+        let array = member_rules::is_array(types, ty);
+        let next = member_rules::struct_at(types, ty, offset);
+        let row = type_info::row_at(rows, ty);
+        match member(i, count, span, j, ty, offset, array, next, row, state) {
             Stepped::Took(after) => {
                 state = after;
             }
