@@ -20,7 +20,7 @@ use Rattle.records.proofs.TableLaws.{also-accepted, all-ok}
 use Rattle.records.proofs.RecordLaws.{record-bounds}
 use Rattle.type_methods.specs.TypeMethods.{mostSize, sizeOf, trySize}
 use Rattle.layouter.specs.Layouter.{noLayout, layoutStep, layoutAt, layoutOutcome}
-use Rattle.layouter.proofs.LayoutAccepted.{layout-parts}
+use Rattle.type_layout.proofs.AcceptedParts.{layout-parts}
 use Rattle.valid.specs.Arena.{judgeOutcome, arenaFits, arenaOutcome, arenaAnswer}
 use Rattle.slots.specs.declared.Slots.{Slots}
 use Rattle.slots.specs.declared.Slots.the-variants.{Mask, Past}

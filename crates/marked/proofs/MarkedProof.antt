@@ -13,12 +13,13 @@ use Rattle.records.specs.declared.Outcome.{Outcome}
 use Rattle.records.specs.declared.Outcome.the-variants.{Accepted, Refused}
 use Rattle.records.proofs.ResultLaws.{and-left, and-right}
 use Rattle.type_methods.specs.TypeMethods.{trySize}
-use Rattle.layouter.specs.Layouter.{membersAlignment, alignmentOf, layoutOf, layoutOutcome, layoutAnswer, layoutRows}
+use Rattle.type_layout.specs.TypeLayout.{membersAlignment, alignmentOf, layoutOf}
+use Rattle.layouter.specs.Layouter.{layoutOutcome, layoutAnswer, layoutRows}
 use Rattle.width.specs.Width.{integerWidth, floatWidth, checkWidth, integerAtomic, atomicWidth}
 use Rattle.type_flags.specs.TypeFlags.{leafFlags}
 use Rattle.type_info.specs.TypeInfo.{wordsOf}
 use Rattle.type_info.specs.Verdict.{arrayVerdict, shareVerdict, memberVerdict, distanceVerdict, distanceOk, unsizedVerdict, spanVerdict}
-use Rattle.members.specs.Members.{previousOf, memberBounds, boundsAfter, uniformAfter, storageAfter, immediatesAfter}
+use Rattle.member_rules.specs.MemberRules.{previousOf, memberBounds, boundsAfter, uniformAfter, storageAfter, immediatesAfter}
 use Rattle.valid.specs.Valid.{nonDataFlags, flagsOf, uniformOf, storageOf, immediatesOf, rowOf, judge}
 use Rattle.valid.specs.Arena.{judgeOutcome, arenaOutcome, arenaAnswer, arenaRows, arenaWords}
 use Rattle.slots.specs.declared.SlotsAnswer.{SlotsAnswer}

@@ -1,4 +1,1 @@
 pub mod StateLaws
-pub mod MemberLaws
-pub mod MemberSame
-mod KindLaws

@@ -1,32 +1,20 @@
 // The members of a struct, one after the other: the member loop of validate_type in naga's valid/type.rs.
-use type_info::Distance;
+use member_rules::Bounded;
+use member_rules::Bounds;
 use type_info::Previous;
 use type_info::Row;
 use type_info::Verdict;
 ghost use mathlib.Core.Path.{_≡_};
-ghost use mathlib.Core.Bool.{_&&_, _||_};
-ghost use Prim.Native.Nat.{ℕ, suc, _+_, _*_, _≤_, _<_};
+ghost use Prim.Native.Nat.{ℕ, _+_, _*_, _≤_, _<_};
 ghost use lib.ListN.{length};
-ghost use lib.Dec.{eqb};
 ghost use Rattle.records.specs.Record.{typeInner};
 ghost use Rattle.records.specs.Result.{ok};
 ghost use Rattle.type_info.specs.TypeInfo.{rowsIn};
-ghost use Rattle.type_info.specs.Verdict.{minUniform, minStorage, okVerdict, isWithin};
+ghost use Rattle.type_info.specs.Verdict.{minUniform, minStorage, okVerdict};
 ghost use Rattle.flags.specs.Flags.{startingFlags};
 ghost use Rattle.type_info.specs.declared.Previous.the-variants.{NoStruct};
-ghost use Rattle.members.specs.Members.{structAt, isArray, isMemberData, isApart, isMemberSized, memberFlags, boundsBy, memberStorage, memberImmediates, uniformBy, memberStep, stateAfter, boundedResult, steppedResult, membersResult, Plainly, plainStep, isEnough};
-
-const ARRAY_KIND: u32 = 7;
-
-const STRUCT_KIND: u32 = 8;
-// DATA, SIZED, HOST_SHAREABLE and CREATION_RESOLVED.
-const PLAIN: u32 = 147;
-
-// The running end and the flags after some members.
-pub struct Bounds {
-    pub end: u32,
-    pub flags: u32,
-}
+ghost use Rattle.member_rules.specs.MemberRules.{structAt, isArray};
+ghost use Rattle.members.specs.Members.{memberStep, stateAfter, steppedResult, membersResult, plainStep};
 
 // What is known after some members.
 pub struct State {
@@ -35,11 +23,6 @@ pub struct State {
     pub storage: Verdict,
     pub immediates: u32,
     pub previous: Previous,
-}
-
-pub enum Bounded {
-    Within(Bounds),
-    Refused(u32),
 }
 
 pub enum Stepped {
@@ -64,150 +47,6 @@ pub enum Members {
     Refused { number: u32, member: u32 },
 }
 
-// What member rules ask of the kind of type t: whether it is an array,
-fn is_array(types: &[u32], t: u32) -> bool
-    ensures { λ r. ⌜ r ≡ isArray (typeInner (now (types .entry)) t) ⌝ }
-{
-    records::type_word(types, t, 0) == ARRAY_KIND
-}
-
-// and, for the distance of the next member, the struct that it is.
-fn struct_at(types: &[u32], t: u32, offset: u32) -> Previous
-    ensures { λ r. ⌜ r ≡ structAt (typeInner (now (types .entry)) t) offset ⌝ }
-{
-    if records::type_word(types, t, 0) == STRUCT_KIND {
-        let span = records::type_word(types, t, 3);
-        return Previous::StructBefore { span, offset };
-    }
-    Previous::NoStruct
-}
-
-// Number 17: data of a size known at shader creation.
-fn is_member_data(flags: u32) -> bool
-    ensures { λ r. ⌜ r ≡ isMemberData flags ⌝ }
-{
-    flags::is_data(flags) & flags::is_creation_resolved(flags)
-}
-
-// Number 20: sized, or an array that is the last member.
-fn is_member_sized(flags: u32, array: bool, j: u32, count: u32) -> bool
-    ensures { λ r. ⌜ r ≡ isMemberSized flags array j count ⌝ }
-{
-    let last = (j as u64) + 1 == count as u64;
-    flags::is_sized(flags) | array & last
-}
-
-// Offset 0 under the running end costs HOST_SHAREABLE.
-fn member_flags(end: u32, offset: u32, flags: u32) -> u32
-    ensures { λ r. ⌜ r ≡ memberFlags end offset flags ⌝ }
-{
-    if end <= offset {
-        flags
-    } else {
-        flags::not_host_shareable(flags)
-    }
-}
-
-fn is_apart(end: u32, offset: u32) -> bool
-    ensures { λ r. ⌜ r ≡ isApart end offset ⌝ }
-{
-    (end <= offset) | (offset == 0)
-}
-
-fn is_within(d: Distance) -> bool
-    ensures { λ r. ⌜ r ≡ isWithin d ⌝ }
-{
-    match d {
-        Distance::Enough => true,
-        Distance::Short(_) => true,
-        Distance::Overflow => false,
-    }
-}
-
-fn is_enough(d: Distance) -> bool
-    ensures { λ r. ⌜ r ≡ isEnough d ⌝ }
-{
-    match d {
-        Distance::Enough => true,
-        Distance::Short(_) => false,
-        Distance::Overflow => false,
-    }
-}
-
-// Numbers 17 to 21 in the Rust's order; else the running end and the flags after this member.
-fn member_bounds(
-    count: u32,
-    span: u32,
-    within: bool,
-    array: bool,
-    offset: u32,
-    j: u32,
-    row: Row,
-    so_far: Bounds,
-) -> Bounded
-    ensures { λ r. ⌜ boundedResult j r ≡ boundsBy count span within array offset j row «so_far» ⌝ }
-{
-    let size = row.size;
-    let end = so_far.end;
-    if !is_member_data(row.flags) {
-        return Bounded::Refused(17);
-    }
-    if !is_apart(end, offset) {
-        return Bounded::Refused(18);
-    }
-    let sum = (offset as u64) + (size as u64);
-    if alignment::MOST < sum {
-        return Bounded::Refused(21);
-    }
-    let next = sum as u32;
-    if span < next {
-        return Bounded::Refused(19);
-    }
-    if !within {
-        return Bounded::Refused(21);
-    }
-    if !is_member_sized(row.flags, array, j, count) {
-        return Bounded::Refused(20);
-    }
-    let flags = member_flags(end, offset, flags::both(so_far.flags, row.flags));
-    Bounded::Within(Bounds { end: next, flags })
-}
-
-// The uniform verdict after this member.
-fn uniform_of(
-    d: Distance,
-    i: u32,
-    j: u32,
-    t: u32,
-    offset: u32,
-    row: Row,
-    so_far: Verdict,
-) -> Verdict
-    ensures { λ r. ⌜ r ≡ uniformBy d i j t offset row «so_far» ⌝ }
-{
-    let own = row.uniform;
-    let shared = type_info::share_verdict(flags::is_host_shareable(row.flags), t, so_far);
-    let joined = type_info::member_verdict(i, j, offset, shared, own);
-    let apart = type_info::after_distance(d, i, j, offset, joined);
-    type_info::unsized_verdict(flags::is_sized(row.flags), i, j, apart)
-}
-
-// The storage verdict after this member.
-fn storage_of(i: u32, j: u32, t: u32, offset: u32, row: Row, so_far: Verdict) -> Verdict
-    ensures { λ r. ⌜ r ≡ memberStorage i j t offset row «so_far» ⌝ }
-{
-    let own = row.storage;
-    let shared = type_info::share_verdict(flags::is_host_shareable(row.flags), t, so_far);
-    type_info::member_verdict(i, j, offset, shared, own)
-}
-
-// The last failing member gives the immediates word.
-fn immediates_of(own: u32, so_far: u32) -> u32
-    ensures { λ r. ⌜ r ≡ memberImmediates own «so_far» ⌝ }
-{
-    if own == 0 { so_far } else { own }
-}
-
 // One member of type t, in 01's order.
 fn member(
     i: u32,
@@ -229,11 +68,20 @@ fn member(
     let storage_so_far = state.storage;
     let immediates_so_far = state.immediates;
     let d = type_info::distance_to(previous, offset);
-    match member_bounds(count, span, is_within(d), array, offset, j, row, so_far) {
+    match member_rules::member_bounds(
+        count,
+        span,
+        member_rules::is_within(d),
+        array,
+        offset,
+        j,
+        row,
+        so_far,
+    ) {
         Bounded::Within(bounds) => {
-            let uniform = uniform_of(d, i, j, t, offset, row, uniform_so_far);
-            let storage = storage_of(i, j, t, offset, row, storage_so_far);
-            let immediates = immediates_of(row.immediates, immediates_so_far);
+            let uniform = member_rules::uniform_of(d, i, j, t, offset, row, uniform_so_far);
+            let storage = member_rules::storage_of(i, j, t, offset, row, storage_so_far);
+            let immediates = member_rules::immediates_of(row.immediates, immediates_so_far);
             Stepped::Took(State {
                 bounds,
                 uniform,
@@ -263,20 +111,6 @@ fn start() -> State
     }
 }
 
-// Whether a member with these flags is plain: data, sized, host-shareable, and resolved at shader creation.
-fn is_plain(flags: u32) -> bool
-    ensures { λ r. ⌜ Plainly r flags ⌝ }
-{
-    flags & PLAIN == PLAIN
-}
-
-// Wider than both, so that the sum does not wrap.
-fn end_of(offset: u32, size: u32) -> u64
-    ensures { λ r. ⌜ r ≡ offset + size ⌝ }
-{
-    (offset as u64) + (size as u64)
-}
-
 // The step of a member that breaks no rule of bounds and needs no distance: most members, in fewer tests than `member`.
 fn plain_member(
     types: &[u32],
@@ -300,8 +134,8 @@ fn plain_member(
     let size = rows[at];
     let flags = rows[at + 2];
     let own = rows[at + 13];
-    let sum = end_of(offset, size);
-    if !is_plain(flags) {
+    let sum = member_rules::end_of(offset, size);
+    if !member_rules::is_plain(flags) {
         return Plain::Other;
     }
     if offset < so_far.end {
@@ -310,7 +144,7 @@ fn plain_member(
     if (span as u64) < sum {
         return Plain::Other;
     }
-    if !is_enough(type_info::distance_to(previous, offset)) {
+    if !member_rules::is_enough(type_info::distance_to(previous, offset)) {
         return Plain::Other;
     }
     let end = sum as u32;
@@ -320,13 +154,13 @@ fn plain_member(
     };
     let uniform = type_info::member_verdict_at(rows, t, 3, i, j, offset, uniform_so_far);
     let storage = type_info::member_verdict_at(rows, t, 8, i, j, offset, storage_so_far);
-    let immediates = immediates_of(own, state.immediates);
+    let immediates = member_rules::immediates_of(own, state.immediates);
     Plain::Took(State {
         bounds,
         uniform,
         storage,
         immediates,
-        previous: struct_at(types, t, offset),
+        previous: member_rules::struct_at(types, t, offset),
     })
 }
 
@@ -380,12 +214,12 @@ pub fn members_of(
     let mut state = reached.state;
     let mut j: u32 = reached.taken;
     while j < count {
-        let t = records::member_type(part, j);
+        let ty = records::member_type(part, j);
         let offset = records::member_offset(part, j);
-        let array = is_array(types, t);
-        let next = struct_at(types, t, offset);
-        let row = type_info::row_at(rows, t);
-        match member(i, count, span, j, t, offset, array, next, row, state) {
+        let array = member_rules::is_array(types, ty);
+        let next = member_rules::struct_at(types, ty, offset);
+        let row = type_info::row_at(rows, ty);
+        match member(i, count, span, j, ty, offset, array, next, row, state) {
             Stepped::Took(after) => {
                 state = after;
             }

@@ -17,7 +17,8 @@ use Rattle.records.proofs.ResultLaws.{required, and-right}
 use Rattle.alignment.proofs.PowerLaws.{mul-within}
 use Rattle.type_methods.specs.TypeMethods.{mostSize, trySize}
 use Rattle.layouter.specs.Layouter.{noLayout, layoutStep, layout}
-use Rattle.layouter.proofs.LayoutAccepted.{layout-parts, accepted-step}
+use Rattle.type_layout.proofs.AcceptedParts.{layout-parts}
+use Rattle.layouter.proofs.LayoutAccepted.{accepted-step}
 use Rattle.flags.specs.Flags.{bit, sizedBit}
 use Rattle.flags.proofs.BitLaws.{bit-and}
 use Rattle.valid.specs.Arena.{row}

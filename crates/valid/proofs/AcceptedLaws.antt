@@ -25,9 +25,12 @@ use Rattle.records.proofs.TableLaws.{table-value, value-ok, same-value, same-go
 use Rattle.alignment.specs.Alignment.{Power}
 use Rattle.alignment.proofs.PowerLaws.{power-of-width, power-vector}
 use Rattle.type_methods.specs.TypeMethods.{leafSize}
-use Rattle.layouter.specs.Layouter.{leafWidth, noLayout, layoutStep, layoutAt, layout}
-use Rattle.layouter.proofs.LayoutAccepted.{plain-layout, plain-width, array-layout, runtime-array-layout, struct-layout, members-earlier}
-use Rattle.layouter.proofs.LayoutPower.{power-one, layout-power}
+use Rattle.type_layout.specs.TypeLayout.{leafWidth}
+use Rattle.layouter.specs.Layouter.{noLayout, layoutStep, layoutAt, layout}
+use Rattle.type_layout.proofs.AcceptedParts.{members-earlier}
+use Rattle.layouter.proofs.LayoutAccepted.{plain-layout, plain-width, array-layout, runtime-array-layout, struct-layout}
+use Rattle.type_layout.proofs.AlignmentPower.{power-one}
+use Rattle.layouter.proofs.LayoutPower.{layout-power}
 use Rattle.flags.specs.Flags.{bit, dataBit, sizedBit, creationResolvedBit}
 use Rattle.flags.proofs.BitLaws.{bit-or-left, bit-or-right}
 use Rattle.type_flags.specs.TypeFlags.{leafFlags, isArrayBase}
@@ -35,10 +38,10 @@ use Rattle.type_info.specs.declared.Row.{Row}
 use Rattle.type_info.specs.TypeInfo.{emptyRow}
 use Rattle.type_info.specs.Verdict.{minUniform, minStorage, okVerdict, arrayVerdict, spanVerdict}
 use Rattle.type_info.proofs.VerdictLaws.{OkPower, ok-power, array-power, span-ok, same-power}
-use Rattle.members.specs.declared.Bounds.{Bounds}
-use Rattle.members.specs.Members.{isArray, boundsAfter, uniformAfter, storageAfter, immediatesAfter}
-use Rattle.members.proofs.MemberLaws.{MemberIn, members-in, storage-power-after, uniform-power-after}
-use Rattle.members.proofs.MemberSame.{bounds-rows, uniform-rows, storage-rows, immediates-rows}
+use Rattle.member_rules.specs.declared.Bounds.{Bounds}
+use Rattle.member_rules.specs.MemberRules.{isArray, boundsAfter, uniformAfter, storageAfter, immediatesAfter}
+use Rattle.member_rules.proofs.MemberLaws.{MemberIn, members-in, storage-power-after, uniform-power-after}
+use Rattle.member_rules.proofs.MemberSame.{bounds-rows, uniform-rows, storage-rows, immediates-rows}
 use Rattle.valid.specs.Valid.{flagsOf, leafVerdictAlignment, leafImmediates, uniformOf, storageOf, immediatesOf, rowOf, judge}
 use Rattle.valid.specs.Arena.{judgeStep, judgedAt, row}
 use Rattle.valid.proofs.CapabilityLaws.{HasAll, judge-more}

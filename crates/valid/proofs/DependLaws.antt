@@ -10,8 +10,9 @@ use Rattle.records.specs.Record.{Decoded}
 use Rattle.records.specs.Table.{table, resultAt}
 use Rattle.records.specs.declared.TypeInner.{TypeInner}
 use Rattle.records.proofs.TableLaws.{table-above}
-use Rattle.layouter.specs.declared.TypeLayout.{TypeLayout}
-use Rattle.layouter.specs.Layouter.{layoutOf, noLayout, layoutStep, layoutAt, layout}
+use Rattle.type_layout.specs.declared.TypeLayout.{TypeLayout}
+use Rattle.type_layout.specs.TypeLayout.{layoutOf}
+use Rattle.layouter.specs.Layouter.{noLayout, layoutStep, layoutAt, layout}
 use Rattle.layouter.proofs.TableSame.{value-same, tables-agree, values-agree, results-agree}
 use Rattle.flags.specs.Flags.{bit, creationResolvedBit}
 use Rattle.type_info.specs.declared.Row.{Row}

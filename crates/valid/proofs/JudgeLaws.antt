@@ -14,17 +14,17 @@ use Rattle.records.specs.declared.NonData.the-variants.{Pointer, ValuePointer, 
 use Rattle.records.specs.declared.TypeInner.{TypeInner}
 use Rattle.records.specs.declared.TypeInner.the-variants.{Plain, Array, RuntimeArray, Struct, Other}
 use Rattle.records.proofs.ResultLaws.{required, and-then-ok, ok-inj, T-true, and-left}
-use Rattle.layouter.specs.declared.TypeLayout.{TypeLayout}
+use Rattle.type_layout.specs.declared.TypeLayout.{TypeLayout}
 use Rattle.flags.specs.Flags.{bit, dataBit, sizedBit, creationResolvedBit, scalarFlags, bindingArrayFlags}
 use Rattle.flags.proofs.BitLaws.{bit-and, bit-and-both}
 use Rattle.width.specs.Width.{float, cooperativeMatrix, cubeArrayTextures, textureExternal, rayQuery, rayTracingPipeline, rayHitVertexPosition, checkWidth, atomicWidth}
 use Rattle.type_flags.specs.TypeFlags.{leafFlags, isStruct, isExternalImage, isArrayBase}
 use Rattle.type_info.specs.declared.Row.{Row}
 use Rattle.type_info.specs.Verdict.{minUniform, spanVerdict}
-use Rattle.members.specs.declared.Bounds.{Bounds}
-use Rattle.members.specs.Members.{boundsAfter}
-use Rattle.members.proofs.MemberLaws.{members-in, members-data}
-use Rattle.members.proofs.MemberSame.{bounds-inner, uniform-inner}
+use Rattle.member_rules.specs.declared.Bounds.{Bounds}
+use Rattle.member_rules.specs.MemberRules.{boundsAfter}
+use Rattle.member_rules.proofs.MemberLaws.{members-in, members-data}
+use Rattle.member_rules.proofs.MemberSame.{bounds-inner, uniform-inner}
 use Rattle.valid.specs.Valid.{nonDataFlags, flagsOf, uniformOf, rowOf, judge}
 
 -- ---- parts: the flags, and the row made with them

@@ -15,8 +15,9 @@ use Rattle.records.specs.Table.{table, resultAt, valueAt, flat}
 use Rattle.records.proofs.TableLaws.{table-value, table-above, value-ok, flat-length, flat-word}
 use Rattle.rows.specs.Rows.{rowWord, withRow}
 use Rattle.rows.proofs.RowLaws.{flat-more, drop-row}
-use Rattle.layouter.specs.declared.TypeLayout.{TypeLayout}
-use Rattle.layouter.specs.Layouter.{layout, layoutRowAt, layoutRows, layoutsIn}
+use Rattle.type_layout.specs.declared.TypeLayout.{TypeLayout}
+use Rattle.type_layout.specs.TypeLayout.{layoutsIn}
+use Rattle.layouter.specs.Layouter.{layout, layoutRowAt, layoutRows}
 use Rattle.type_info.specs.declared.Row.{Row}
 use Rattle.type_info.specs.TypeInfo.{wordsOf, rowsIn, emptyRow}
 use Rattle.valid.specs.declared.Judged.{Judged}

@@ -12,14 +12,15 @@ use Rattle.records.specs.declared.Words.{Words}
 use Rattle.records.specs.declared.Leaf.{Leaf}
 use Rattle.records.specs.declared.NonData.{NonData}
 use Rattle.records.specs.declared.TypeInner.{TypeInner}
+use Rattle.type_layout.specs.declared.TypeLayout.{TypeLayout}
 use Rattle.records.specs.declared.TypeInner.the-variants.{Plain, Array, RuntimeArray, Struct, Other}
-use Rattle.layouter.specs.declared.TypeLayout.{TypeLayout}
 use Rattle.flags.specs.Flags.{arrayFlags, runtimeArrayFlags}
 use Rattle.type_flags.specs.TypeFlags.{leafFlags, isArrayBase}
 use Rattle.type_info.specs.declared.Row.{Row}
-use Rattle.members.specs.declared.Bounds.{Bounds}
+use Rattle.member_rules.specs.declared.Bounds.{Bounds}
 use Rattle.members.specs.declared.State.{State}
-use Rattle.members.specs.Members.{boundsAfter, uniformAfter, storageAfter, immediatesAfter, previousOf, stateAfter}
+use Rattle.member_rules.specs.MemberRules.{boundsAfter, uniformAfter, storageAfter, immediatesAfter, previousOf}
+use Rattle.members.specs.Members.{stateAfter}
 use Rattle.valid.specs.declared.Judged.{Judged}
 use Rattle.valid.specs.Valid.{nonDataFlags, flagsOf, leafVerdictAlignment, leafImmediates, uniformOf, storageOf, immediatesOf, rowOf, judge, judgedResult, plainRow, arrayRow, arrayOf}
 

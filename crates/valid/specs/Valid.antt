@@ -13,7 +13,7 @@ use Rattle.records.specs.declared.NonData.the-variants.{Pointer, ValuePointer, 
 use Rattle.records.specs.declared.TypeInner.{TypeInner}
 use Rattle.records.specs.declared.TypeInner.the-variants.{Plain, Array, RuntimeArray, Struct, Other}
 use Rattle.alignment.specs.Alignment.{vectorAlignment}
-use Rattle.layouter.specs.declared.TypeLayout.{TypeLayout}
+use Rattle.type_layout.specs.declared.TypeLayout.{TypeLayout}
 use Rattle.flags.specs.Flags.{startingFlags, pointerFlags, arrayFlags, runtimeArrayFlags}
 use Rattle.width.specs.Width.{checkWidth, immediatesWord}
 use Rattle.type_flags.specs.TypeFlags.{withWidth, leafFlags, imageFlags, pointerTo, accelerationFlags, bindingArrayOf, isArrayBase}
@@ -22,11 +22,11 @@ use Rattle.type_info.specs.declared.Row.{Row}
 use Rattle.type_info.specs.Verdict.{minUniform, minStorage, okVerdict, arrayVerdict, spanVerdict}
 use Rattle.rows.specs.Rows.{withRow}
 use Rattle.type_info.specs.TypeInfo.{wordsOf}
-use Rattle.members.specs.declared.Bounds.{Bounds}
+use Rattle.member_rules.specs.declared.Bounds.{Bounds}
 use Rattle.valid.specs.declared.Judged.{Judged}
 use Rattle.valid.specs.declared.Judged.the-variants as judged
 use Rattle.valid.specs.declared.Judged.the-variants.{Made}
-use Rattle.members.specs.Members.{boundsAfter, uniformAfter, storageAfter, immediatesAfter}
+use Rattle.member_rules.specs.MemberRules.{boundsAfter, uniformAfter, storageAfter, immediatesAfter}
 
 -- ---- flags of what is no data
 unfoldable pub nonDataFlags : (c : ℕ) (inner : ℕ → TypeInner) (rows : ℕ → Row) → NonData → Result ℕ

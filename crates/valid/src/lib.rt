@@ -1,10 +1,10 @@
 // validate_type of naga's valid/type.rs, and the arena check.
-use layouter::TypeLayout;
 use members::Members;
 use records::Outcome;
 use records::Words;
 use type_flags::Flagged;
 use type_info::Row;
+use type_layout::TypeLayout;
 ghost use mathlib.Core.Path.{_≡_};
 ghost use Prim.Native.Nat.{ℕ, _+_, _*_, _≤_, _<_};
 ghost use lib.ListN.{length, take};
@@ -14,8 +14,9 @@ ghost use Rattle.records.specs.Fields.{InnerBounds};
 ghost use Rattle.alignment.specs.Alignment.{vectorAlignment};
 ghost use Rattle.flags.specs.Flags.{startingFlags, scalarFlags};
 ghost use Rattle.records.specs.Table.{firstRefusal};
+ghost use Rattle.type_layout.specs.TypeLayout.{layoutsIn};
+ghost use Rattle.layouter.specs.Layouter.{layoutRows, rowsAfter};
 ghost use Rattle.records.specs.declared.TypeInner.the-variants.{Struct};
-ghost use Rattle.layouter.specs.Layouter.{layoutsIn, layoutRows, rowsAfter};
 ghost use Rattle.width.specs.Width.{checkWidth, immediatesWord};
 ghost use Rattle.type_info.specs.TypeInfo.{rowsIn};
 ghost use Rattle.type_flags.specs.TypeFlags.{withWidth, matrixFlags, bindingArrayOf, isArrayBase, flaggedResult};

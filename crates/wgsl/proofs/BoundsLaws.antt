@@ -19,8 +19,8 @@ use Rattle.flags.specs.Flags.{bit, dataBit, sizedBit, hostShareableBit, creatio
 use Rattle.flags.proofs.BitLaws.{bit-and, bit-and-both}
 use Rattle.type_info.specs.declared.Row.{Row}
 use Rattle.type_info.specs.Verdict.{distanceOk}
-use Rattle.members.specs.declared.Bounds.{Bounds}
-use Rattle.members.specs.Members.{previousOf, isArray, memberFlags, memberBounds, boundsAfter}
+use Rattle.member_rules.specs.declared.Bounds.{Bounds}
+use Rattle.member_rules.specs.MemberRules.{previousOf, isArray, memberFlags, memberBounds, boundsAfter}
 
 -- ---- one member
 -- a flag that is still set after a member was set before it, and in the member's type

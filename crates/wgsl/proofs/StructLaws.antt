@@ -19,7 +19,8 @@ use Rattle.records.specs.declared.Leaf.the-variants.{Scalar as ScalarLeaf, Vect
 use Rattle.records.specs.declared.TypeInner.{TypeInner}
 use Rattle.records.specs.declared.TypeInner.the-variants.{Plain, Struct}
 use Rattle.records.proofs.ResultLaws.{and-then-ok, ok-inj, and-left, and-right}
-use Rattle.layouter.specs.Layouter.{membersAlignment, noLayout, layoutStep, layoutAt, layout}
+use Rattle.type_layout.specs.TypeLayout.{membersAlignment}
+use Rattle.layouter.specs.Layouter.{noLayout, layoutStep, layoutAt, layout}
 use Rattle.layouter.proofs.LayoutAccepted.{array-layout, runtime-array-layout, struct-layout, member-layout}
 use Rattle.flags.specs.Flags.{bit, dataBit, sizedBit, hostShareableBit, creationResolvedBit, startingFlags, scalarFlags}
 use Rattle.width.specs.Width.{checkWidth, atomicWidth}
@@ -27,7 +28,7 @@ use Rattle.type_flags.specs.TypeFlags.{leafFlags, isArrayBase}
 use Rattle.type_info.specs.declared.Verdict.{Verdict}
 use Rattle.type_info.specs.declared.Row.{Row}
 use Rattle.type_info.specs.Verdict.{minUniform, arrayVerdict}
-use Rattle.members.specs.Members.{isArray, previousOf}
+use Rattle.member_rules.specs.MemberRules.{isArray, previousOf}
 use Rattle.valid.specs.Valid.{leafVerdictAlignment}
 use Rattle.valid.specs.Arena.{judgedAt, row}
 use Rattle.wgsl.specs.Wgsl.{Scalar, bool, Integer, integer, Float, float, i32, u32, Dimension, WgslType, scalar, vector, matrix, atomic, array, runtimeArray, struct, Members, memberTotal, number, alignOf, sizeOf, strideOf, offsetOfMember, kindOf, widthOf, Numeric, HostShareable, AllHostShareable, IsType}

@@ -2,7 +2,7 @@ use borrow.Author.Needs.{needs}
 use mathlib.Core.Path.{refl, sym, _∙_}
 use Rattle.type_info.specs.Verdict.{isWithin}
 use Rattle.members.specs.Members.{memberStep}
-use Rattle.members.proofs.StateLaws.{bounds-within, uniform-by}
+use Rattle.member_rules.proofs.RuleLaws.{bounds-within, uniform-by}
 use Rattle.members.proofs.member.Statement.{statement}
 use Rattle.members.proofs.member.Tie as tie
 

@@ -7,7 +7,7 @@ use native.Mathlib.Numerals.{add-one}
 use native.Mathlib.Omega.{arith}
 use denote.Ref.{now}
 use Rattle.records.specs.Result.{ok}
-use Rattle.records.specs.Record.{typeInner}
+use Rattle.records.specs.Record.{typeInner, memberType}
 use Rattle.type_info.specs.TypeInfo.{rowsIn}
 use Rattle.members.specs.Members.{stateAfter}
 use Rattle.members.proofs.StateLaws.{state-step, state-refused}
@@ -30,7 +30,8 @@ returns : tie.Need-returns Inv-loop μ-loop
 returns c =
     let l = c .before .before .before .before .before .before .before .before .before .before .loop in
     let a = c .before .before .before .before .before .before .before .before .before .before .before .before .before .before .before .before .args in
-    let step = rw (c .before .before .before .before .row-at .ensures, c .before .before .before .before .before .struct-at .ensures, c .before .before .before .before .before .before .is-array .ensures, c .before .before .before .before .before .before .before .member-offset .ensures, c .before .before .before .before .before .before .before .before .member-type .ensures) at (c .before .before .before .member .ensures) in
+    let type-read : c .before .before .before .before .before .before .before .before .member-type .result ≡ memberType (now (a .part)) (l .j) = c .before .before .before .before .before .before .before .before .member-type .ensures in
+    let step = rw (c .before .before .before .before .row-at .ensures, c .before .before .before .before .before .struct-at .ensures, c .before .before .before .before .before .before .is-array .ensures, c .before .before .before .before .before .before .before .member-offset .ensures, type-read) at (c .before .before .before .member .ensures) in
     let refused = rw (c .before .number .given .1) at (state-step (typeInner (now (a .types))) (rowsIn (now (a .rows))) (a .i) (a .count) (a .span) (now (a .part)) (l .j) (l .state) (l .inv .1) ∙ sym step) in
     sym (state-refused (typeInner (now (a .types))) (rowsIn (now (a .rows))) (a .i) (a .count) (a .span) (now (a .part)) (suc (l .j)) refused (a .count) (c .before .before .before .before .before .before .before .before .before .loop-test .taken))
 
@@ -44,7 +45,8 @@ loop-again : tie.Need-loop-again Inv-loop μ-loop
 loop-again c =
     let l = c .before .before .before .before .before .before .before .before .before .before .loop in
     let a = c .before .before .before .before .before .before .before .before .before .before .before .before .before .before .before .before .args in
-    let step = rw (c .before .before .before .before .row-at .ensures, c .before .before .before .before .before .struct-at .ensures, c .before .before .before .before .before .before .is-array .ensures, c .before .before .before .before .before .before .before .member-offset .ensures, c .before .before .before .before .before .before .before .before .member-type .ensures) at (c .before .before .before .member .ensures) in
+    let type-read : c .before .before .before .before .before .before .before .before .member-type .result ≡ memberType (now (a .part)) (l .j) = c .before .before .before .before .before .before .before .before .member-type .ensures in
+    let step = rw (c .before .before .before .before .row-at .ensures, c .before .before .before .before .before .struct-at .ensures, c .before .before .before .before .before .before .is-array .ensures, c .before .before .before .before .before .before .before .member-offset .ensures, type-read) at (c .before .before .before .member .ensures) in
     (omega (arith, c .before .before .before .before .before .before .before .before .before .loop-test .taken), rw add-one (rw (c .before .after .given .1) at (state-step (typeInner (now (a .types))) (rowsIn (now (a .rows))) (a .i) (a .count) (a .span) (now (a .part)) (l .j) (l .state) (l .inv .1) ∙ sym step)))
 
 returns-2 : tie.Need-returns-2 Inv-loop μ-loop

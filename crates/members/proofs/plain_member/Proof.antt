@@ -7,9 +7,9 @@ use denote.Ref.{now}
 use borrow.Author.Tests.{not-false}
 use Rattle.records.specs.Record.{typeInner}
 use Rattle.type_info.specs.TypeInfo.{rowsIn}
-use Rattle.members.specs.Members.{isArray, structAt}
+use Rattle.member_rules.specs.MemberRules.{isArray, structAt}
 use Rattle.members.proofs.StateLaws.{plain-step}
-use Rattle.members.proofs.KindLaws.{enough}
+use Rattle.member_rules.proofs.KindLaws.{enough}
 use Rattle.members.proofs.plain_member.Statement.{statement}
 use Rattle.members.proofs.plain_member.Tie as tie
 

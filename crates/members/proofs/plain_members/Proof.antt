@@ -8,7 +8,8 @@ use denote.Ref.{now}
 use Rattle.records.specs.Result.{ok}
 use Rattle.records.specs.Record.{typeInner}
 use Rattle.type_info.specs.TypeInfo.{rowsIn}
-use Rattle.members.specs.Members.{stateAfter, boundsAfter, uniformAfter, storageAfter, immediatesAfter, previousOf}
+use Rattle.member_rules.specs.MemberRules.{boundsAfter, uniformAfter, storageAfter, immediatesAfter, previousOf}
+use Rattle.members.specs.Members.{stateAfter}
 use Rattle.members.proofs.StateLaws.{state-step}
 use Rattle.members.proofs.plain_members.Statement.{statement}
 use Rattle.members.proofs.plain_members.Tie as tie

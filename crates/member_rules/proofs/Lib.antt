@@ -1,0 +1,4 @@
+pub mod MemberLaws
+pub mod MemberSame
+pub mod RuleLaws
+pub mod KindLaws

@@ -1,0 +1,3 @@
+pub mod TypeLayoutLaws
+pub mod AcceptedParts
+pub mod AlignmentPower
