@@ -3,6 +3,14 @@ use members::Members;
 use records::Outcome;
 use records::Words;
 use type_flags::Flagged;
+use type_flags::acceleration_flags;
+use type_flags::atomic_flags;
+use type_flags::cooperative_flags;
+use type_flags::image_flags;
+use type_flags::pointer_to;
+use type_flags::ray_query_flags;
+use type_flags::sampler_flags;
+use type_flags::value_pointer_flags;
 use type_info::Row;
 use type_layout::TypeLayout;
 ghost use mathlib.Core.Path.{_≡_};
@@ -247,36 +255,16 @@ fn judge(
         0 => numeric_row(capabilities, flags::SCALAR_KIND, layout, a, b, b),
         1 => numeric_row(capabilities, flags::VECTOR_KIND, layout, b, c, column(a, c)),
         2 => matrix_row(capabilities, layout, c, d, column(b, d)),
-        3 => plain_row(
-            type_flags::cooperative_flags(capabilities, c, d),
-            layout,
-            d,
-            0,
-        ),
-        4 => plain_row(type_flags::atomic_flags(capabilities, a, b), layout, b, 0),
-        5 => plain_row(
-            type_flags::pointer_to(rows::row_word(rows, a, 2), b),
-            layout,
-            1,
-            0,
-        ),
-        6 => plain_row(
-            type_flags::value_pointer_flags(capabilities, a, b, c),
-            layout,
-            1,
-            0,
-        ),
+        3 => plain_row(cooperative_flags(capabilities, c, d), layout, d, 0),
+        4 => plain_row(atomic_flags(capabilities, a, b), layout, b, 0),
+        5 => plain_row(pointer_to(rows::row_word(rows, a, 2), b), layout, 1, 0),
+        6 => plain_row(value_pointer_flags(capabilities, a, b, c), layout, 1, 0),
         7 => array_of(rows, i, layout, a, b, d),
         8 => struct_row(types, members, rows, i, layout, b, c),
-        9 => plain_row(type_flags::image_flags(capabilities, a, b, c), layout, 1, 0),
-        10 => plain_row(type_flags::sampler_flags(), layout, 1, 0),
-        11 => plain_row(
-            type_flags::acceleration_flags(capabilities, a),
-            layout,
-            1,
-            0,
-        ),
-        12 => plain_row(type_flags::ray_query_flags(capabilities, a), layout, 1, 0),
+        9 => plain_row(image_flags(capabilities, a, b, c), layout, 1, 0),
+        10 => plain_row(sampler_flags(), layout, 1, 0),
+        11 => plain_row(acceleration_flags(capabilities, a), layout, 1, 0),
+        12 => plain_row(ray_query_flags(capabilities, a), layout, 1, 0),
         _ => binding_array_row(types, rows, layout, a, b),
     }
 }
