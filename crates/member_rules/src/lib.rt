@@ -27,14 +27,14 @@ pub enum Bounded {
     Refused(u32),
 }
 
-// What member rules ask of the kind of type t: whether it is an array,
+// Whether type t is an array; its kind tells.
 pub fn is_array(types: &[u32], t: u32) -> bool
     ensures { λ r. ⌜ r ≡ isArray (typeInner (now (types .entry)) t) ⌝ }
 {
     records::type_word(types, t, 0) == ARRAY_KIND
 }
 
-// and, for the distance of the next member, the struct that it is.
+// The struct that a member of type t is, for the distance of the next one.
 pub fn struct_at(types: &[u32], t: u32, offset: u32) -> Previous
     ensures { λ r. ⌜ r ≡ structAt (typeInner (now (types .entry)) t) offset ⌝ }
 {
