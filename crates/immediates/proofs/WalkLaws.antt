@@ -7,9 +7,9 @@ use Prim.Native.Nat.{ℕ, suc, _+_, _<_, _≤_}
 use native.Mathlib.Decide.{le-ind}
 use lib.Dec.{leb}
 use borrow.Author.Tests.{le-leb, lt-leb}
-use Rattle.records.specs.Result.{pick}
 use Rattle.records.specs.Record.{Decoded, memberType, memberOffset}
 use Rattle.records.specs.Table.{table, valueAt}
+use Rattle.records.proofs.ResultLaws.{pick-alike}
 use Rattle.records.proofs.TableLaws.{table-value, table-above}
 use Rattle.alignment.specs.Alignment.{most}
 use Rattle.slots.specs.declared.Slots.{Slots}
@@ -21,11 +21,6 @@ use Rattle.immediates.specs.Walk.{noSlots, slotsStep, slotsOf, slotsAt, 
 join-past : (a : Slots) → join a Past ≡ Past
 join-past (Mask m) = refl
 join-past Past = refl
-
--- refused either way
-pick-past : (b : Bool) → pick b Past Past ≡ Past
-pick-past true = refl
-pick-past false = refl
 
 module _ (earlier : ℕ → ℕ → Slots) (members : List ℕ) (offset : ℕ) where
   -- a refusal stays
@@ -45,7 +40,7 @@ module _ (earlier : ℕ → ℕ → Slots) (members : List ℕ) (offset : ℕ) w
     unfolding membersSlots
     members-part-past e =
         past-stays (suc j)
-        (rw (e, pick-past (leb (offset + memberOffset members j) most)) (join-past (membersSlots earlier members offset j)))
+        (rw (e, pick-alike (λ (x : Slots). x) Past (leb (offset + memberOffset members j) most) Past Past refl refl) (join-past (membersSlots earlier members offset j)))
 
     -- one more member
     pub members-more : offset + memberOffset members j ≤ most

@@ -3,7 +3,6 @@
 -- Assumes nothing.
 use mathlib.Core.Bool.{Bool, true, false, _&&_, _||_}
 use mathlib.Core.List.{List}
-use mathlib.Core.Path.{_≡_}
 use Prim.Native.Nat.{ℕ, zero, suc, _+_}
 use lib.Bits.{bitAnd}
 use lib.Dec.{eqb, leb}
@@ -126,11 +125,11 @@ abbrev pub boundedResult : (j : ℕ) → Bounded → Result Bounds
 boundedResult j (Within b) = ok b
 boundedResult j (bounded.Refused number) = err number j 0
 
--- flags of a plain member
-abbrev pub Plainly : Bool → (flags : ℕ) → Type 0
-Plainly true flags = (bit flags dataBit ≡ true) × (bit flags sizedBit ≡ true) × (bit flags hostShareableBit ≡ true) × (bit flags creationResolvedBit ≡ true)
-Plainly false flags = Unit {0}
+-- the flags of a plain member
+abbrev pub isPlain : (flags : ℕ) → Bool
+isPlain flags = bit flags dataBit && bit flags sizedBit && bit flags hostShareableBit && bit flags creationResolvedBit
 
+-- a distance that leaves the verdict as it is
 abbrev pub isEnough : Distance → Bool
 isEnough Enough = true
 isEnough (Short expected) = false

@@ -8,13 +8,11 @@ ghost use Prim.Native.Nat.{_+_, _<_};
 ghost use Rattle.records.specs.Record.{typeInner};
 ghost use Rattle.type_info.specs.Verdict.{isWithin};
 ghost use Rattle.type_info.specs.declared.Previous.the-variants.{NoStruct};
-ghost use Rattle.member_rules.specs.MemberRules.{structAt, isArray, isMemberData, isApart, isMemberSized, memberFlags, boundsBy, memberStorage, memberImmediates, uniformBy, boundedResult, Plainly, isEnough};
+ghost use Rattle.member_rules.specs.MemberRules.{structAt, isArray, isMemberData, isApart, isMemberSized, memberFlags, boundsBy, memberStorage, memberImmediates, uniformBy, boundedResult, isPlain, isEnough};
 
 const ARRAY_KIND: u32 = 7;
 
 const STRUCT_KIND: u32 = 8;
-// DATA, SIZED, HOST_SHAREABLE and CREATION_RESOLVED.
-const PLAIN: u32 = 147;
 
 // The running end and the flags after some members.
 pub struct Bounds {
@@ -173,9 +171,12 @@ pub fn immediates_of(own: u32, so_far: u32) -> u32
 
 // Whether a member with these flags is plain: data, sized, host-shareable, and resolved at shader creation.
 pub fn is_plain(flags: u32) -> bool
-    ensures { λ r. ⌜ Plainly r flags ⌝ }
+    ensures { λ r. ⌜ r ≡ isPlain flags ⌝ }
 {
-    flags & PLAIN == PLAIN
+    flags::is_data(flags)
+        & flags::is_sized(flags)
+        & flags::is_host_shareable(flags)
+        & flags::is_creation_resolved(flags)
 }
 
 // Wider than both, so that the sum does not wrap.

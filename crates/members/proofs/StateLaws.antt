@@ -1,7 +1,7 @@
 -- Laws of a struct's members: one member more, a refusal that stays.
 -- Assumes nothing.
 use mathlib.Core.Path.{_≡_, refl}
-use mathlib.Core.Bool.{Bool, true}
+use mathlib.Core.Bool.{Bool, true, _&&_}
 use mathlib.Core.List.{List}
 use Prim.Native.Nat.{ℕ, suc, _+_, _≤_}
 use native.Mathlib.Omega.{arith}
@@ -18,7 +18,9 @@ use Rattle.type_info.specs.declared.Previous.{Previous}
 use Rattle.type_info.specs.Verdict.{minUniform, distanceOk, distanceVerdict, shareVerdict, memberVerdict, unsizedVerdict}
 use Rattle.member_rules.specs.declared.Bounds.{Bounds}
 use Rattle.members.specs.declared.State.{State}
-use Rattle.member_rules.specs.MemberRules.{isArray, structAt, memberBounds, boundsAfter, uniformAfter, storageAfter, immediatesAfter, previousOf, memberImmediates, Plainly}
+use Rattle.records.proofs.ResultLaws.{true-T, T-true, and-left, and-right}
+use Rattle.flags.specs.Flags.{bit, dataBit, sizedBit, hostShareableBit, creationResolvedBit}
+use Rattle.member_rules.specs.MemberRules.{isArray, structAt, memberBounds, boundsAfter, uniformAfter, storageAfter, immediatesAfter, previousOf, memberImmediates, isPlain}
 use Rattle.members.specs.Members.{stateAfter, memberStep}
 
 module _ (inner : ℕ → TypeInner) (rows : ℕ → Row) (i count span : ℕ) (part : List ℕ) where
@@ -59,7 +61,7 @@ module _ (inner : ℕ → TypeInner) (rows : ℕ → Row) (i count span : ℕ) (
 
 -- a plain member's step: all tests hold, and each verdict is that of the offset
 pub plain-step : (i count span j t offset : ℕ) (array : Bool) (next : Previous) (r : Row) (s : State)
-    → Plainly true (r .flags) → s .bounds .end ≤ offset → offset + r .size ≤ span → span ≤ most
+    → isPlain (r .flags) ≡ true → s .bounds .end ≤ offset → offset + r .size ≤ span → span ≤ most
     → distanceOk (s .previous) offset ≡ true → ((v : Verdict) → distanceVerdict minUniform i j offset (s .previous) v ≡ v)
     → memberStep i count span j t offset array next r s
     ≡ ok (record {
@@ -71,4 +73,15 @@ pub plain-step : (i count span j t offset : ℕ) (array : Bool) (next : Previous
     })
 unfolding memberStep shareVerdict unsizedVerdict
 plain-step i count span j t offset array next r s plain apart within fits distant far =
-    rw (plain .0, plain .1, plain .2, plain .3, le-leb (s .bounds .end) offset apart, le-leb (offset + r .size) most (omega arith), le-leb (offset + r .size) span within, distant, far) refl
+    let holds = bit (r .flags) dataBit in
+    let sized = bit (r .flags) sizedBit in
+    let shareable = bit (r .flags) hostShareableBit in
+    let resolved = bit (r .flags) creationResolvedBit in
+    let all = true-T plain in
+    let three = and-left (holds && sized && shareable) resolved all in
+    let two = and-left (holds && sized) shareable three in
+    let is-data : holds ≡ true = T-true holds (and-left holds sized two) in
+    let is-sized : sized ≡ true = T-true sized (and-right holds sized two) in
+    let is-shareable : shareable ≡ true = T-true shareable (and-right (holds && sized) shareable three) in
+    let is-resolved : resolved ≡ true = T-true resolved (and-right (holds && sized && shareable) resolved all) in
+    rw (is-data, is-sized, is-shareable, is-resolved, le-leb (s .bounds .end) offset apart, le-leb (offset + r .size) most (omega arith), le-leb (offset + r .size) span within, distant, far) refl

@@ -22,6 +22,7 @@ use Rattle.members.specs.declared.Members.{Members}
 use Rattle.members.specs.declared.Members.the-variants as members
 use Rattle.members.specs.declared.Members.the-variants.{Taken}
 
+-- after j members
 unfoldable pub stateAfter : (inner : ℕ → TypeInner) (rows : ℕ → Row) (i count span : ℕ) (members : List ℕ) → ℕ → Result State
 stateAfter inner rows i count span members j =
     andThen (boundsAfter inner rows count span members j)
@@ -33,6 +34,7 @@ stateAfter inner rows i count span members j =
       previous = previousOf inner members j;
     }))
 
+-- from the state before member j to the one after it. array, next: `isArray` and `structAt` of its type
 unfoldable pub memberStep : (i count span j t offset : ℕ) (array : Bool) (next : Previous) → Row → State → Result State
 memberStep i count span j t offset array next r s =
     andThen (boundsBy count span (distanceOk (s .previous) offset) array offset j r (s .bounds))
@@ -52,7 +54,7 @@ abbrev pub membersResult : Members → Result State
 membersResult (Taken s) = ok s
 membersResult (members.Refused number member) = err number member 0
 
--- a plain member's step is the member's step
+-- what is taken as a plain member is the member's step; nothing is said of a member that is passed on
 abbrev pub plainStep : Plain → Result State → Type 0
 plainStep (plain.Took s) step = step ≡ ok s
 plainStep Other step = Unit {0}

@@ -10,6 +10,11 @@ use borrow.Author.Tests.{le-leb, lt-leb}
 use lib.Dec.{T, leb}
 use Rattle.records.specs.Result.{Result, err, ok, pick, require, andThen}
 
+-- whichever of two is picked, where both are alike to f
+pub pick-alike {ℓ κ} : {A : Type ℓ} {B : Type κ} (f : A → B) (v : B) (t : Bool) (x y : A) → f x ≡ v → f y ≡ v → f (pick t x y) ≡ v
+pick-alike f v true x y p q = p
+pick-alike f v false x y p q = q
+
 pub required {ℓ} : {A : Type ℓ} (b : Bool) (n m d : ℕ) (o : Result A) (a : A) → require b n m d o ≡ ok a → T b × (o ≡ ok a)
 required true n m d o a e = (tt, e)
 required false n m d o a e = let z : _≡_ {A = ℕ} 0 1 = cc in absurd (omega arith)

@@ -13,7 +13,9 @@ use Rattle.records.specs.Result.{err, ok, pick, andThen}
 use Rattle.records.specs.Record.{memberType, imageKind, samplerKind, accelerationStructureKind, rayQueryKind}
 use Rattle.records.specs.declared.Leaf.the-variants.{RayQuery}
 use Rattle.records.specs.declared.NonData.the-variants.{Image, Sampler, AccelerationStructure, BindingArray}
+use Rattle.records.specs.declared.TypeInner.{TypeInner}
 use Rattle.records.specs.declared.TypeInner.the-variants.{Plain, Array, RuntimeArray, Other}
+use Rattle.records.proofs.ResultLaws.{pick-alike}
 use Rattle.alignment.proofs.PowerLaws.{vector-within}
 use Rattle.alignment.specs.Alignment.{vectorAlignment}
 use Rattle.type_methods.specs.TypeMethods.{arraySize, runtimeArraySize, trySize}
@@ -42,19 +44,12 @@ pub handle-laid : (layouts : ℕ → TypeLayout) (i kind a b c : ℕ) (part : Li
     part
     ≡ ok (record { size = 0; alignment = 1 })
 unfolding layoutOf trySize alignmentOf
-handle-laid layouts i kind a b c part = go (eqb kind imageKind) (eqb kind samplerKind) (eqb kind accelerationStructureKind) (eqb kind rayQueryKind)
-  where
-    go : (p q r s : Bool)
-        → layoutOf layouts i
-        (pick p (Other (Image a b c))
-        (pick q (Other Sampler) (pick r (Other (AccelerationStructure a)) (pick s (Plain (RayQuery a)) (Other (BindingArray a b c))))))
-        part
-        ≡ ok (record { size = 0; alignment = 1 })
-    go true q r s = refl
-    go false true r s = refl
-    go false false true s = refl
-    go false false false true = refl
-    go false false false false = refl
+handle-laid layouts i kind a b c part =
+    let alike = pick-alike (λ (x : TypeInner). layoutOf layouts i x part) (ok (record { size = 0; alignment = 1 })) in
+    alike (eqb kind imageKind) _ _ refl
+    (alike (eqb kind samplerKind) _ _ refl
+    (alike (eqb kind accelerationStructureKind) _ _ refl
+    (alike (eqb kind rayQueryKind) _ _ refl refl)))
 
 -- ---- the loop over members
 module _ (layouts : ℕ → TypeLayout) (i : ℕ) (part : List ℕ) (j a : ℕ) (so-far : membersAlignment layouts i part j ≡ ok a) where

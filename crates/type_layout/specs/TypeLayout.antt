@@ -6,7 +6,6 @@ use Prim.Native.Nat.{ℕ, zero, suc, _*_, max}
 use lib.Dec.{ltb}
 use Rattle.records.specs.Result.{Result, err, ok, require, andThen}
 use Rattle.records.specs.Record.{memberType}
-use Rattle.records.specs.declared.Outcome.the-variants.{Refused}
 use Rattle.records.specs.declared.Leaf.{Leaf}
 use Rattle.records.specs.declared.Leaf.the-variants.{Scalar, Vector, Matrix, CooperativeMatrix, Atomic, RayQuery}
 use Rattle.records.specs.declared.TypeInner.{TypeInner}
@@ -65,10 +64,12 @@ alignmentOf layouts i (RuntimeArray base stride) members = baseAlignment layouts
 alignmentOf layouts i (Struct count span) members = membersAlignment layouts i members count
 alignmentOf layouts i (Other o) members = ok 1
 
+-- ---- layouts
+-- of this size, where the alignment is not refused
 abbrev pub sizedLayout : (alignment : Result ℕ) (size : ℕ) → Result TypeLayout
 sizedLayout alignment size = andThen alignment (λ a. ok (record { size = size; alignment = a }))
 
--- ---- layouts: the size is tried before references and widths
+-- the size is tried before references and widths
 unfoldable pub layoutOf : (layouts : ℕ → TypeLayout) → ℕ → TypeInner → (members : List ℕ) → Result TypeLayout
 layoutOf layouts i inner members = andThen (trySize inner) (sizedLayout (alignmentOf layouts i inner members))
 
