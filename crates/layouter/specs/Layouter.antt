@@ -4,7 +4,7 @@
 use mathlib.Core.List.{List, _++_}
 use Prim.Native.Nat.{ℕ, _*_}
 use lib.ListN.{length, drop}
-use Rattle.records.specs.Result.{Result, pick}
+use Rattle.records.specs.Result.{Result, pick, andThen}
 use Rattle.records.specs.Record.{Decoded, decoded, typeCount}
 use Rattle.records.specs.Fields.{rowWords, tablesFit, recordAt}
 use Rattle.records.specs.Table.{resultAt, valueAt, also, firstRefusal, flat}
@@ -33,6 +33,10 @@ layout types = valueAt noLayout (layoutStep types)
 -- ---- the call: numbers 1, then 2 and 3, then 4 to 7
 unfoldable pub layoutOutcome : (ts ms : List ℕ) → Outcome
 layoutOutcome ts ms = also (firstRefusal (recordAt ts ms) (typeCount ts)) (firstRefusal (layoutAt (decoded ts ms)) (typeCount ts))
+
+-- numbers 2 to 7 of type i in one, as the code finds them
+abbrev pub recordThenLayout : (ts ms : List ℕ) → ℕ → Result TypeLayout
+recordThenLayout ts ms i = andThen (recordAt ts ms i) (λ _. layoutAt (decoded ts ms) i)
 
 unfoldable pub layoutAnswer : (ts ms rows : List ℕ) → Outcome
 layoutAnswer ts ms rows = pick (tablesFit (length ts) (length ms) (length rows)) (layoutOutcome ts ms) (Refused 1 0 0 0)

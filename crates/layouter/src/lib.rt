@@ -2,24 +2,37 @@
 use records::Outcome;
 use type_layout::Laid;
 ghost use mathlib.Core.Path.{_≡_};
-ghost use Prim.Native.Nat.{ℕ, _+_, _*_, _≤_, _<_};
+ghost use Prim.Native.Nat.{_+_, _*_, _≤_, _<_};
 ghost use lib.ListN.{length, take};
-ghost use Rattle.records.specs.Record.{decoded, typeInner, structMembers, typeCount};
-ghost use Rattle.records.specs.Fields.{InnerBounds};
-ghost use Rattle.records.specs.Table.{firstRefusal};
-ghost use Rattle.type_layout.specs.TypeLayout.{layoutOf, layoutsIn, laidResult};
-ghost use Rattle.layouter.specs.Layouter.{wordsAfter, layoutAt, layoutRows, rowsAfter, layoutOutcome, layoutAnswer, layoutWords};
+ghost use Rattle.records.specs.Record.{typeCount};
+ghost use Rattle.records.specs.Table.{also, firstRefusal};
+ghost use Rattle.type_layout.specs.TypeLayout.{recordLayout, layoutsIn, laidResult};
+ghost use Rattle.layouter.specs.Layouter.{wordsAfter, recordThenLayout, layoutRows, rowsAfter, layoutOutcome, layoutAnswer, layoutWords};
 
-// The layout of type i, written into its row where there is one.
+// The first refusal, or else the second.
+fn first_of(first: Outcome, second: Outcome) -> Outcome
+    ensures { λ r. ⌜ r ≡ also first second ⌝ }
+{
+    match first {
+        Outcome::Accepted => second,
+        Outcome::Refused {
+            number: _,
+            ty: _,
+            member: _,
+            detail: _,
+        } => first,
+    }
+}
+
+// Numbers 2 to 7 of type i, or its layout, which is written into its row.
 fn layout_at(types: &[u32], members: &[u32], rows: &mut [u32], i: u32) -> Laid
     requires { ⌜ i * 14 + 14 ≤ length (now rows) ⌝ }
-    requires { ⌜ InnerBounds (typeInner (now types) i) ⌝ }
-    ensures { λ r. ⌜ laidResult r ≡ layoutOf (layoutsIn (take (i * 14) (now (rows .entry)))) i (typeInner (now (types .entry)) i) (structMembers (now (types .entry)) (now (members .entry)) i) ⌝ }
+    requires { ⌜ i * 6 + 6 ≤ length (now types) ⌝ }
+    ensures { λ r. ⌜ laidResult r ≡ recordLayout (now (types .entry)) (now (members .entry)) (layoutsIn (take (i * 14) (now (rows .entry)))) i ⌝ }
     ensures { λ r. ⌜ now (rows .exit) ≡ wordsAfter r (i * 14) (now (rows .entry)) ⌝ }
 {
     let at = (i as usize) * records::ROW_WORDS;
-    let w = records::record_words(types, i);
-    let laid = type_layout::layout_of(types, members, &rows[..at], i, w);
+    let laid = type_layout::layout_of(types, members, &rows[..at], i);
     match laid {
         Laid::Layout(l) => {
             rows::put_layout(rows, at, l.size, l.alignment);
@@ -32,11 +45,11 @@ fn layout_at(types: &[u32], members: &[u32], rows: &mut [u32], i: u32) -> Laid
     }
 }
 
-// Numbers 4 to 7 over n types; the rows of all, or zeros.
+// Numbers 2 to 7 type by type, over n types; the rows of all, or zeros.
 fn layout_all(types: &[u32], members: &[u32], rows: &mut [u32], n: u32) -> Outcome
     requires { ⌜ n * 14 ≤ length (now rows) ⌝ }
-    requires { ⌜ ((i : ℕ) → i < n → InnerBounds (typeInner (now types) i)) ⌝ }
-    ensures { λ r. ⌜ r ≡ firstRefusal (layoutAt (decoded (now (types .entry)) (now (members .entry)))) n ⌝ }
+    requires { ⌜ n * 6 ≤ length (now types) ⌝ }
+    ensures { λ r. ⌜ r ≡ firstRefusal (recordThenLayout (now (types .entry)) (now (members .entry))) n ⌝ }
     ensures { λ r. ⌜ now (rows .exit) ≡ rowsAfter r (layoutRows (now (types .entry)) (now (members .entry)) n) n (now (rows .entry)) ⌝ }
 {
     let mut i: u32 = 0;
@@ -59,26 +72,22 @@ fn layout_all(types: &[u32], members: &[u32], rows: &mut [u32], n: u32) -> Outco
     Outcome::Accepted
 }
 
-// Numbers 2 to 7, once the tables are known to fit.
+// Numbers 2 to 7, once the tables are known to fit. Numbers 2 and 3 of all records come before 4 to 7 of any.
 fn layout_tables(types: &[u32], members: &[u32], rows: &mut [u32], n: u32) -> Outcome
     requires { ⌜ n * 14 ≤ length (now rows) ⌝ }
     requires { ⌜ n ≡ typeCount (now types) ⌝ }
     ensures { λ r. ⌜ r ≡ layoutOutcome (now (types .entry)) (now (members .entry)) ⌝ }
     ensures { λ r. ⌜ now (rows .exit) ≡ rowsAfter r (layoutRows (now (types .entry)) (now (members .entry)) n) n (now (rows .entry)) ⌝ }
 {
-    let found = records::records_ok(types, members, n);
+    let found = layout_all(types, members, rows, n);
     match found {
-        Outcome::Accepted => layout_all(types, members, rows, n),
+        Outcome::Accepted => found,
         Outcome::Refused {
             number: _,
             ty: _,
             member: _,
             detail: _,
-        } => {
-            let words = (n as usize) * records::ROW_WORDS;
-            rows::clear(rows, words);
-            found
-        }
+        } => first_of(fields::records_ok(types, members, n), found),
     }
 }
 

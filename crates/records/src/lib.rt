@@ -1,11 +1,10 @@
-// The type and member records of naga's ir/mod.rs, as words in the caller's tables, and refusals 1 to 3.
+// The type and member records of naga's ir/mod.rs, as words in the caller's tables, and refusal 1.
 ghost use mathlib.Core.Path.{_≡_};
 ghost use mathlib.Core.Bool.{_&&_};
-ghost use Prim.Native.Nat.{_+_, _*_, _/_, _≤_, _<_};
-ghost use lib.ListN.{length, getD};
+ghost use Prim.Native.Nat.{ℕ, _+_, _*_, _/_, _≤_, _<_};
+ghost use lib.ListN.{length, getD, take, drop};
 ghost use Rattle.records.specs.Record.{recordWords, typeWord, typeCount, memberCount, memberType, memberOffset, innerOf, typeInner, structMembers};
-ghost use Rattle.records.specs.Fields.{tablesFit, capabilitiesKnown, fieldsOk, baseWithin, recordAt};
-ghost use Rattle.records.specs.Table.{firstRefusal, outcomeAt};
+ghost use Rattle.records.specs.Fields.{tablesFit, capabilitiesKnown};
 
 // Data that is neither array nor struct: 01's leaves.
 pub enum Leaf {
@@ -69,24 +68,7 @@ const MOST_MEMBERS: usize = 4096;
 // Bits 0 to 12.
 const ALL_CAPABILITIES: u32 = 8191;
 
-// The sets that fields lie in, by their largest number.
-const MOST_SCALAR_KIND: u32 = 5;
-
-const MOST_WIDTH: u32 = 255;
-
-const MOST_SPACE: u32 = 9;
-
-const MOST_DIM: u32 = 3;
-
-const MOST_CLASS: u32 = 3;
-
-const MOST_ROLE: u32 = 2;
-
 const STRUCT_KIND: u32 = 8;
-
-const POINTER_KIND: u32 = 5;
-
-const BINDING_ARRAY_KIND: u32 = 13;
 
 // A word of a table; 0 past it.
 pub fn word_at(words: &[u32], at: usize) -> u32
@@ -119,6 +101,21 @@ pub fn member_offset(part: &[u32], j: u32) -> u32
     ensures { λ r. ⌜ r ≡ memberOffset (now (part .entry)) j ⌝ }
 {
     word_at(part, (j as usize) * MEMBER_WORDS + 1)
+}
+
+// The same of a member that the part has, with no test of its length.
+pub fn own_type(part: &[u32], j: usize) -> u32
+    requires { ⌜ j * 2 + 2 ≤ length (now part) ⌝ }
+    ensures { λ r. ⌜ r ≡ memberType (now (part .entry)) j ⌝ }
+{
+    part[j * MEMBER_WORDS]
+}
+
+pub fn own_offset(part: &[u32], j: usize) -> u32
+    requires { ⌜ j * 2 + 2 ≤ length (now part) ⌝ }
+    ensures { λ r. ⌜ r ≡ memberOffset (now (part .entry)) j ⌝ }
+{
+    part[j * MEMBER_WORDS + 1]
 }
 
 // What a record says, by its kind and the five words after it.
@@ -184,6 +181,22 @@ pub fn record_words(types: &[u32], i: u32) -> Words
     }
 }
 
+// The same of a record that the table has, with no test of its length.
+pub fn own_record(types: &[u32], i: u32) -> Words
+    requires { ⌜ i * 6 + 6 ≤ length (now types) ⌝ }
+    ensures { λ r. ⌜ r ≡ recordWords (now (types .entry)) i ⌝ }
+{
+    let at = (i as usize) * TYPE_WORDS;
+    Words {
+        kind: types[at],
+        a: types[at + 1],
+        b: types[at + 2],
+        c: types[at + 3],
+        d: types[at + 4],
+        e: types[at + 5],
+    }
+}
+
 // Record i of a table.
 pub fn type_inner(types: &[u32], i: u32) -> TypeInner
     ensures { λ r. ⌜ r ≡ typeInner (now (types .entry)) i ⌝ }
@@ -214,6 +227,16 @@ pub fn struct_members<'a>(types: &[u32], members: &'a [u32], i: u32) -> &'a [u32
     &members[start..end]
 }
 
+// So many member rows from a first one on, which the table has.
+pub fn member_part(members: &[u32], first: u32, count: u32) -> &[u32]
+    requires { ⌜ first + count ≤ memberCount (now members) ⌝ }
+    ensures { λ r. ⌜ now r ≡ take (count * 2) (drop (first * 2) (now (members .entry))) ⌝ }
+{
+    let start = (first as usize) * MEMBER_WORDS;
+    let end = start + (count as usize) * MEMBER_WORDS;
+    &members[start..end]
+}
+
 // Number 1: whole records, not too many, and a row for each type.
 pub fn tables_fit(types: usize, members: usize, rows: usize) -> bool
     ensures { λ r. ⌜ r ≡ tablesFit types members rows ⌝ }
@@ -231,100 +254,4 @@ pub fn capabilities_known(capabilities: u32) -> bool
     ensures { λ r. ⌜ r ≡ capabilitiesKnown capabilities ⌝ }
 {
     capabilities <= ALL_CAPABILITIES
-}
-
-// Number 2: the words after the kind lie in their sets. rows: how many rows the member table has.
-fn fields_ok(rows: usize, kind: u32, a: u32, b: u32, c: u32, d: u32, e: u32) -> bool
-    ensures { λ r. ⌜ r ≡ fieldsOk rows kind a b c d e ⌝ }
-{
-    match kind {
-        0 => ((a <= MOST_SCALAR_KIND) & (b <= MOST_WIDTH)) & (c == 0) & (d == 0) & (e == 0),
-        1 => ((2 <= a) & (a <= 4))
-            & ((b <= MOST_SCALAR_KIND) & (c <= MOST_WIDTH))
-            & (d == 0)
-            & (e == 0),
-        2 => ((2 <= a) & (a <= 4))
-            & ((2 <= b) & (b <= 4))
-            & ((c <= MOST_SCALAR_KIND) & (d <= MOST_WIDTH))
-            & (e == 0),
-        3 => ((a == 8) | (a == 16))
-            & ((b == 8) | (b == 16))
-            & ((c <= MOST_SCALAR_KIND) & (d <= MOST_WIDTH))
-            & (e <= MOST_ROLE),
-        4 => ((a <= MOST_SCALAR_KIND) & (b <= MOST_WIDTH)) & (c == 0) & (d == 0) & (e == 0),
-        5 => (b <= MOST_SPACE) & (c == 0) & (d == 0) & (e == 0),
-        6 => ((a <= MOST_SCALAR_KIND) & (b <= MOST_WIDTH))
-            & (c <= MOST_SPACE)
-            & (d == 0)
-            & (e == 0),
-        7 => ((b == 0) & (1 <= c) | (b == 1) & (c == 0)) & (e == 0),
-        8 => {
-            let last = a as usize + b as usize;
-            (last <= rows) & (d == 0) & (e == 0)
-        }
-        9 => (a <= MOST_DIM) & (b <= 1) & (c <= MOST_CLASS) & (d == 0) & (e == 0),
-        10 => (a == 0) & (b == 0) & (c == 0) & (d == 0) & (e == 0),
-        11 => (a <= 1) & (b == 0) & (c == 0) & (d == 0) & (e == 0),
-        12 => (a <= 1) & (b == 0) & (c == 0) & (d == 0) & (e == 0),
-        13 => ((b == 0) & (1 <= c) | (b == 1) & (c == 0)) & (d == 0) & (e == 0),
-        _ => false,
-    }
-}
-
-// Number 3: the base of a pointer or a binding array is a type of the arena.
-fn base_within(types: usize, kind: u32, base: u32) -> bool
-    ensures { λ r. ⌜ r ≡ baseWithin types kind base ⌝ }
-{
-    !((kind == POINTER_KIND) | (kind == BINDING_ARRAY_KIND)) | ((base as usize) < types)
-}
-
-// Numbers 2 and 3 of record i, 2 first.
-fn record_at(types: &[u32], members: &[u32], i: u32) -> Outcome
-    ensures { λ r. ⌜ r ≡ outcomeAt i (recordAt (now (types .entry)) (now (members .entry)) i) ⌝ }
-{
-    let w = record_words(types, i);
-    let kind = w.kind;
-    let a = w.a;
-    if fields_ok(members.len() / MEMBER_WORDS, kind, a, w.b, w.c, w.d, w.e) {
-        if base_within(types.len() / TYPE_WORDS, kind, a) {
-            Outcome::Accepted
-        } else {
-            Outcome::Refused {
-                number: 3,
-                ty: i,
-                member: 0,
-                detail: 0,
-            }
-        }
-    } else {
-        Outcome::Refused {
-            number: 2,
-            ty: i,
-            member: 0,
-            detail: 0,
-        }
-    }
-}
-
-// Numbers 2 and 3 over the first n records.
-pub fn records_ok(types: &[u32], members: &[u32], n: u32) -> Outcome
-    ensures { λ r. ⌜ r ≡ firstRefusal (recordAt (now (types .entry)) (now (members .entry))) n ⌝ }
-{
-    let mut i: u32 = 0;
-    while i < n {
-        let found = record_at(types, members, i);
-        match found {
-            Outcome::Accepted => {}
-            Outcome::Refused {
-                number: _,
-                ty: _,
-                member: _,
-                detail: _,
-            } => {
-                return found;
-            }
-        }
-        i += 1;
-    }
-    Outcome::Accepted
 }

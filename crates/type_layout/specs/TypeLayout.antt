@@ -5,7 +5,8 @@ use mathlib.Core.List.{List}
 use Prim.Native.Nat.{ℕ, zero, suc, _*_, max}
 use lib.Dec.{ltb}
 use Rattle.records.specs.Result.{Result, err, ok, require, andThen}
-use Rattle.records.specs.Record.{memberType}
+use Rattle.records.specs.Record.{memberType, memberCount, typeCount, typeWord, innerOf, structMembers}
+use Rattle.records.specs.Fields.{fieldsOk, baseWithin}
 use Rattle.records.specs.declared.Leaf.{Leaf}
 use Rattle.records.specs.declared.Leaf.the-variants.{Scalar, Vector, Matrix, CooperativeMatrix, Atomic, RayQuery}
 use Rattle.records.specs.declared.TypeInner.{TypeInner}
@@ -72,6 +73,19 @@ sizedLayout alignment size = andThen alignment (λ a. ok (record { size = size; 
 -- the size is tried before references and widths
 unfoldable pub layoutOf : (layouts : ℕ → TypeLayout) → ℕ → TypeInner → (members : List ℕ) → Result TypeLayout
 layoutOf layouts i inner members = andThen (trySize inner) (sizedLayout (alignmentOf layouts i inner members))
+
+-- ---- numbers 2 to 7 in one: of a record with these words, in an arena of n types and m member rows
+abbrev pub wordsLayout : (m n : ℕ) (layouts : ℕ → TypeLayout) (i kind a b c d e : ℕ) (members : List ℕ) → Result TypeLayout
+wordsLayout m n layouts i kind a b c d e members =
+    require (fieldsOk m kind a b c d e) 2 0 0
+    (require (baseWithin n kind a) 3 0 0
+    (layoutOf layouts i (innerOf kind a b c d e) members))
+
+-- of record i
+unfoldable pub recordLayout : (ts ms : List ℕ) (layouts : ℕ → TypeLayout) → ℕ → Result TypeLayout
+recordLayout ts ms layouts i =
+    wordsLayout (memberCount ms) (typeCount ts) layouts i (typeWord ts i 0) (typeWord ts i 1) (typeWord ts i 2) (typeWord ts i 3) (typeWord ts i 4) (typeWord ts i 5)
+    (structMembers ts ms i)
 
 -- ---- what the code reads and answers
 -- the layouts in the first two words of fourteen-word rows

@@ -1,13 +1,14 @@
-// The layout of one type, from the rows of the types before it, as in Layouter::update of naga's proc/layouter.rs.
-use records::Words;
+// The layout of one type, from the rows of the types before it, as in Layouter::update of naga's proc/layouter.rs; numbers 2 to 7.
 use type_methods::Size;
 ghost use mathlib.Core.Path.{_≡_};
-ghost use Prim.Native.Nat.{_+_, _*_, _≤_, _<_};
-ghost use Rattle.records.specs.Result.{andThen};
-ghost use Rattle.records.specs.Record.{innerIn, structMembers};
-ghost use Rattle.records.specs.Fields.{InnerBounds};
+ghost use mathlib.Core.List.{List};
+ghost use Prim.Native.Nat.{ℕ, _+_, _*_, _≤_, _<_};
+ghost use lib.ListN.{length, take, drop};
+ghost use Rattle.records.specs.Result.{err, ok, require, andThen};
+ghost use Rattle.records.specs.Record.{scalarKind, vectorKind, matrixKind, cooperativeMatrixKind, arrayKind, structKind, memberCount};
 ghost use Rattle.type_methods.specs.TypeMethods.{sizeByForm};
-ghost use Rattle.type_layout.specs.TypeLayout.{widthAlignment, membersAlignment, baseAlignment, sizedLayout, layoutOf, layoutsIn, alignedResult, laidResult};
+ghost use Rattle.type_layout.specs.declared.TypeLayout as layout;
+ghost use Rattle.type_layout.specs.TypeLayout.{widthAlignment, membersAlignment, baseAlignment, sizedLayout, wordsLayout, recordLayout, layoutsIn, alignedResult, laidResult};
 
 // naga's TypeLayout.
 pub struct TypeLayout {
@@ -58,19 +59,22 @@ fn base_alignment(rows: &[u32], i: u32, base: u32) -> Aligned
 
 // The largest alignment of a struct's members; number 6 for a member that is no earlier type.
 fn members_alignment(rows: &[u32], i: u32, part: &[u32], count: u32) -> Aligned
+    requires { ⌜ length (now rows) ≡ i * 14 ⌝ }
+    requires { ⌜ length (now part) ≡ count * 2 ⌝ }
     ensures { λ r. ⌜ alignedResult r ≡ membersAlignment (layoutsIn (now (rows .entry))) i (now (part .entry)) count ⌝ }
 {
     let mut a: u32 = 1;
-    let mut j: u32 = 0;
-    while j < count {
-        let ty = records::member_type(part, j);
+    let end = count as usize;
+    let mut j: usize = 0;
+    while j < end {
+        let ty = records::own_type(part, j);
         if i <= ty {
             return Aligned::Refused {
                 number: 6,
-                member: j,
+                member: j as u32,
             };
         }
-        a = alignment::larger(a, rows::row_word(rows, ty, 1));
+        a = alignment::larger(a, rows[(ty as usize) * records::ROW_WORDS + 1]);
         j += 1;
     }
     Aligned::To(a)
@@ -82,6 +86,86 @@ fn with_alignment(size: u32, aligned: Aligned) -> Laid
     match aligned {
         Aligned::To(alignment) => Laid::Layout(TypeLayout { size, alignment }),
         Aligned::Refused { number, member } => Laid::Refused { number, member },
+    }
+}
+
+// Number 2 for a record with a field outside its set.
+fn unfit() -> Laid
+    ensures { λ r. ⌜ laidResult r ≡ err 2 0 0 ⌝ }
+{
+    Laid::Refused {
+        number: 2,
+        member: 0,
+    }
+}
+
+fn scalar_layout(a: u32, b: u32, c: u32, d: u32, e: u32) -> Laid
+    ensures { λ r. ⌜ ((m n i : ℕ) (layouts : ℕ → layout.TypeLayout) (members : List ℕ) → laidResult r ≡ wordsLayout m n layouts i scalarKind a b c d e members) ⌝ }
+{
+    if fields::scalar_fields(a, b, c, d, e) {
+        return with_alignment(b, leaf_alignment(1, b));
+    }
+    unfit()
+}
+
+fn vector_layout(a: u32, b: u32, c: u32, d: u32, e: u32) -> Laid
+    ensures { λ r. ⌜ ((m n i : ℕ) (layouts : ℕ → layout.TypeLayout) (members : List ℕ) → laidResult r ≡ wordsLayout m n layouts i vectorKind a b c d e members) ⌝ }
+{
+    if fields::vector_fields(a, b, c, d, e) {
+        let factor = alignment::vector_alignment(a);
+        return with_alignment(type_methods::vector_size(a, c), leaf_alignment(factor, c));
+    }
+    unfit()
+}
+
+fn matrix_layout(a: u32, b: u32, c: u32, d: u32, e: u32) -> Laid
+    ensures { λ r. ⌜ ((m n i : ℕ) (layouts : ℕ → layout.TypeLayout) (members : List ℕ) → laidResult r ≡ wordsLayout m n layouts i matrixKind a b c d e members) ⌝ }
+{
+    if fields::matrix_fields(a, b, c, d, e) {
+        let factor = alignment::vector_alignment(b);
+        return with_alignment(
+            type_methods::matrix_size(a, b, d),
+            leaf_alignment(factor, d),
+        );
+    }
+    unfit()
+}
+
+fn cooperative_layout(a: u32, b: u32, c: u32, d: u32, e: u32) -> Laid
+    ensures { λ r. ⌜ ((m n i : ℕ) (layouts : ℕ → layout.TypeLayout) (members : List ℕ) → laidResult r ≡ wordsLayout m n layouts i cooperativeMatrixKind a b c d e members) ⌝ }
+{
+    if fields::cooperative_fields(a, b, c, d, e) {
+        return with_alignment(
+            type_methods::cooperative_size(a, b, d),
+            leaf_alignment(b, d),
+        );
+    }
+    unfit()
+}
+
+// A type that takes no reference and has no width: its size is given, its alignment is 1.
+fn handle_layout(fit: bool, size: u32) -> Laid
+    ensures { λ r. ⌜ laidResult r ≡ require fit 2 0 0 (sizedLayout (ok 1) size) ⌝ }
+{
+    if fit {
+        return with_alignment(size, Aligned::To(1));
+    }
+    unfit()
+}
+
+// The same of a type that refers to a base; number 3 where that is no type of the arena.
+fn based_layout(fit: bool, within: bool, size: u32) -> Laid
+    ensures { λ r. ⌜ laidResult r ≡ require fit 2 0 0 (require within 3 0 0 (sizedLayout (ok 1) size)) ⌝ }
+{
+    if !fit {
+        return unfit();
+    }
+    if within {
+        return with_alignment(size, Aligned::To(1));
+    }
+    Laid::Refused {
+        number: 3,
+        member: 0,
     }
 }
 
@@ -98,52 +182,64 @@ fn array_layout(rows: &[u32], i: u32, base: u32, form: u32, count: u32, stride: 
     }
 }
 
-fn struct_layout(
-    types: &[u32],
+fn array_record(rows: &[u32], i: u32, a: u32, b: u32, c: u32, d: u32, e: u32) -> Laid
+    ensures { λ r. ⌜ ((m n : ℕ) (members : List ℕ) → laidResult r ≡ wordsLayout m n (layoutsIn (now (rows .entry))) i arrayKind a b c d e members) ⌝ }
+{
+    if fields::array_fields(b, c, e) {
+        return array_layout(rows, i, a, b, c, d);
+    }
+    unfit()
+}
+
+fn struct_record(
     members: &[u32],
     rows: &[u32],
     i: u32,
-    count: u32,
-    span: u32,
+    a: u32,
+    b: u32,
+    c: u32,
+    d: u32,
+    e: u32,
 ) -> Laid
-    ensures { λ r. ⌜ laidResult r ≡ sizedLayout (membersAlignment (layoutsIn (now (rows .entry))) i (structMembers (now (types .entry)) (now (members .entry)) i) count) span ⌝ }
+    requires { ⌜ length (now rows) ≡ i * 14 ⌝ }
+    ensures { λ r. ⌜ ((n : ℕ) → laidResult r ≡ wordsLayout (memberCount (now (members .entry))) n (layoutsIn (now (rows .entry))) i structKind a b c d e (take (b * 2) (drop (a * 2) (now (members .entry))))) ⌝ }
 {
-    let part = records::struct_members(types, members, i);
-    with_alignment(span, members_alignment(rows, i, part, count))
+    if fields::struct_fields(members.len() / records::MEMBER_WORDS, a, b, d, e) {
+        let part = records::member_part(members, a, b);
+        return with_alignment(c, members_alignment(rows, i, part, b));
+    }
+    unfit()
 }
 
-// The layout of type i, whose record has the words w, from the rows of the types before it.
-pub fn layout_of(types: &[u32], members: &[u32], rows: &[u32], i: u32, w: Words) -> Laid
-    requires { ⌜ InnerBounds (innerIn w) ⌝ }
-    ensures { λ r. ⌜ laidResult r ≡ layoutOf (layoutsIn (now (rows .entry))) i (innerIn w) (structMembers (now (types .entry)) (now (members .entry)) i) ⌝ }
+// Numbers 2 to 7 of type i, or its layout, from the rows of the types before it: one choice by the kind.
+pub fn layout_of(types: &[u32], members: &[u32], rows: &[u32], i: u32) -> Laid
+    requires { ⌜ i * 6 + 6 ≤ length (now types) ⌝ }
+    requires { ⌜ length (now rows) ≡ i * 14 ⌝ }
+    ensures { λ r. ⌜ laidResult r ≡ recordLayout (now (types .entry)) (now (members .entry)) (layoutsIn (now (rows .entry))) i ⌝ }
 {
+    let w = records::own_record(types, i);
     let kind = w.kind;
     let a = w.a;
     let b = w.b;
     let c = w.c;
     let d = w.d;
+    let e = w.e;
+    let within = (a as usize) < types.len() / records::TYPE_WORDS;
     match kind {
-        0 => with_alignment(b, leaf_alignment(1, b)),
-        1 => {
-            let factor = alignment::vector_alignment(a);
-            with_alignment(type_methods::vector_size(a, c), leaf_alignment(factor, c))
-        }
-        2 => {
-            let factor = alignment::vector_alignment(b);
-            with_alignment(
-                type_methods::matrix_size(a, b, d),
-                leaf_alignment(factor, d),
-            )
-        }
-        3 => with_alignment(
-            type_methods::cooperative_size(a, b, d),
-            leaf_alignment(b, d),
-        ),
-        4 => with_alignment(b, leaf_alignment(1, b)),
-        5 => with_alignment(4, Aligned::To(1)),
-        6 => with_alignment(4, Aligned::To(1)),
-        7 => array_layout(rows, i, a, b, c, d),
-        8 => struct_layout(types, members, rows, i, b, c),
-        _ => with_alignment(0, Aligned::To(1)),
+        0 => scalar_layout(a, b, c, d, e),
+        1 => vector_layout(a, b, c, d, e),
+        2 => matrix_layout(a, b, c, d, e),
+        3 => cooperative_layout(a, b, c, d, e),
+        4 => scalar_layout(a, b, c, d, e),
+        5 => based_layout(fields::pointer_fields(b, c, d, e), within, 4),
+        6 => handle_layout(fields::value_pointer_fields(a, b, c, d, e), 4),
+        7 => array_record(rows, i, a, b, c, d, e),
+        8 => struct_record(members, rows, i, a, b, c, d, e),
+        9 => handle_layout(fields::image_fields(a, b, c, d, e), 0),
+        10 => handle_layout(fields::sampler_fields(a, b, c, d, e), 0),
+        11 => handle_layout(fields::acceleration_fields(a, b, c, d, e), 0),
+        12 => handle_layout(fields::ray_query_fields(a, b, c, d, e), 0),
+        13 => based_layout(fields::binding_array_fields(b, c, d, e), within, 0),
+        _ => unfit(),
     }
 }

@@ -5,12 +5,12 @@ use Prim.Native.Nat.{_≤_, _-_}
 use native.Mathlib.Numerals.{add-one}
 use native.Mathlib.Nat.{le-antisymm}
 use denote.Ref.{now}
 use Rattle.records.specs.Fields.{recordAt}
 use Rattle.records.specs.Table.{firstRefusal}
 use Rattle.records.specs.declared.Outcome.the-variants.{Accepted}
 use Rattle.records.proofs.TableLaws.{stays}
-use Rattle.records.proofs.records_ok.Statement.{statement}
-use Rattle.records.proofs.records_ok.Tie as tie
+use Rattle.fields.proofs.records_ok.Statement.{statement}
+use Rattle.fields.proofs.records_ok.Tie as tie
 
 abbrev Inv-loop : tie.InvT-loop
 Inv-loop types members n i₀ i = (i ≤ n) × (firstRefusal (recordAt types members) i ≡ Accepted)

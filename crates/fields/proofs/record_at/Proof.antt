@@ -1,8 +1,8 @@
 use borrow.Author.Needs.{needs}
 use mathlib.Core.Path.{refl, sym, _∙_}
 use Rattle.records.specs.Fields.{recordAt}
-use Rattle.records.proofs.record_at.Statement.{statement}
-use Rattle.records.proofs.record_at.Tie as tie
+use Rattle.fields.proofs.record_at.Statement.{statement}
+use Rattle.fields.proofs.record_at.Tie as tie
 
 returns : tie.Need-returns
 unfolding recordAt
