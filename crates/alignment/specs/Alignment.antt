@@ -3,6 +3,7 @@
 use mathlib.Core.Path.{_≡_}
 use mathlib.Core.Bool.{Bool, _||_}
 use Prim.Native.Nat.{ℕ, _+_, _-_, _*_, _/_, _%_, _^_}
+use lib.Bits.{bitAnd}
 use lib.Dec.{eqb}
 use Rattle.records.specs.Result.{pick}
 
@@ -22,6 +23,10 @@ vectorAlignment n = pick (eqb n 2) 2 4
 -- n is a multiple of the alignment
 abbrev pub isAligned : (alignment n : ℕ) → Bool
 isAligned alignment n = eqb (n % alignment) 0
+
+-- a power of two, or 0: it shares no binary digit with the number before it
+abbrev pub isMask : ℕ → Bool
+isMask n = eqb (bitAnd n (n - 1)) 0
 
 -- the next multiple of a positive alignment
 abbrev pub roundUp : (alignment n : ℕ) → ℕ

@@ -1,7 +1,8 @@
 // Alignment of naga's proc/layouter.rs, carried as its number.
 ghost use mathlib.Core.Path.{_≡_};
+ghost use mathlib.Core.Bool.{_&&_};
 ghost use Prim.Native.Nat.{_*_, max};
-ghost use Rattle.alignment.specs.Alignment.{powerOfTwo, vectorAlignment, isAligned, roundUp};
+ghost use Rattle.alignment.specs.Alignment.{powerOfTwo, isMask, vectorAlignment, isAligned, roundUp};
 
 // The largest number of 32 bits.
 pub const MOST: u64 = 4294967295;
@@ -10,7 +11,8 @@ pub const MOST: u64 = 4294967295;
 pub fn power_of_two(w: u32) -> bool
     ensures { λ r. ⌜ r ≡ powerOfTwo w ⌝ }
 {
-    (w == 1) | (w == 2) | (w == 4) | (w == 8) | (w == 16) | (w == 32) | (w == 64) | (w == 128)
+    let below = std::num::wrapping_sub_u32(w, 1);
+    (below < 128) & (w & below == 0)
 }
 
 // Alignment::from of a vector's size.
@@ -40,6 +42,14 @@ pub fn is_aligned(alignment: u32, n: u32) -> bool
         return n & below == 0;
     }
     n % alignment == 0
+}
+
+// Whether n is a multiple of an alignment that is a power of two or 0, in one test; no other alignment passes.
+pub fn is_masked(alignment: u32, n: u32) -> bool
+    ensures { λ r. ⌜ r ≡ (isMask alignment && isAligned alignment n) ⌝ }
+{
+    let below = std::num::wrapping_sub_u32(alignment, 1);
+    (alignment & below == 0) & (n & below == 0)
 }
 
 // The next multiple of the alignment; wider than n, so that no sum wraps.

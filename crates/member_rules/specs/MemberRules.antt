@@ -129,6 +129,10 @@ boundedResult j (bounded.Refused number) = err number j 0
 abbrev pub isPlain : (flags : ℕ) → Bool
 isPlain flags = bit flags dataBit && bit flags sizedBit && bit flags hostShareableBit && bit flags creationResolvedBit
 
+-- the flags of a member that no rule of bounds refuses
+abbrev pub isInOrder : (flags : ℕ) → Bool
+isInOrder flags = bit flags dataBit && bit flags sizedBit && bit flags creationResolvedBit
+
 -- a distance that leaves the verdict as it is
 abbrev pub isEnough : Distance → Bool
 isEnough Enough = true

@@ -15,9 +15,9 @@ use Rattle.members.specs.declared.State.{State}
 use Rattle.members.specs.declared.Stepped.{Stepped}
 use Rattle.members.specs.declared.Stepped.the-variants as stepped
 use Rattle.members.specs.declared.Stepped.the-variants.{Took}
-use Rattle.members.specs.declared.Plain.{Plain}
-use Rattle.members.specs.declared.Plain.the-variants as plain
-use Rattle.members.specs.declared.Plain.the-variants.{Other}
+use Rattle.members.specs.declared.Ordered.{Ordered}
+use Rattle.members.specs.declared.Ordered.the-variants as ordered
+use Rattle.members.specs.declared.Ordered.the-variants.{Other}
 use Rattle.members.specs.declared.Members.{Members}
 use Rattle.members.specs.declared.Members.the-variants as members
 use Rattle.members.specs.declared.Members.the-variants.{Taken}
@@ -54,7 +54,7 @@ abbrev pub membersResult : Members → Result State
 membersResult (Taken s) = ok s
 membersResult (members.Refused number member) = err number member 0
 
--- what is taken as a plain member is the member's step; nothing is said of a member that is passed on
-abbrev pub plainStep : Plain → Result State → Type 0
-plainStep (plain.Took s) step = step ≡ ok s
-plainStep Other step = Unit {0}
+-- what is taken as a member in order is the member's step; nothing is said of a member that is passed on
+abbrev pub orderedStep : Ordered → Result State → Type 0
+orderedStep (ordered.Took s) step = step ≡ ok s
+orderedStep Other step = Unit {0}

@@ -7,14 +7,14 @@ use type_info::Verdict;
 ghost use mathlib.Core.Path.{_≡_};
 ghost use Prim.Native.Nat.{ℕ, _+_, _*_, _≤_, _<_};
 ghost use lib.ListN.{length};
-ghost use Rattle.records.specs.Record.{typeInner};
+ghost use Rattle.records.specs.Record.{memberType, typeInner};
 ghost use Rattle.records.specs.Result.{ok};
-ghost use Rattle.type_info.specs.TypeInfo.{rowsIn};
-ghost use Rattle.type_info.specs.Verdict.{minUniform, minStorage, okVerdict};
-ghost use Rattle.flags.specs.Flags.{startingFlags};
-ghost use Rattle.type_info.specs.declared.Previous.the-variants.{NoStruct};
-ghost use Rattle.member_rules.specs.MemberRules.{structAt, isArray};
-ghost use Rattle.members.specs.Members.{memberStep, stateAfter, steppedResult, membersResult, plainStep};
+ghost use Rattle.rows.specs.Rows.{rowWord};
+ghost use Rattle.flags.specs.Flags.{bit, hostShareableBit};
+ghost use Rattle.type_info.specs.TypeInfo.{rowsIn, verdictIn};
+ghost use Rattle.type_info.specs.Verdict.{okVerdict, shareVerdict, memberVerdict};
+ghost use Rattle.member_rules.specs.MemberRules.{structAt, isArray, previousOf};
+ghost use Rattle.members.specs.Members.{memberStep, stateAfter, steppedResult, membersResult, orderedStep};
 
 // What is known after some members.
 pub struct State {
@@ -30,8 +30,8 @@ pub enum Stepped {
     Refused(u32),
 }
 
-// The step of a plain member, or a member for `member`.
-pub enum Plain {
+// The step of a member in order, or a member for `member`.
+pub enum Ordered {
     Took(State),
     Other,
 }
@@ -94,25 +94,70 @@ fn member(
     }
 }
 
-// Before the first member.
-fn start() -> State
-    ensures { λ r. ⌜ r ≡ record { bounds = record { end = 0; flags = startingFlags 8 }; uniform = okVerdict minUniform; storage = okVerdict minStorage; immediates = 0; previous = NoStruct } ⌝ }
+// After the first `taken` members, none of which broke a rule: both verdicts are Ok, with these alignments.
+pub fn carried(
+    types: &[u32],
+    part: &[u32],
+    taken: u32,
+    end: u32,
+    flags: u32,
+    uniform: u32,
+    storage: u32,
+) -> State
+    ensures { λ r. ⌜ r ≡ record { bounds = record { end = end; flags = flags }; uniform = okVerdict uniform; storage = okVerdict storage; immediates = 0; previous = previousOf (typeInner (now (types .entry))) (now (part .entry)) taken } ⌝ }
 {
-    let flags = flags::starting_flags(flags::STRUCT_KIND);
-    let uniform = type_info::ok_verdict(type_info::MIN_UNIFORM);
-    let storage = type_info::ok_verdict(type_info::MIN_STORAGE);
-    let bounds = Bounds { end: 0, flags };
+    let bounds = Bounds { end, flags };
     State {
         bounds,
-        uniform,
-        storage,
+        uniform: type_info::ok_verdict(uniform),
+        storage: type_info::ok_verdict(storage),
         immediates: 0,
-        previous: Previous::NoStruct,
+        previous: previous_of(types, part, taken),
     }
 }
 
-// The step of a member that breaks no rule of bounds and needs no distance: most members, in fewer tests than `member`.
-fn plain_member(
+// The struct that the member right before member j is.
+fn previous_of(types: &[u32], part: &[u32], j: u32) -> Previous
+    ensures { λ r. ⌜ r ≡ previousOf (typeInner (now (types .entry))) (now (part .entry)) j ⌝ }
+{
+    if j == 0 {
+        return Previous::NoStruct;
+    }
+    let before = j - 1;
+    member_rules::struct_at(
+        types,
+        records::member_type(part, before),
+        records::member_offset(part, before),
+    )
+}
+
+// The verdict after a member of type t, by its own in words w to w + 4 of its row.
+fn verdict_after(
+    rows: &[u32],
+    t: u32,
+    w: usize,
+    i: u32,
+    j: u32,
+    offset: u32,
+    so_far: Verdict,
+) -> Verdict
+    requires { ⌜ t * 14 + (w + 4) < length (now rows) ⌝ }
+    ensures { λ r. ⌜ r ≡ memberVerdict i j offset (shareVerdict (bit (rowWord (now (rows .entry)) t 2) hostShareableBit) t «so_far») (verdictIn (now (rows .entry)) t w) ⌝ }
+{
+    let shareable = flags::is_host_shareable(rows::row_word(rows, t, 2));
+    type_info::member_verdict_at(
+        rows,
+        t,
+        w,
+        i,
+        j,
+        offset,
+        type_info::share_verdict(shareable, t, so_far),
+    )
+}
+
+// The step of a member that breaks no rule of bounds and needs no distance, in fewer tests than `member`.
+fn ordered_member(
     types: &[u32],
     rows: &[u32],
     i: u32,
@@ -121,75 +166,70 @@ fn plain_member(
     t: u32,
     offset: u32,
     state: State,
-) -> Plain
+) -> Ordered
     requires { ⌜ t < i ⌝ }
     requires { ⌜ length (now rows) ≡ i * 14 ⌝ }
-    ensures { λ r. ⌜ ((count : ℕ) → plainStep r (memberStep i count span j t offset (isArray (typeInner (now (types .entry)) t)) (structAt (typeInner (now (types .entry)) t) offset) (rowsIn (now (rows .entry)) t) state)) ⌝ }
+    ensures { λ r. ⌜ ((count : ℕ) → orderedStep r (memberStep i count span j t offset (isArray (typeInner (now (types .entry)) t)) (structAt (typeInner (now (types .entry)) t) offset) (rowsIn (now (rows .entry)) t) state)) ⌝ }
 {
     let so_far = state.bounds;
-    let previous = state.previous;
-    let uniform_so_far = state.uniform;
-    let storage_so_far = state.storage;
     let at = (t as usize) * records::ROW_WORDS;
-    let size = rows[at];
     let flags = rows[at + 2];
-    let own = rows[at + 13];
-    let sum = member_rules::end_of(offset, size);
-    if !member_rules::is_plain(flags) {
-        return Plain::Other;
+    let sum = member_rules::end_of(offset, rows[at]);
+    if !member_rules::is_in_order(flags) {
+        return Ordered::Other;
     }
     if offset < so_far.end {
-        return Plain::Other;
+        return Ordered::Other;
     }
     if (span as u64) < sum {
-        return Plain::Other;
+        return Ordered::Other;
     }
-    if !member_rules::is_enough(type_info::distance_to(previous, offset)) {
-        return Plain::Other;
+    if !member_rules::is_enough(type_info::distance_to(state.previous, offset)) {
+        return Ordered::Other;
     }
     let end = sum as u32;
     let bounds = Bounds {
         end,
         flags: flags::both(so_far.flags, flags),
     };
-    let uniform = type_info::member_verdict_at(rows, t, 3, i, j, offset, uniform_so_far);
-    let storage = type_info::member_verdict_at(rows, t, 8, i, j, offset, storage_so_far);
-    let immediates = member_rules::immediates_of(own, state.immediates);
-    Plain::Took(State {
+    Ordered::Took(State {
         bounds,
-        uniform,
-        storage,
-        immediates,
+        uniform: verdict_after(rows, t, 3, i, j, offset, state.uniform),
+        storage: verdict_after(rows, t, 8, i, j, offset, state.storage),
+        immediates: member_rules::immediates_of(rows[at + 13], state.immediates),
         previous: member_rules::struct_at(types, t, offset),
     })
 }
 
-// The members of struct i up to the first that is not plain.
-fn plain_members(
+// The members of struct i from `taken` on, up to the first for which `member` is needed.
+fn ordered_members(
     types: &[u32],
     rows: &[u32],
     i: u32,
     part: &[u32],
     count: u32,
     span: u32,
+    taken: u32,
+    before: State,
 ) -> Reached
     requires { ⌜ length (now rows) ≡ i * 14 ⌝ }
+    requires { ⌜ length (now part) ≡ count * 2 ⌝ }
+    requires { ⌜ ((j : ℕ) → j < count → memberType (now part) j < i) ⌝ }
+    requires { ⌜ taken ≤ count ⌝ }
+    requires { ⌜ stateAfter (typeInner (now types)) (rowsIn (now rows)) i count span (now part) taken ≡ ok before ⌝ }
     ensures { λ r. ⌜ r .taken ≤ count ⌝ }
     ensures { λ r. ⌜ stateAfter (typeInner (now (types .entry))) (rowsIn (now (rows .entry))) i count span (now (part .entry)) (r .taken) ≡ ok (r .state) ⌝ }
 {
-    let mut state = start();
-    let mut j: u32 = 0;
+    let mut state = before;
+    let mut j: u32 = taken;
     while j < count {
-        let t = records::member_type(part, j);
-        let offset = records::member_offset(part, j);
-        if i <= t {
-            return Reached { taken: j, state };
-        }
-        match plain_member(types, rows, i, span, j, t, offset, state) {
-            Plain::Took(next) => {
+        let t = records::own_type(part, j as usize);
+        let offset = records::own_offset(part, j as usize);
+        match ordered_member(types, rows, i, span, j, t, offset, state) {
+            Ordered::Took(next) => {
                 state = next;
             }
-            Plain::Other => {
+            Ordered::Other => {
                 return Reached { taken: j, state };
             }
         }
@@ -198,7 +238,7 @@ fn plain_members(
     Reached { taken: j, state }
 }
 
-// All members of struct i, whose rows are in part; rows has those of the types before it.
+// The members of struct i from `taken` on, whose rows are in part; rows has those of the types before it.
 pub fn members_of(
     types: &[u32],
     rows: &[u32],
@@ -206,11 +246,17 @@ pub fn members_of(
     part: &[u32],
     count: u32,
     span: u32,
+    taken: u32,
+    before: State,
 ) -> Members
     requires { ⌜ length (now rows) ≡ i * 14 ⌝ }
+    requires { ⌜ length (now part) ≡ count * 2 ⌝ }
+    requires { ⌜ ((j : ℕ) → j < count → memberType (now part) j < i) ⌝ }
+    requires { ⌜ taken ≤ count ⌝ }
+    requires { ⌜ stateAfter (typeInner (now types)) (rowsIn (now rows)) i count span (now part) taken ≡ ok before ⌝ }
     ensures { λ r. ⌜ membersResult r ≡ stateAfter (typeInner (now (types .entry))) (rowsIn (now (rows .entry))) i count span (now (part .entry)) count ⌝ }
 {
-    let reached = plain_members(types, rows, i, part, count, span);
+    let reached = ordered_members(types, rows, i, part, count, span, taken, before);
     let mut state = reached.state;
     let mut j: u32 = reached.taken;
     while j < count {

@@ -2,10 +2,11 @@
 -- of the arena says, `rows` the rows of the types before type i. Flags, or the refusal, on one side; verdicts on the other.
 -- Assumes nothing.
 use mathlib.Core.List.{List}
-use Prim.Native.Nat.{ℕ, _*_}
+use mathlib.Core.Path.{_≡_}
+use Prim.Native.Nat.{ℕ, _*_, _<_}
 use lib.Dec.{eqb, ltb}
 use Rattle.records.specs.Result.{Result, err, ok, pick, require, andThen}
-use Rattle.records.specs.Record.{valuePointerKind, samplerKind}
+use Rattle.records.specs.Record.{Decoded, memberType, valuePointerKind, samplerKind}
 use Rattle.records.specs.declared.Leaf.{Leaf}
 use Rattle.records.specs.declared.Leaf.the-variants.{Scalar, Vector, Matrix, CooperativeMatrix, Atomic, RayQuery}
 use Rattle.records.specs.declared.NonData.{NonData}
@@ -23,6 +24,8 @@ use Rattle.type_info.specs.Verdict.{minUniform, minStorage, okVerdict, arrayVer
 use Rattle.rows.specs.Rows.{withRow}
 use Rattle.type_info.specs.TypeInfo.{wordsOf}
 use Rattle.member_rules.specs.declared.Bounds.{Bounds}
+use Rattle.valid.specs.declared.PlainRow.{PlainRow}
+use Rattle.valid.specs.declared.PlainRow.the-variants as plain
 use Rattle.valid.specs.declared.Judged.{Judged}
 use Rattle.valid.specs.declared.Judged.the-variants as judged
 use Rattle.valid.specs.declared.Judged.the-variants.{Made}
@@ -110,21 +113,34 @@ judge c inner rows i layout this members =
     andThen (flagsOf c inner rows this members) (λ flags. ok (rowOf minUniform inner rows i layout this members flags))
 
 -- ---- what the code answers
-abbrev pub judgedResult : Judged → Result Row
-judgedResult (Made r) = ok r
-judgedResult (judged.Refused number member detail) = err number member detail
+-- what the code has of a type that is neither array nor struct
+pub record PlainParts : Type 0 where
+  pub flags : ℕ
+  pub alignment : ℕ
+  pub immediates : ℕ
 
--- a row with these flags and one alignment in both verdicts
-abbrev pub plainRow : TypeLayout → (alignment immediates : ℕ) → (flags : ℕ) → Row
-plainRow layout alignment immediates flags =
+-- with one alignment in both verdicts
+abbrev pub plainBy : (alignment immediates : ℕ) → Result ℕ → Result PlainParts
+plainBy alignment immediates flags = andThen flags (λ f. ok (record { flags = f; alignment = alignment; immediates = immediates }))
+
+abbrev pub plainResult : PlainRow → Result PlainParts
+plainResult (plain.Made flags alignment immediates) = ok (record { flags = flags; alignment = alignment; immediates = immediates })
+plainResult (plain.Refused number member detail) = err number member detail
+
+-- the row that it makes with a layout
+abbrev pub plainRow : TypeLayout → PlainParts → Row
+plainRow layout p =
     record {
       size = layout .size;
       alignment = layout .alignment;
-      flags = flags;
-      uniform = okVerdict alignment;
-      storage = okVerdict alignment;
-      immediates = immediates;
+      flags = p .flags;
+      uniform = okVerdict (p .alignment);
+      storage = okVerdict (p .alignment);
+      immediates = p .immediates;
     }
+
+abbrev pub plainJudged : TypeLayout → Result PlainParts → Result Row
+plainJudged layout o = andThen o (λ p. ok (plainRow layout p))
 
 -- the row of an array over a base, with the flags that its form leaves
 abbrev pub arrayRow : (i stride : ℕ) → (base : Row) → TypeLayout → (flags : ℕ) → Row
@@ -143,7 +159,11 @@ abbrev pub arrayOf : (form i stride : ℕ) → (base : Row) → TypeLayout → R
 arrayOf form i stride base layout =
     require (isArrayBase (base .flags)) 15 0 0 (ok (arrayRow i stride base layout (pick (eqb form 0) (arrayFlags (base .flags)) (runtimeArrayFlags (base .flags)))))
 
--- what one type's judgement, to be written from `at` on, makes of the lent words
-abbrev pub rowsWith : Judged → (at : ℕ) → List ℕ → List ℕ
-rowsWith (Made r) at words = withRow words at (wordsOf r)
-rowsWith (judged.Refused number member detail) at words = words
+-- the code's answer and what it makes of the lent words, by one type's judgement, whose row is to be written from `at` on
+abbrev pub Settled : Judged → (at : ℕ) (before after : List ℕ) → Result Row → Type 0
+Settled r at before after (ok row) = (r ≡ Made) × (after ≡ withRow before at (wordsOf row))
+Settled r at before after (err number member detail) = (r ≡ judged.Refused number member detail) × (after ≡ before)
+
+-- the members of struct i are of earlier types
+abbrev pub MembersEarlier : (ℕ → Decoded) → ℕ → Type 0
+MembersEarlier types i = (count span j : ℕ) → types i .inner ≡ Struct count span → j < count → memberType (types i .members) j < i

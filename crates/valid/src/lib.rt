@@ -12,27 +12,50 @@ use type_flags::ray_query_flags;
 use type_flags::sampler_flags;
 use type_flags::value_pointer_flags;
 use type_info::Row;
-use type_layout::TypeLayout;
 ghost use mathlib.Core.Path.{_≡_};
+ghost use mathlib.Core.List.{List};
 ghost use Prim.Native.Nat.{ℕ, _+_, _*_, _≤_, _<_};
+ghost use lib.Dec.{eqb};
 ghost use lib.ListN.{length, take};
-ghost use Rattle.records.specs.Result.{ok, require, andThen};
-ghost use Rattle.records.specs.Record.{decoded, innerIn, typeInner, structMembers, typeCount};
-ghost use Rattle.records.specs.Fields.{InnerBounds};
+ghost use Rattle.records.specs.Result.{ok, pick};
+ghost use Rattle.records.specs.Record.{arrayKind, structKind, decoded, innerIn, typeInner, structMembers, memberType};
+ghost use Rattle.records.specs.Fields.{recordAt, InnerBounds};
 ghost use Rattle.alignment.specs.Alignment.{vectorAlignment};
-ghost use Rattle.flags.specs.Flags.{startingFlags, scalarFlags};
+ghost use Rattle.flags.specs.Flags.{startingFlags, scalarFlags, arrayFlags, runtimeArrayFlags};
 ghost use Rattle.records.specs.Table.{firstRefusal};
-ghost use Rattle.type_layout.specs.TypeLayout.{layoutsIn};
-ghost use Rattle.layouter.specs.Layouter.{layoutRows, rowsAfter};
+ghost use Rattle.records.specs.declared.Outcome.the-variants.{Accepted};
 ghost use Rattle.records.specs.declared.TypeInner.the-variants.{Struct};
+ghost use Rattle.type_layout.specs.declared.TypeLayout as layout;
+ghost use Rattle.type_layout.specs.TypeLayout.{layoutsIn};
+ghost use Rattle.layouter.specs.Layouter.{layoutAt, layoutRows, rowsAfter};
 ghost use Rattle.width.specs.Width.{checkWidth, immediatesWord};
 ghost use Rattle.type_info.specs.TypeInfo.{rowsIn};
-ghost use Rattle.type_flags.specs.TypeFlags.{withWidth, matrixFlags, bindingArrayOf, isArrayBase, flaggedResult};
-ghost use Rattle.valid.specs.Valid.{arrayOf, judge, judgedResult, plainRow, arrayRow, rowsWith};
+ghost use Rattle.type_flags.specs.TypeFlags.{withWidth, matrixFlags, bindingArrayOf, flaggedResult};
+ghost use Rattle.members.specs.Members.{stateAfter, membersResult};
+ghost use Rattle.valid.specs.Valid.{arrayOf, judge, plainBy, plainResult, plainJudged, Settled, MembersEarlier};
 ghost use Rattle.valid.specs.Arena.{judgedAt, arenaRows, arenaAnswer, arenaWords};
 
+const ARRAY_KIND: u32 = 7;
+
+const STRUCT_KIND: u32 = 8;
+
+// A type that is neither array nor struct: its flags, the alignment in both verdicts and the immediates word; or its refusal.
+pub enum PlainRow {
+    Made {
+        flags: u32,
+        alignment: u32,
+        immediates: u32,
+    },
+    Refused {
+        number: u32,
+        member: u32,
+        detail: u32,
+    },
+}
+
+// A row that has been written, or the refusal of its type.
 pub enum Judged {
-    Made(Row),
+    Made,
     Refused {
         number: u32,
         member: u32,
@@ -49,23 +72,122 @@ fn column(n: u32, width: u32) -> u32
     product
 }
 
-// A row with one alignment in both verdicts.
-fn plain_row(flagged: Flagged, layout: TypeLayout, alignment: u32, immediates: u32) -> Judged
-    ensures { λ r. ⌜ judgedResult r ≡ andThen (flaggedResult flagged) (λ f. ok (plainRow layout alignment immediates f)) ⌝ }
+fn plain_row(flagged: Flagged, alignment: u32, immediates: u32) -> PlainRow
+    ensures { λ r. ⌜ plainResult r ≡ plainBy alignment immediates (flaggedResult flagged) ⌝ }
 {
     match flagged {
-        Flagged::Flags(flags) => {
+        Flagged::Flags(flags) => PlainRow::Made {
+            flags,
+            alignment,
+            immediates,
+        },
+        Flagged::Refused {
+            number,
+            member,
+            detail,
+        } => PlainRow::Refused {
+            number,
+            member,
+            detail,
+        },
+    }
+}
+
+// A scalar or a vector, whose verdicts have this alignment.
+fn numeric_row(
+    capabilities: u32,
+    kind: usize,
+    scalar_kind: u32,
+    width: u32,
+    alignment: u32,
+) -> PlainRow
+    requires { ⌜ kind < 14 ⌝ }
+    ensures { λ r. ⌜ plainResult r ≡ plainBy alignment (immediatesWord «scalar_kind» width) (withWidth (checkWidth capabilities «scalar_kind» width) (scalarFlags «scalar_kind» (startingFlags kind))) ⌝ }
+{
+    let flagged = type_flags::with_width(
+        width::check_width(capabilities, scalar_kind, width),
+        flags::scalar_flags(scalar_kind, flags::starting_flags(kind)),
+    );
+    plain_row(
+        flagged,
+        alignment,
+        width::immediates_word(scalar_kind, width),
+    )
+}
+
+fn matrix_row(capabilities: u32, kind: u32, width: u32, alignment: u32) -> PlainRow
+    ensures { λ r. ⌜ plainResult r ≡ plainBy alignment (immediatesWord kind width) (matrixFlags capabilities kind width) ⌝ }
+{
+    plain_row(
+        type_flags::matrix_flags(capabilities, kind, width),
+        alignment,
+        width::immediates_word(kind, width),
+    )
+}
+
+fn binding_array_row(types: &[u32], rows: &[u32], base: u32, form: u32) -> PlainRow
+    ensures { λ r. ⌜ plainResult r ≡ plainBy 1 0 (bindingArrayOf (typeInner (now (types .entry)) base) (rowsIn (now (rows .entry)) base .flags) form) ⌝ }
+{
+    let inner = records::type_inner(types, base);
+    let flags = rows::row_word(rows, base, 2);
+    plain_row(type_flags::binding_array_of(inner, flags, form), 1, 0)
+}
+
+// A type whose record has the words w and is neither array nor struct.
+fn judge_plain(capabilities: u32, types: &[u32], rows: &[u32], w: Words) -> PlainRow
+    requires { ⌜ InnerBounds (innerIn w) ⌝ }
+    requires { ⌜ (w .kind ≡ arrayKind → ⊥) ⌝ }
+    requires { ⌜ (w .kind ≡ structKind → ⊥) ⌝ }
+    ensures { λ r. ⌜ ((i : ℕ) (layout : layout.TypeLayout) (members : List ℕ) → plainJudged layout (plainResult r) ≡ judge capabilities (typeInner (now (types .entry))) (rowsIn (now (rows .entry))) i layout (innerIn w) members) ⌝ }
+{
+    let kind = w.kind;
+    let a = w.a;
+    let b = w.b;
+    let c = w.c;
+    let d = w.d;
+    match kind {
+        0 => numeric_row(capabilities, flags::SCALAR_KIND, a, b, b),
+        1 => numeric_row(capabilities, flags::VECTOR_KIND, b, c, column(a, c)),
+        2 => matrix_row(capabilities, c, d, column(b, d)),
+        3 => plain_row(cooperative_flags(capabilities, c, d), d, 0),
+        4 => plain_row(atomic_flags(capabilities, a, b), b, 0),
+        5 => plain_row(pointer_to(rows::row_word(rows, a, 2), b), 1, 0),
+        6 => plain_row(value_pointer_flags(capabilities, a, b, c), 1, 0),
+        9 => plain_row(image_flags(capabilities, a, b, c), 1, 0),
+        10 => plain_row(sampler_flags(), 1, 0),
+        11 => plain_row(acceleration_flags(capabilities, a), 1, 0),
+        12 => plain_row(ray_query_flags(capabilities, a), 1, 0),
+        _ => binding_array_row(types, rows, a, b),
+    }
+}
+
+fn plain_at(capabilities: u32, types: &[u32], rows: &mut [u32], i: u32, w: Words) -> Judged
+    requires { ⌜ i * 14 + 14 ≤ length (now rows) ⌝ }
+    requires { ⌜ InnerBounds (innerIn w) ⌝ }
+    requires { ⌜ (w .kind ≡ arrayKind → ⊥) ⌝ }
+    requires { ⌜ (w .kind ≡ structKind → ⊥) ⌝ }
+    ensures { λ r. ⌜ ((members : List ℕ) → Settled r (i * 14) (now (rows .entry)) (now (rows .exit)) (judge capabilities (typeInner (now (types .entry))) (rowsIn (take (i * 14) (now (rows .entry)))) i (layoutsIn (now (rows .entry)) i) (innerIn w) members)) ⌝ }
+{
+    let at = (i as usize) * records::ROW_WORDS;
+    match judge_plain(capabilities, types, &rows[..at], w) {
+        PlainRow::Made {
+            flags,
+            alignment,
+            immediates,
+        } => {
             let verdict = type_info::ok_verdict(alignment);
-            Judged::Made(Row {
-                size: layout.size,
-                alignment: layout.alignment,
+            let row = Row {
+                size: rows[at],
+                alignment: rows[at + 1],
                 flags,
                 uniform: verdict,
                 storage: verdict,
                 immediates,
-            })
+            };
+            type_info::put(rows, at, row);
+            Judged::Made
         }
-        Flagged::Refused {
+        PlainRow::Refused {
             number,
             member,
             detail,
@@ -77,70 +199,82 @@ fn plain_row(flagged: Flagged, layout: TypeLayout, alignment: u32, immediates: u
     }
 }
 
-// An array over this base, with the flags that its form leaves.
-fn array_row(i: u32, stride: u32, base: Row, layout: TypeLayout, flags: u32) -> Judged
-    ensures { λ r. ⌜ judgedResult r ≡ require (isArrayBase (base .flags)) 15 0 0 (ok (arrayRow i stride base layout flags)) ⌝ }
+// The flags of an array over a base with these, by its form: 0 for one of a count, else a runtime array.
+fn flags_by_form(form: u32, base: u32) -> u32
+    ensures { λ r. ⌜ r ≡ pick (eqb form 0) (arrayFlags base) (runtimeArrayFlags base) ⌝ }
 {
-    if type_flags::is_array_base(base.flags) {
-        let uniform = type_info::array_verdict(
+    if form == 0 {
+        return flags::array_flags(base);
+    }
+    flags::runtime_array_flags(base)
+}
+
+fn array_at(rows: &mut [u32], i: u32, base: u32, form: u32, stride: u32) -> Judged
+    requires { ⌜ i * 14 + 14 ≤ length (now rows) ⌝ }
+    ensures { λ r. ⌜ Settled r (i * 14) (now (rows .entry)) (now (rows .exit)) (arrayOf form i stride (rowsIn (take (i * 14) (now (rows .entry))) base) (layoutsIn (now (rows .entry)) i)) ⌝ }
+{
+    let at = (i as usize) * records::ROW_WORDS;
+    let element = type_info::row_at(&rows[..at], base);
+    if !type_flags::is_array_base(element.flags) {
+        return Judged::Refused {
+            number: 15,
+            member: 0,
+            detail: 0,
+        };
+    }
+    let row = Row {
+        size: rows[at],
+        alignment: rows[at + 1],
+        flags: flags_by_form(form, element.flags),
+        uniform: type_info::array_verdict(
             type_info::MIN_UNIFORM,
             i,
             stride,
-            base.alignment,
-            base.uniform,
-        );
-        let storage = type_info::array_verdict(
+            element.alignment,
+            element.uniform,
+        ),
+        storage: type_info::array_verdict(
             type_info::MIN_STORAGE,
             i,
             stride,
-            base.alignment,
-            base.storage,
-        );
-        return Judged::Made(Row {
-            size: layout.size,
-            alignment: layout.alignment,
-            flags,
-            uniform,
-            storage,
-            immediates: base.immediates,
-        });
-    }
-    Judged::Refused {
-        number: 15,
-        member: 0,
-        detail: 0,
-    }
+            element.alignment,
+            element.storage,
+        ),
+        immediates: element.immediates,
+    };
+    type_info::put(rows, at, row);
+    Judged::Made
 }
 
-// An array, or a runtime array where the form is not 0.
-fn array_of(rows: &[u32], i: u32, layout: TypeLayout, base: u32, form: u32, stride: u32) -> Judged
+// All members of struct i.
+fn members_of(types: &[u32], rows: &[u32], i: u32, part: &[u32], count: u32, span: u32) -> Members
     requires { ⌜ length (now rows) ≡ i * 14 ⌝ }
-    ensures { λ r. ⌜ judgedResult r ≡ arrayOf form i stride (rowsIn (now (rows .entry)) base) layout ⌝ }
+    requires { ⌜ i * 6 ≤ length (now types) ⌝ }
+    requires { ⌜ length (now part) ≡ count * 2 ⌝ }
+    requires { ⌜ ((j : ℕ) → j < count → memberType (now part) j < i) ⌝ }
+    ensures { λ r. ⌜ membersResult r ≡ stateAfter (typeInner (now (types .entry))) (rowsIn (now (rows .entry))) i count span (now (part .entry)) count ⌝ }
 {
-    let row = type_info::row_at(rows, base);
-    if form == 0 {
-        return array_row(i, stride, row, layout, flags::array_flags(row.flags));
-    }
-    array_row(
-        i,
-        stride,
-        row,
-        layout,
-        flags::runtime_array_flags(row.flags),
-    )
+    let reached = plain_members::plain_members(types, rows, i, part, count, span);
+    let taken = reached.taken;
+    let plain = reached.state;
+    let state = members::carried(
+        types,
+        part,
+        taken,
+        plain.end,
+        plain.flags,
+        plain.uniform,
+        plain.storage,
+    );
+    members::members_of(types, rows, i, part, count, span, taken, state)
 }
 
-fn struct_row(
-    types: &[u32],
-    members: &[u32],
-    rows: &[u32],
-    i: u32,
-    layout: TypeLayout,
-    count: u32,
-    span: u32,
-) -> Judged
-    requires { ⌜ length (now rows) ≡ i * 14 ⌝ }
-    ensures { λ r. ⌜ judgedResult r ≡ judge 0 (typeInner (now (types .entry))) (rowsIn (now (rows .entry))) i layout (Struct count span) (structMembers (now (types .entry)) (now (members .entry)) i) ⌝ }
+fn struct_at(types: &[u32], part: &[u32], rows: &mut [u32], i: u32, count: u32, span: u32) -> Judged
+    requires { ⌜ i * 14 + 14 ≤ length (now rows) ⌝ }
+    requires { ⌜ i * 6 ≤ length (now types) ⌝ }
+    requires { ⌜ length (now part) ≡ count * 2 ⌝ }
+    requires { ⌜ ((j : ℕ) → j < count → memberType (now part) j < i) ⌝ }
+    ensures { λ r. ⌜ ((c : ℕ) → Settled r (i * 14) (now (rows .entry)) (now (rows .exit)) (judge c (typeInner (now (types .entry))) (rowsIn (take (i * 14) (now (rows .entry)))) i (layoutsIn (now (rows .entry)) i) (Struct count span) (now (part .entry)))) ⌝ }
 {
     if count == 0 {
         return Judged::Refused {
@@ -149,20 +283,21 @@ fn struct_row(
             detail: 0,
         };
     }
-    let part = records::struct_members(types, members, i);
-    match members::members_of(types, rows, i, part, count, span) {
+    let at = (i as usize) * records::ROW_WORDS;
+    match members_of(types, &rows[..at], i, part, count, span) {
         Members::Taken(state) => {
             let bounds = state.bounds;
-            let uniform = type_info::span_verdict(i, span, layout.alignment, state.uniform);
-            let storage = type_info::span_verdict(i, span, layout.alignment, state.storage);
-            Judged::Made(Row {
-                size: layout.size,
-                alignment: layout.alignment,
+            let alignment = rows[at + 1];
+            let row = Row {
+                size: rows[at],
+                alignment,
                 flags: bounds.flags,
-                uniform,
-                storage,
+                uniform: type_info::span_verdict(i, span, alignment, state.uniform),
+                storage: type_info::span_verdict(i, span, alignment, state.storage),
                 immediates: state.immediates,
-            })
+            };
+            type_info::put(rows, at, row);
+            Judged::Made
         }
         Members::Refused { number, member } => Judged::Refused {
             number,
@@ -172,134 +307,32 @@ fn struct_row(
     }
 }
 
-// A scalar or a vector, whose verdicts have this alignment.
-fn numeric_row(
-    capabilities: u32,
-    kind: usize,
-    layout: TypeLayout,
-    scalar_kind: u32,
-    width: u32,
-    alignment: u32,
-) -> Judged
-    requires { ⌜ kind < 14 ⌝ }
-    ensures { λ r. ⌜ judgedResult r ≡ andThen (withWidth (checkWidth capabilities «scalar_kind» width) (scalarFlags «scalar_kind» (startingFlags kind))) (λ f. ok (plainRow layout alignment (immediatesWord «scalar_kind» width) f)) ⌝ }
-{
-    let flagged = type_flags::with_width(
-        width::check_width(capabilities, scalar_kind, width),
-        flags::scalar_flags(scalar_kind, flags::starting_flags(kind)),
-    );
-    plain_row(
-        flagged,
-        layout,
-        alignment,
-        width::immediates_word(scalar_kind, width),
-    )
-}
-
-fn matrix_row(
-    capabilities: u32,
-    layout: TypeLayout,
-    kind: u32,
-    width: u32,
-    alignment: u32,
-) -> Judged
-    ensures { λ r. ⌜ judgedResult r ≡ andThen (matrixFlags capabilities kind width) (λ f. ok (plainRow layout alignment (immediatesWord kind width) f)) ⌝ }
-{
-    plain_row(
-        type_flags::matrix_flags(capabilities, kind, width),
-        layout,
-        alignment,
-        width::immediates_word(kind, width),
-    )
-}
-
-fn binding_array_row(
-    types: &[u32],
-    rows: &[u32],
-    layout: TypeLayout,
-    base: u32,
-    form: u32,
-) -> Judged
-    ensures { λ r. ⌜ judgedResult r ≡ andThen (bindingArrayOf (typeInner (now (types .entry)) base) (rowsIn (now (rows .entry)) base .flags) form) (λ f. ok (plainRow layout 1 0 f)) ⌝ }
-{
-    let inner = records::type_inner(types, base);
-    let flags = rows::row_word(rows, base, 2);
-    plain_row(
-        type_flags::binding_array_of(inner, flags, form),
-        layout,
-        1,
-        0,
-    )
-}
-
-// The row of type i, whose record has the words w; rows has those of the types before it.
-fn judge(
-    capabilities: u32,
-    types: &[u32],
-    members: &[u32],
-    rows: &[u32],
-    i: u32,
-    layout: TypeLayout,
-    w: Words,
-) -> Judged
-    requires { ⌜ InnerBounds (innerIn w) ⌝ }
-    requires { ⌜ length (now rows) ≡ i * 14 ⌝ }
-    ensures { λ r. ⌜ judgedResult r ≡ judge capabilities (typeInner (now (types .entry))) (rowsIn (now (rows .entry))) i layout (innerIn w) (structMembers (now (types .entry)) (now (members .entry)) i) ⌝ }
-{
-    let kind = w.kind;
-    let a = w.a;
-    let b = w.b;
-    let c = w.c;
-    let d = w.d;
-    match kind {
-        0 => numeric_row(capabilities, flags::SCALAR_KIND, layout, a, b, b),
-        1 => numeric_row(capabilities, flags::VECTOR_KIND, layout, b, c, column(a, c)),
-        2 => matrix_row(capabilities, layout, c, d, column(b, d)),
-        3 => plain_row(cooperative_flags(capabilities, c, d), layout, d, 0),
-        4 => plain_row(atomic_flags(capabilities, a, b), layout, b, 0),
-        5 => plain_row(pointer_to(rows::row_word(rows, a, 2), b), layout, 1, 0),
-        6 => plain_row(value_pointer_flags(capabilities, a, b, c), layout, 1, 0),
-        7 => array_of(rows, i, layout, a, b, d),
-        8 => struct_row(types, members, rows, i, layout, b, c),
-        9 => plain_row(image_flags(capabilities, a, b, c), layout, 1, 0),
-        10 => plain_row(sampler_flags(), layout, 1, 0),
-        11 => plain_row(acceleration_flags(capabilities, a), layout, 1, 0),
-        12 => plain_row(ray_query_flags(capabilities, a), layout, 1, 0),
-        _ => binding_array_row(types, rows, layout, a, b),
-    }
-}
-
 // The row of type i, written over its layout where there is one.
 fn judge_at(capabilities: u32, types: &[u32], members: &[u32], rows: &mut [u32], i: u32) -> Judged
     requires { ⌜ i * 14 + 14 ≤ length (now rows) ⌝ }
-    requires { ⌜ InnerBounds (typeInner (now types) i) ⌝ }
-    ensures { λ r. ⌜ judgedResult r ≡ judge capabilities (typeInner (now (types .entry))) (rowsIn (take (i * 14) (now (rows .entry)))) i (layoutsIn (now (rows .entry)) i) (typeInner (now (types .entry)) i) (structMembers (now (types .entry)) (now (members .entry)) i) ⌝ }
-    ensures { λ r. ⌜ now (rows .exit) ≡ rowsWith r (i * 14) (now (rows .entry)) ⌝ }
+    requires { ⌜ i * 6 + 6 ≤ length (now types) ⌝ }
+    requires { ⌜ recordAt (now types) (now members) i ≡ ok tt ⌝ }
+    requires { ⌜ MembersEarlier (decoded (now types) (now members)) i ⌝ }
+    ensures { λ r. ⌜ Settled r (i * 14) (now (rows .entry)) (now (rows .exit)) (judge capabilities (typeInner (now (types .entry))) (rowsIn (take (i * 14) (now (rows .entry)))) i (layoutsIn (now (rows .entry)) i) (typeInner (now (types .entry)) i) (structMembers (now (types .entry)) (now (members .entry)) i)) ⌝ }
 {
-    let at = (i as usize) * records::ROW_WORDS;
-    let w = records::record_words(types, i);
-    let layout = TypeLayout {
-        size: rows::row_word(rows, i, 0),
-        alignment: rows::row_word(rows, i, 1),
-    };
-    let judged = judge(capabilities, types, members, &rows[..at], i, layout, w);
-    match judged {
-        Judged::Made(row) => {
-            type_info::put(rows, at, row);
-            judged
-        }
-        Judged::Refused {
-            number: _,
-            member: _,
-            detail: _,
-        } => judged,
+    let w = records::own_record(types, i);
+    let kind = w.kind;
+    if kind == STRUCT_KIND {
+        let part = records::member_part(members, w.a, w.b);
+        return struct_at(types, part, rows, i, w.b, w.c);
     }
+    if kind == ARRAY_KIND {
+        return array_at(rows, i, w.a, w.b, w.d);
+    }
+    plain_at(capabilities, types, rows, i, w)
 }
 
 // Judges n laid-out types in order; their rows, or zeros.
 fn judge_all(capabilities: u32, types: &[u32], members: &[u32], rows: &mut [u32], n: u32) -> Outcome
     requires { ⌜ n * 14 ≤ length (now rows) ⌝ }
-    requires { ⌜ ((i : ℕ) → i < n → InnerBounds (typeInner (now types) i)) ⌝ }
+    requires { ⌜ n * 6 ≤ length (now types) ⌝ }
+    requires { ⌜ firstRefusal (recordAt (now types) (now members)) n ≡ Accepted ⌝ }
+    requires { ⌜ firstRefusal (layoutAt (decoded (now types) (now members))) n ≡ Accepted ⌝ }
     requires { ⌜ take (n * 14) (now rows) ≡ layoutRows (now types) (now members) n ⌝ }
     ensures { λ r. ⌜ r ≡ firstRefusal (judgedAt capabilities (decoded (now (types .entry)) (now (members .entry)))) n ⌝ }
     ensures { λ r. ⌜ now (rows .exit) ≡ rowsAfter r (arenaRows capabilities (now (types .entry)) (now (members .entry)) n) n (now (rows .entry)) ⌝ }
@@ -307,7 +340,7 @@ fn judge_all(capabilities: u32, types: &[u32], members: &[u32], rows: &mut [u32]
     let mut i: u32 = 0;
     while i < n {
         match judge_at(capabilities, types, members, rows, i) {
-            Judged::Made(_) => {}
+            Judged::Made => {}
             Judged::Refused {
                 number,
                 member,

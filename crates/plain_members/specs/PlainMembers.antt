@@ -1,0 +1,55 @@
+-- 01, 'The result row': the first members of a struct, as long as none breaks a rule, by the rules of one member (member_rules:
+-- MemberRules). `rows` are the rows of the types before type i.
+-- Assumes nothing.
+use mathlib.Core.Bool.{Bool, _&&_}
+use mathlib.Core.List.{List}
+use mathlib.Core.Path.{_≡_}
+use Prim.Native.Nat.{ℕ, _+_, max}
+use lib.Dec.{eqb}
+use Rattle.records.specs.Result.{ok}
+use Rattle.records.specs.declared.TypeInner.{TypeInner}
+use Rattle.alignment.specs.Alignment.{isMask, isAligned, roundUp}
+use Rattle.type_info.specs.declared.Previous.{Previous}
+use Rattle.type_info.specs.declared.Previous.the-variants.{NoStruct, StructBefore}
+use Rattle.type_info.specs.declared.Row.{Row}
+use Rattle.type_info.specs.Verdict.{minUniform, okVerdict, isOk, alignmentIn}
+use Rattle.member_rules.specs.declared.Bounds.{Bounds}
+use Rattle.member_rules.specs.MemberRules.{structAt, memberBounds, boundsAfter, memberUniform, memberStorage, uniformAfter, storageAfter, immediatesAfter}
+use Rattle.plain_members.specs.declared.PlainState.{PlainState}
+use Rattle.plain_members.specs.declared.Plain.{Plain}
+use Rattle.plain_members.specs.declared.Plain.the-variants.{Took, Other}
+
+-- where a member may begin that overlaps none before it and keeps the distance from a struct right before it
+abbrev pub leastOf : (end : ℕ) → Previous → ℕ
+leastOf end NoStruct = end
+leastOf end (StructBefore span offset) = max end (offset + roundUp minUniform span)
+
+-- a member with this row leaves both verdicts Ok and brings no immediates word
+abbrev pub keepsVerdicts : Row → (offset : ℕ) → Bool
+keepsVerdicts r offset =
+    (isOk (r .uniform) && isOk (r .storage) && eqb (r .immediates) 0)
+    && (isMask (alignmentIn (r .uniform)) && isAligned (alignmentIn (r .uniform)) offset)
+    && (isMask (alignmentIn (r .storage)) && isAligned (alignmentIn (r .storage)) offset)
+
+-- the running end and the flags
+abbrev pub plainBounds : PlainState → Bounds
+plainBounds s = record { end = s .end; flags = s .flags }
+
+-- what is taken as a plain member is the member's step, by each rule; nothing is said of a member that is passed on.
+-- this: what the record of its type says
+abbrev pub Stepped : (this : TypeInner) (r : Row) (i count span j t offset : ℕ) → Previous → PlainState → Plain → Type 0
+Stepped this r i count span j t offset before s (Took next) =
+    (memberBounds count span before this offset j r (plainBounds s) ≡ ok (plainBounds next))
+    × (memberUniform minUniform i j t offset before r (okVerdict (s .uniform)) ≡ okVerdict (next .uniform))
+    × (memberStorage i j t offset r (okVerdict (s .storage)) ≡ okVerdict (next .storage))
+    × (r .immediates ≡ 0)
+    × (leastOf (next .end) (structAt this offset) ≡ next .least)
+Stepped this r i count span j t offset before s Other = Unit {0}
+
+-- what is known after the first `taken` members
+abbrev pub PlainAfter : (inner : ℕ → TypeInner) (rows : ℕ → Row) (i count span : ℕ) (members : List ℕ) (taken : ℕ) → PlainState → Type 0
+PlainAfter inner rows i count span members taken s =
+    (boundsAfter inner rows count span members taken ≡ ok (plainBounds s))
+    × (uniformAfter minUniform inner rows i members taken ≡ okVerdict (s .uniform))
+    × (storageAfter rows i members taken ≡ okVerdict (s .storage))
+    × (immediatesAfter rows members taken ≡ 0)
