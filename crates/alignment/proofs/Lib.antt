@@ -1,2 +1,3 @@
 pub mod PowerLaws
+mod Finite
 mod MaskLaws

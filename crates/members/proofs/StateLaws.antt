@@ -58,30 +58,3 @@ module _ (inner : ℕ → TypeInner) (rows : ℕ → Row) (i count span : ℕ) (
           → stateAfter inner rows i count span part (suc m) ≡ err number member detail
       go m (err a b c) p q = rw p (rw p at q)
       go m (ok b) p q = let q′ = rw p at q in let z : _≡_ {A = ℕ} 0 1 = cc in absurd (omega arith)
-
--- a plain member's step: all tests hold, and each verdict is that of the offset
-pub plain-step : (i count span j t offset : ℕ) (array : Bool) (next : Previous) (r : Row) (s : State)
-    → isPlain (r .flags) ≡ true → s .bounds .end ≤ offset → offset + r .size ≤ span → span ≤ most
-    → distanceOk (s .previous) offset ≡ true → ((v : Verdict) → distanceVerdict minUniform i j offset (s .previous) v ≡ v)
-    → memberStep i count span j t offset array next r s
-    ≡ ok (record {
-      bounds = record { end = offset + r .size; flags = bitAnd (s .bounds .flags) (r .flags) };
-      uniform = memberVerdict i j offset (s .uniform) (r .uniform);
-      storage = memberVerdict i j offset (s .storage) (r .storage);
-      immediates = memberImmediates (r .immediates) (s .immediates);
-      previous = next;
-    })
-unfolding memberStep shareVerdict unsizedVerdict
-plain-step i count span j t offset array next r s plain apart within fits distant far =
-    let holds = bit (r .flags) dataBit in
-    let sized = bit (r .flags) sizedBit in
-    let shareable = bit (r .flags) hostShareableBit in
-    let resolved = bit (r .flags) creationResolvedBit in
-    let all = true-T plain in
-    let three = and-left (holds && sized && shareable) resolved all in
-    let two = and-left (holds && sized) shareable three in
-    let is-data : holds ≡ true = T-true holds (and-left holds sized two) in
-    let is-sized : sized ≡ true = T-true sized (and-right holds sized two) in
-    let is-shareable : shareable ≡ true = T-true shareable (and-right (holds && sized) shareable three) in
-    let is-resolved : resolved ≡ true = T-true resolved (and-right (holds && sized && shareable) resolved all) in
-    rw (is-data, is-sized, is-shareable, is-resolved, le-leb (s .bounds .end) offset apart, le-leb (offset + r .size) most (omega arith), le-leb (offset + r .size) span within, distant, far) refl

@@ -91,29 +91,9 @@ fn float_width(capabilities: u32, width: u32) -> Width
     only(width == 4, 9)
 }
 
-// Whether the width is allowed; the refusal of one that is not is told by check_width.
-fn is_allowed(capabilities: u32, kind: u32, width: u32) -> bool
-    ensures { λ r. ⌜ r ≡ isAllowed capabilities kind width ⌝ }
-{
-    let integer = kind <= UINT;
-    let float = kind == FLOAT;
-    let narrow = integer & flags::capable(capabilities, SHADER_INT16)
-        | float & flags::capable(capabilities, SHADER_FLOAT16);
-    let wide = integer & flags::capable(capabilities, SHADER_INT64)
-        | float & flags::capable(capabilities, FLOAT64);
-    (width == 4) & (kind <= FLOAT)
-        | (width == 2) & narrow
-        | (width == 8) & wide
-        | (width == 1) & (kind == BOOL)
-}
-
 pub fn check_width(capabilities: u32, kind: u32, width: u32) -> Width
     ensures { λ r. ⌜ widthResult r ≡ checkWidth capabilities kind width ⌝ }
 {
-    // One test for all that are allowed: kinds and widths follow each other in no order.
-    if is_allowed(capabilities, kind, width) {
-        return Width::Allowed;
-    }
     if kind <= UINT {
         return integer_width(capabilities, width);
     }
