@@ -35,6 +35,72 @@ pub struct Reached {
     pub state: PlainState,
 }
 
+const STRUCT_KIND: u32 = 8;
+
+// Where a member after one of type t may begin: at its end, or at the distance that a struct asks for.
+fn least_after(types: &[u32], t: u32, offset: u32, end: u64) -> u64
+    requires { ⌜ t * 6 + 6 ≤ length (now types) ⌝ }
+    ensures { λ r. ⌜ r ≡ leastOf end (structAt (typeInner (now (types .entry)) t) offset) ⌝ }
+{
+    if records::own_word(types, t, 0) == STRUCT_KIND {
+        let span = records::own_word(types, t, 3);
+        let apart = (offset as u64) + alignment::round_up(type_info::MIN_UNIFORM, span);
+        return if end < apart { apart } else { end };
+    }
+    end
+}
+
+// Whether both verdicts stay Ok after a member of type t, and no immediates word comes with it.
+fn keeps_verdicts(rows: &[u32], t: u32, offset: u32) -> bool
+    requires { ⌜ t * 14 + 14 ≤ length (now rows) ⌝ }
+    ensures { λ r. ⌜ r ≡ keepsVerdicts (rowsIn (now (rows .entry)) t) offset ⌝ }
+{
+    let at = (t as usize) * records::ROW_WORDS;
+    if (rows[at + 3] == 0) & (rows[at + 8] == 0) & (rows[at + 13] == 0) {
+        return alignment::is_masked(rows[at + 4], offset)
+            & alignment::is_masked(rows[at + 9], offset);
+    }
+    false
+}
+
+// One member of type t, if it breaks no rule.
+fn plain_member(
+    types: &[u32],
+    rows: &[u32],
+    i: u32,
+    span: u32,
+    t: u32,
+    offset: u32,
+    state: PlainState,
+) -> Plain
+    requires { ⌜ t * 14 + 14 ≤ length (now rows) ⌝ }
+    requires { ⌜ t * 6 + 6 ≤ length (now types) ⌝ }
+    ensures { λ r. ⌜ ((count j : ℕ) (before : previous.Previous) → leastOf (state .end) before ≡ state .least → Stepped (typeInner (now (types .entry)) t) (rowsIn (now (rows .entry)) t) i count span j t offset before state r) ⌝ }
+{
+    let at = (t as usize) * records::ROW_WORDS;
+    let flags = rows[at + 2];
+    let end = member_rules::end_of(offset, rows[at]);
+    if !member_rules::is_plain(flags) {
+        return Plain::Other;
+    }
+    if (offset as u64) < state.least {
+        return Plain::Other;
+    }
+    if (span as u64) < end {
+        return Plain::Other;
+    }
+    if !keeps_verdicts(rows, t, offset) {
+        return Plain::Other;
+    }
+    Plain::Took(PlainState {
+        end: end as u32,
+        flags: flags::both(state.flags, flags),
+        uniform: alignment::larger(state.uniform, rows[at + 4]),
+        storage: alignment::larger(state.storage, rows[at + 9]),
+        least: least_after(types, t, offset, end),
+    })
+}
+
 // The members of struct i up to the first that breaks a rule; rows has those of the types before it.
 pub fn plain_members(
     types: &[u32],
@@ -52,12 +118,33 @@ pub fn plain_members(
     ensures { λ r. ⌜ PlainAfter (typeInner (now (types .entry))) (rowsIn (now (rows .entry))) i count span (now (part .entry)) (r .taken) (r .state) ⌝ }
 {
     let flags = flags::starting_flags(flags::STRUCT_KIND);
-    let state = PlainState {
+    let mut state = PlainState {
         end: 0,
         flags,
         uniform: type_info::MIN_UNIFORM,
         storage: type_info::MIN_STORAGE,
         least: 0,
     };
-    Reached { taken: 0, state }
+    let last = count as usize;
+    let mut j: usize = 0;
+    while j < last {
+        let t = records::own_type(part, j);
+        let offset = records::own_offset(part, j);
+        match plain_member(types, rows, i, span, t, offset, state) {
+            Plain::Took(next) => {
+                state = next;
+            }
+            Plain::Other => {
+                return Reached {
+                    taken: j as u32,
+                    state,
+                };
+            }
+        }
+        j += 1;
+    }
+    Reached {
+        taken: count,
+        state,
+    }
 }

@@ -84,6 +84,14 @@ pub fn type_word(types: &[u32], i: u32, k: u32) -> u32
     word_at(types, (i as usize) * TYPE_WORDS + (k as usize))
 }
 
+// The same of a record that the table has, with no test of its length.
+pub fn own_word(types: &[u32], i: u32, k: usize) -> u32
+    requires { ⌜ i * 6 + k < length (now types) ⌝ }
+    ensures { λ r. ⌜ r ≡ typeWord (now (types .entry)) i k ⌝ }
+{
+    types[(i as usize) * TYPE_WORDS + k]
+}
+
 pub fn type_count(types: &[u32]) -> usize
     ensures { λ r. ⌜ r ≡ typeCount (now (types .entry)) ⌝ }
 {
@@ -103,7 +111,7 @@ pub fn member_offset(part: &[u32], j: u32) -> u32
     word_at(part, (j as usize) * MEMBER_WORDS + 1)
 }
 
-// The same of a member that the part has, with no test of its length.
+// The same of a member that the part has.
 pub fn own_type(part: &[u32], j: usize) -> u32
     requires { ⌜ j * 2 + 2 ≤ length (now part) ⌝ }
     ensures { λ r. ⌜ r ≡ memberType (now (part .entry)) j ⌝ }
@@ -181,7 +189,7 @@ pub fn record_words(types: &[u32], i: u32) -> Words
     }
 }
 
-// The same of a record that the table has, with no test of its length.
+// The same of a record that the table has.
 pub fn own_record(types: &[u32], i: u32) -> Words
     requires { ⌜ i * 6 + 6 ≤ length (now types) ⌝ }
     ensures { λ r. ⌜ r ≡ recordWords (now (types .entry)) i ⌝ }

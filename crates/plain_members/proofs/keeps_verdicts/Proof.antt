@@ -1,0 +1,38 @@
+use borrow.Author.Needs.{needs}
+use mathlib.Core.Path.{refl}
+use Rattle.type_info.specs.TypeInfo.{rowsIn}
+use Rattle.plain_members.proofs.keeps_verdicts.Statement.{statement}
+use Rattle.plain_members.proofs.keeps_verdicts.Tie as tie
+
+returns : tie.Need-returns
+unfolding rowsIn
+returns c = rw (c .before .before .before .before .if1 .taken, c .is-masked2 .ensures, c .before .before .is-masked .ensures) refl
+
+returns-2 : tie.Need-returns-2
+unfolding rowsIn
+returns-2 c = rw (c .if1 .left) refl
+
+pub keeps-verdicts-spec : {M : Type 1} → statement M
+keeps-verdicts-spec =
+    tie.close
+    (tie.spec
+    (λ c. search needs)
+    (λ c. search needs)
+    (λ c. search needs)
+    (λ c. search needs)
+    (λ c. search needs)
+    (λ c. search needs)
+    (λ c. search needs)
+    (λ c. search needs)
+    (λ c. search needs)
+    (λ c. search needs)
+    (λ c. search needs)
+    (λ c. search needs)
+    (λ c. search needs)
+    (λ c κs. search needs)
+    (λ c. search needs)
+    (λ c. search needs)
+    (λ c. search needs)
+    (λ c κs. search needs)
+    returns
+    returns-2)
