@@ -20,7 +20,7 @@ use Rattle.member_rules.specs.declared.Bounds.{Bounds}
 use Rattle.members.specs.declared.State.{State}
 use Rattle.records.proofs.ResultLaws.{true-T, T-true, and-left, and-right}
 use Rattle.flags.specs.Flags.{bit, dataBit, sizedBit, hostShareableBit, creationResolvedBit}
-use Rattle.member_rules.specs.MemberRules.{isArray, structAt, memberBounds, boundsAfter, uniformAfter, storageAfter, immediatesAfter, previousOf, memberImmediates, isPlain}
+use Rattle.member_rules.specs.MemberRules.{isArray, structAt, memberBounds, boundsAfter, uniformAfter, storageAfter, immediatesAfter, previousOf, memberImmediates, isInOrder}
 use Rattle.members.specs.Members.{stateAfter, memberStep}
 
 module _ (inner : ℕ → TypeInner) (rows : ℕ → Row) (i count span : ℕ) (part : List ℕ) where
@@ -58,3 +58,27 @@ module _ (inner : ℕ → TypeInner) (rows : ℕ → Row) (i count span : ℕ) (
           → stateAfter inner rows i count span part (suc m) ≡ err number member detail
       go m (err a b c) p q = rw p (rw p at q)
       go m (ok b) p q = let q′ = rw p at q in let z : _≡_ {A = ℕ} 0 1 = cc in absurd (omega arith)
+
+-- the step of a member in order: all tests hold, and each verdict is that of the offset
+pub ordered-step : (i count span j t offset : ℕ) (array : Bool) (next : Previous) (r : Row) (s : State)
+    → isInOrder (r .flags) ≡ true → s .bounds .end ≤ offset → offset + r .size ≤ span → span ≤ most
+    → distanceOk (s .previous) offset ≡ true → ((v : Verdict) → distanceVerdict minUniform i j offset (s .previous) v ≡ v)
+    → memberStep i count span j t offset array next r s
+    ≡ ok (record {
+      bounds = record { end = offset + r .size; flags = bitAnd (s .bounds .flags) (r .flags) };
+      uniform = memberVerdict i j offset (shareVerdict (bit (r .flags) hostShareableBit) t (s .uniform)) (r .uniform);
+      storage = memberVerdict i j offset (shareVerdict (bit (r .flags) hostShareableBit) t (s .storage)) (r .storage);
+      immediates = memberImmediates (r .immediates) (s .immediates);
+      previous = next;
+    })
+unfolding memberStep unsizedVerdict
+ordered-step i count span j t offset array next r s in-order apart within fits distant far =
+    let holds = bit (r .flags) dataBit in
+    let sized = bit (r .flags) sizedBit in
+    let resolved = bit (r .flags) creationResolvedBit in
+    let all = true-T in-order in
+    let two = and-left (holds && sized) resolved all in
+    let is-data : holds ≡ true = T-true holds (and-left holds sized two) in
+    let is-sized : sized ≡ true = T-true sized (and-right holds sized two) in
+    let is-resolved : resolved ≡ true = T-true resolved (and-right (holds && sized) resolved all) in
+    rw (is-data, is-sized, is-resolved, le-leb (s .bounds .end) offset apart, le-leb (offset + r .size) most (omega arith), le-leb (offset + r .size) span within, distant, far) refl

@@ -131,6 +131,117 @@ fn previous_of(types: &[u32], part: &[u32], j: u32) -> Previous
     )
 }
 
+// The verdict after a member of type t, by its own in words w to w + 4 of its row.
+fn verdict_after(
+    rows: &[u32],
+    t: u32,
+    w: usize,
+    i: u32,
+    j: u32,
+    offset: u32,
+    so_far: Verdict,
+) -> Verdict
+    requires { ⌜ t * 14 + (w + 4) < length (now rows) ⌝ }
+    ensures { λ r. ⌜ r ≡ memberVerdict i j offset (shareVerdict (bit (rowWord (now (rows .entry)) t 2) hostShareableBit) t «so_far») (verdictIn (now (rows .entry)) t w) ⌝ }
+{
+    let shareable = flags::is_host_shareable(rows::row_word(rows, t, 2));
+    type_info::member_verdict_at(
+        rows,
+        t,
+        w,
+        i,
+        j,
+        offset,
+        type_info::share_verdict(shareable, t, so_far),
+    )
+}
+
+// The step of a member that breaks no rule of bounds and needs no distance, in fewer tests than `member`.
+fn ordered_member(
+    types: &[u32],
+    rows: &[u32],
+    i: u32,
+    span: u32,
+    j: u32,
+    t: u32,
+    offset: u32,
+    state: State,
+) -> Ordered
+    requires { ⌜ t < i ⌝ }
+    requires { ⌜ length (now rows) ≡ i * 14 ⌝ }
+    ensures { λ r. ⌜ ((count : ℕ) → orderedStep r (memberStep i count span j t offset (isArray (typeInner (now (types .entry)) t)) (structAt (typeInner (now (types .entry)) t) offset) (rowsIn (now (rows .entry)) t) state)) ⌝ }
+{
+    let so_far = state.bounds;
+    let previous = state.previous;
+    let uniform = state.uniform;
+    let storage = state.storage;
+    let at = (t as usize) * records::ROW_WORDS;
+    let flags = rows[at + 2];
+    let own = rows[at + 13];
+    let sum = member_rules::end_of(offset, rows[at]);
+    if !member_rules::is_in_order(flags) {
+        return Ordered::Other;
+    }
+    if offset < so_far.end {
+        return Ordered::Other;
+    }
+    if (span as u64) < sum {
+        return Ordered::Other;
+    }
+    if !member_rules::is_enough(type_info::distance_to(previous, offset)) {
+        return Ordered::Other;
+    }
+    let end = sum as u32;
+    let bounds = Bounds {
+        end,
+        flags: flags::both(so_far.flags, flags),
+    };
+    Ordered::Took(State {
+        bounds,
+        uniform: verdict_after(rows, t, 3, i, j, offset, uniform),
+        storage: verdict_after(rows, t, 8, i, j, offset, storage),
+        immediates: member_rules::immediates_of(own, state.immediates),
+        previous: member_rules::struct_at(types, t, offset),
+    })
+}
+
+// The members of struct i from `taken` on, up to the first for which `member` is needed.
+fn ordered_members(
+    types: &[u32],
+    rows: &[u32],
+    i: u32,
+    part: &[u32],
+    count: u32,
+    span: u32,
+    taken: u32,
+    before: State,
+) -> Reached
+    requires { ⌜ length (now rows) ≡ i * 14 ⌝ }
+    requires { ⌜ length (now part) ≡ count * 2 ⌝ }
+    requires { ⌜ ((j : ℕ) → j < count → memberType (now part) j < i) ⌝ }
+    requires { ⌜ taken ≤ count ⌝ }
+    requires { ⌜ stateAfter (typeInner (now types)) (rowsIn (now rows)) i count span (now part) taken ≡ ok before ⌝ }
+    ensures { λ r. ⌜ r .taken ≤ count ⌝ }
+    ensures { λ r. ⌜ stateAfter (typeInner (now (types .entry))) (rowsIn (now (rows .entry))) i count span (now (part .entry)) (r .taken) ≡ ok (r .state) ⌝ }
+{
+    let mut state = before;
+    let mut j: u32 = taken;
+    while j < count {
+        let t = records::own_type(part, j as usize);
+        let offset = records::own_offset(part, j as usize);
+        match ordered_member(types, rows, i, span, j, t, offset, state) {
+            Ordered::Took(next) => {
+                state = next;
+            }
+            Ordered::Other => {
+                return Reached { taken: j, state };
+            }
+        }
+        j += 1;
+    }
+    Reached { taken: j, state }
+}
+
 // The members of struct i from `taken` on, whose rows are in part; rows has those of the types before it.
 pub fn members_of(
     types: &[u32],
@@ -149,8 +260,9 @@ pub fn members_of(
     requires { ⌜ stateAfter (typeInner (now types)) (rowsIn (now rows)) i count span (now part) taken ≡ ok before ⌝ }
     ensures { λ r. ⌜ membersResult r ≡ stateAfter (typeInner (now (types .entry))) (rowsIn (now (rows .entry))) i count span (now (part .entry)) count ⌝ }
 {
-    let mut state = before;
-    let mut j: u32 = taken;
+    let reached = ordered_members(types, rows, i, part, count, span, taken, before);
+    let mut state = reached.state;
+    let mut j: u32 = reached.taken;
     while j < count {
         let ty = records::member_type(part, j);
         let offset = records::member_offset(part, j);

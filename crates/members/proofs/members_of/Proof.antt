@@ -21,22 +21,22 @@ abbrev μ-loop : tie.MeasureT-loop
 μ-loop types rows i part count span taken before j₀ state j = count - j
 
 loop-holds : tie.Need-loop-holds Inv-loop μ-loop
-loop-holds c = (c .before .before .before .pre .1 .1 .1 .0, c .before .before .before .pre .1 .1 .1 .1)
+loop-holds c = c .before .ordered-members .ensures
 
 row-at-requires : tie.Need-row-at-requires Inv-loop μ-loop
-row-at-requires c κs = omega (arith, c .before .before .before .before .before .before .before .before .before .pre .0)
+row-at-requires c κs = omega (arith, c .before .before .before .before .before .before .before .before .before .before .before .pre .0)
 
 returns : tie.Need-returns Inv-loop μ-loop
 returns c =
     let l = c .before .before .before .before .before .before .before .before .before .before .loop in
-    let a = c .before .before .before .before .before .before .before .before .before .before .before .before .before .before .args in
+    let a = c .before .before .before .before .before .before .before .before .before .before .before .before .before .before .before .before .args in
     let type-read : c .before .before .before .before .before .before .before .before .member-type .result ≡ memberType (now (a .part)) (l .j) = c .before .before .before .before .before .before .before .before .member-type .ensures in
     let step = rw (c .before .before .before .before .row-at .ensures, c .before .before .before .before .before .struct-at .ensures, c .before .before .before .before .before .before .is-array .ensures, c .before .before .before .before .before .before .before .member-offset .ensures, type-read) at (c .before .before .before .member .ensures) in
     let refused = rw (c .before .number .given .1) at (state-step (typeInner (now (a .types))) (rowsIn (now (a .rows))) (a .i) (a .count) (a .span) (now (a .part)) (l .j) (l .state) (l .inv .1) ∙ sym step) in
     sym (state-refused (typeInner (now (a .types))) (rowsIn (now (a .rows))) (a .i) (a .count) (a .span) (now (a .part)) (suc (l .j)) refused (a .count) (c .before .before .before .before .before .before .before .before .before .loop-test .taken))
 
 add-j : tie.Need-add-j Inv-loop μ-loop
-add-j c = omega (arith, c .before .before .before .before .before .before .before .before .before .loop-test .taken, c .before .before .before .before .before .before .before .before .before .before .before .before .before .before .fits .count)
+add-j c = omega (arith, c .before .before .before .before .before .before .before .before .before .loop-test .taken, c .before .before .before .before .before .before .before .before .before .before .before .before .before .before .before .before .fits .count)
 
 loop-less : tie.Need-loop-less Inv-loop μ-loop
 loop-less c = omega (arith, c .before .before .before .before .before .before .before .before .before .loop-test .taken)
@@ -44,7 +44,7 @@ loop-less c = omega (arith, c .before .before .before .before .before .before .b
 loop-again : tie.Need-loop-again Inv-loop μ-loop
 loop-again c =
     let l = c .before .before .before .before .before .before .before .before .before .before .loop in
-    let a = c .before .before .before .before .before .before .before .before .before .before .before .before .before .before .args in
+    let a = c .before .before .before .before .before .before .before .before .before .before .before .before .before .before .before .before .args in
     let type-read : c .before .before .before .before .before .before .before .before .member-type .result ≡ memberType (now (a .part)) (l .j) = c .before .before .before .before .before .before .before .before .member-type .ensures in
     let step = rw (c .before .before .before .before .row-at .ensures, c .before .before .before .before .before .struct-at .ensures, c .before .before .before .before .before .before .is-array .ensures, c .before .before .before .before .before .before .before .member-offset .ensures, type-read) at (c .before .before .before .member .ensures) in
     (omega (arith, c .before .before .before .before .before .before .before .before .before .loop-test .taken), rw add-one (rw (c .before .after .given .1) at (state-step (typeInner (now (a .types))) (rowsIn (now (a .rows))) (a .i) (a .count) (a .span) (now (a .part)) (l .j) (l .state) (l .inv .1) ∙ sym step)))
@@ -60,6 +60,7 @@ members-of-spec =
     (tie.spec
     Inv-loop
     μ-loop
+    (λ c κs. search needs)
     loop-holds
     (λ c κs. search needs)
     (λ c κs. search needs)

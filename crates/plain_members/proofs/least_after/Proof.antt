@@ -13,21 +13,21 @@ add-apart c = omega (arith, c .round-up .ensures, c .before .own-word2 .ok, c .b
 
 returns : tie.Need-returns
 unfolding typeInner innerOf
-returns c = 
+returns c =
     let is-struct = sym (c .before .before .before .before .own-word .ensures) ∙ c .before .before .before .if1 .taken in
     let apart = rw (c .before .before .own-word2 .ensures) at (c .before .round-up .ensures) in
     rw (is-struct, ← apart) (sym (max-eq-right (omega (arith, c .if2 .taken))))
 
 returns-2 : tie.Need-returns-2
 unfolding typeInner innerOf
-returns-2 c = 
+returns-2 c =
     let is-struct = sym (c .before .before .before .before .own-word .ensures) ∙ c .before .before .before .if1 .taken in
     let apart = rw (c .before .before .own-word2 .ensures) at (c .before .round-up .ensures) in
     rw (is-struct, ← apart) (sym (max-eq-left (omega (arith, c .if2 .left))))
 
 returns-3 : tie.Need-returns-3
 unfolding typeInner
-returns-3 c = 
+returns-3 c =
     let a = c .before .before .before .args in
     let w = typeWord (now (a .types)) (a .t) in
     rw (no-struct-kind (w 0) (w 1) (w 2) (w 3) (w 4) (w 5) (a .offset) (λ e. c .if1 .left (c .before .own-word .ensures ∙ e))) refl
