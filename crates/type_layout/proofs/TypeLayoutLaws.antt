@@ -1,26 +1,28 @@
--- Laws of layouts: one type, the loop over members.
+-- Laws of layouts: one type, one record, the loop over members.
 -- Assumes nothing.
 use mathlib.Core.Path.{_≡_, refl}
-use mathlib.Core.Bool.{Bool, true, false}
+use mathlib.Core.Bool.{Bool, true, false, _&&_}
 use mathlib.Core.List.{List}
-use Prim.Native.Nat.{ℕ, _+_, _≤_, _<_, max}
+use Prim.Native.Nat.{ℕ, _+_, _*_, _≤_, _<_, max}
 use native.Mathlib.Omega.{arith}
 use native.Mathlib.Numerals.{add-one}
 use native.Mathlib.Decide.{le-ind}
-use lib.Dec.{eqb}
+use lib.Dec.{eqb, leb, leb→le}
+use lib.ListN.{length, take, drop, length-drop}
+use lib.Seq.{length-take-le}
 use borrow.Author.Tests.{lt-ltb, le-ltb}
 use Rattle.records.specs.Result.{err, ok, pick, andThen}
-use Rattle.records.specs.Record.{memberType, imageKind, samplerKind, accelerationStructureKind, rayQueryKind}
-use Rattle.records.specs.declared.Leaf.the-variants.{RayQuery}
-use Rattle.records.specs.declared.NonData.the-variants.{Image, Sampler, AccelerationStructure, BindingArray}
-use Rattle.records.specs.declared.TypeInner.{TypeInner}
-use Rattle.records.specs.declared.TypeInner.the-variants.{Plain, Array, RuntimeArray, Other}
-use Rattle.records.proofs.ResultLaws.{pick-alike}
+use Rattle.records.specs.Record.{memberType, memberCount, typeCount, typeWord, recordWords, structKind, structMembers}
+use Rattle.records.specs.Fields.{fieldsOk}
+use Rattle.records.specs.declared.Words.{Words}
+use Rattle.records.specs.declared.TypeInner.the-variants.{Array, RuntimeArray}
+use Rattle.records.proofs.ResultLaws.{true-T, and-left}
+use Rattle.records.proofs.RecordLaws.{members-part}
 use Rattle.alignment.proofs.PowerLaws.{vector-within}
 use Rattle.alignment.specs.Alignment.{vectorAlignment}
 use Rattle.type_methods.specs.TypeMethods.{arraySize, runtimeArraySize, trySize}
 use Rattle.type_layout.specs.declared.TypeLayout.{TypeLayout}
-use Rattle.type_layout.specs.TypeLayout.{membersAlignment, baseAlignment, alignmentOf, sizedLayout, layoutOf}
+use Rattle.type_layout.specs.TypeLayout.{membersAlignment, baseAlignment, alignmentOf, sizedLayout, layoutOf, wordsLayout, recordLayout}
 
 -- ---- one type
 pub factor-within : (n : ℕ) → vectorAlignment n ≤ 16
@@ -34,22 +36,44 @@ unfolding layoutOf trySize alignmentOf
 array-laid layouts i base count stride part true = refl
 array-laid layouts i base count stride part false = refl
 
--- images, samplers, acceleration structures, ray queries and binding arrays measure nothing
-pub handle-laid : (layouts : ℕ → TypeLayout) (i kind a b c : ℕ) (part : List ℕ)
-    → layoutOf layouts i
-    (pick (eqb kind imageKind) (Other (Image a b c))
-    (pick (eqb kind samplerKind) (Other Sampler)
-    (pick (eqb kind accelerationStructureKind) (Other (AccelerationStructure a))
-    (pick (eqb kind rayQueryKind) (Plain (RayQuery a)) (Other (BindingArray a b c))))))
-    part
-    ≡ ok (record { size = 0; alignment = 1 })
-unfolding layoutOf trySize alignmentOf
-handle-laid layouts i kind a b c part =
-    let alike = pick-alike (λ (x : TypeInner). layoutOf layouts i x part) (ok (record { size = 0; alignment = 1 })) in
-    alike (eqb kind imageKind) _ _ refl
-    (alike (eqb kind samplerKind) _ _ refl
-    (alike (eqb kind accelerationStructureKind) _ _ refl
-    (alike (eqb kind rayQueryKind) _ _ refl refl)))
+-- ---- one record: what the code made of its words is the layout of the record
+module _ (ts ms : List ℕ) (layouts : ℕ → TypeLayout) (i : ℕ) (w : Words) (read : w ≡ recordWords ts i) where
+  pub by-words : (kind : ℕ) → w .kind ≡ kind
+      → wordsLayout (memberCount ms) (typeCount ts) layouts i kind (w .a) (w .b) (w .c) (w .d) (w .e) (structMembers ts ms i) ≡ recordLayout ts ms layouts i
+  unfolding recordLayout
+  by-words kind e = rw (← e, read) refl
+
+  pub unfit-words : fieldsOk (memberCount ms) (w .kind) (w .a) (w .b) (w .c) (w .d) (w .e) ≡ false → err 2 0 0 ≡ recordLayout ts ms layouts i
+  unfolding recordLayout
+  unfit-words e = rw (rw read at e) refl
+
+-- the member rows of a struct whose fields are in order lie in the table
+pub members-within : (m a b c d e : ℕ) → fieldsOk m structKind a b c d e ≡ true → a + b ≤ m
+unfolding fieldsOk
+members-within m a b c d e h =
+    leb→le (a + b) m (and-left (leb (a + b) m) (eqb d 0) (and-left (leb (a + b) m && eqb d 0) (eqb e 0) (true-T h)))
+
+pub part-length : (ms : List ℕ) (first count : ℕ) → first + count ≤ memberCount ms → length (take (count * 2) (drop (first * 2) ms)) ≡ count * 2
+part-length ms first count h = length-take-le (count * 2) (drop (first * 2) ms) (rw (length-drop (first * 2) ms) (omega (arith, h)))
+
+-- a struct: its rows are read only where its fields are in order
+pub struct-words : (ts ms : List ℕ) (layouts : ℕ → TypeLayout) (i : ℕ) (w : Words) → w ≡ recordWords ts i → w .kind ≡ structKind → i * 6 + 6 ≤ length ts
+    → wordsLayout (memberCount ms) (typeCount ts) layouts i structKind (w .a) (w .b) (w .c) (w .d) (w .e) (take (w .b * 2) (drop (w .a * 2) ms))
+    ≡ recordLayout ts ms layouts i
+unfolding recordLayout
+struct-words ts ms layouts i w read k h = rw read (go (fieldsOk (memberCount ms) structKind (typeWord ts i 1) (typeWord ts i 2) (typeWord ts i 3) (typeWord ts i 4) (typeWord ts i 5)) refl)
+  where
+    kind : typeWord ts i 0 ≡ structKind
+    kind = rw read at k
+
+    go : (t : Bool) → fieldsOk (memberCount ms) structKind (typeWord ts i 1) (typeWord ts i 2) (typeWord ts i 3) (typeWord ts i 4) (typeWord ts i 5) ≡ t
+        → wordsLayout (memberCount ms) (typeCount ts) layouts i structKind (typeWord ts i 1) (typeWord ts i 2) (typeWord ts i 3) (typeWord ts i 4) (typeWord ts i 5)
+        (take (typeWord ts i 2 * 2) (drop (typeWord ts i 1 * 2) ms))
+        ≡ recordLayout ts ms layouts i
+    go true e =
+        let within = members-within (memberCount ms) (typeWord ts i 1) (typeWord ts i 2) (typeWord ts i 3) (typeWord ts i 4) (typeWord ts i 5) e in
+        rw (members-part ts ms i (omega (arith, h)) kind within, kind) refl
+    go false e = rw (kind, e) refl
 
 -- ---- the loop over members
 module _ (layouts : ℕ → TypeLayout) (i : ℕ) (part : List ℕ) (j a : ℕ) (so-far : membersAlignment layouts i part j ≡ ok a) where
