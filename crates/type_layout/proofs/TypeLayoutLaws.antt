@@ -10,7 +10,7 @@ use native.Mathlib.Decide.{le-ind}
 use lib.Dec.{eqb, leb, leb→le}
 use lib.ListN.{length, take, drop, length-drop}
 use lib.Seq.{length-take-le}
-use borrow.Author.Tests.{lt-ltb, le-ltb}
+use borrow.Author.Tests.{lt-ltb, le-ltb, ne-eqb}
 use Rattle.records.specs.Result.{err, ok, pick, andThen}
 use Rattle.records.specs.Record.{memberType, memberCount, typeCount, typeWord, recordWords, structKind, structMembers}
 use Rattle.records.specs.Fields.{fieldsOk}
@@ -35,6 +35,17 @@ pub array-laid : (layouts : ℕ → TypeLayout) (i base count stride : ℕ) (par
 unfolding layoutOf trySize alignmentOf
 array-laid layouts i base count stride part true = refl
 array-laid layouts i base count stride part false = refl
+
+-- above a number and not the next
+pub past : (n : ℕ) {kind : ℕ} → n ≤ kind → (kind ≡ n → ⊥) → n < kind
+past n h d = omega arith
+
+-- no kind lies above 13
+pub no-kind : (m kind a b c d e : ℕ) → 13 < kind → fieldsOk m kind a b c d e ≡ false
+unfolding fieldsOk
+no-kind m kind a b c d e h =
+    let other : (k : ℕ) → k ≤ 13 → eqb kind k ≡ false = λ k l. ne-eqb kind k (λ q. omega arith) in
+    rw (other 0 (omega arith), other 1 (omega arith), other 2 (omega arith), other 3 (omega arith), other 4 (omega arith), other 5 (omega arith), other 6 (omega arith), other 7 (omega arith), other 8 (omega arith), other 9 (omega arith), other 10 (omega arith), other 11 (omega arith), other 12 (omega arith), other 13 (omega arith)) refl
 
 -- ---- one record: what the code made of its words is the layout of the record
 module _ (ts ms : List ℕ) (layouts : ℕ → TypeLayout) (i : ℕ) (w : Words) (read : w ≡ recordWords ts i) where

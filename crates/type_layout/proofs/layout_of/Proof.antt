@@ -1,70 +1,69 @@
 -- `type_layout::layout_of` meets its contract: each arm knows the kind, and the record's meaning computes. Assumes nothing.
 use borrow.Author.Needs.{needs}
-use mathlib.Core.Path.{_≡_, refl, sym, _∙_}
-use mathlib.Core.Bool.{false}
+use mathlib.Core.Path.{_∙_}
+use native.Mathlib.Omega.{arith}
 use denote.Ref.{now}
-use borrow.Author.Tests.{ne-eqb}
 use Rattle.records.specs.Record.{memberCount, typeCount, innerOf, structMembers}
 use Rattle.records.specs.Fields.{fieldsOk}
 use Rattle.type_methods.specs.TypeMethods.{trySize}
 use Rattle.type_layout.specs.TypeLayout.{layoutOf, alignmentOf, layoutsIn}
-use Rattle.type_layout.proofs.TypeLayoutLaws.{by-words, struct-words, unfit-words}
+use Rattle.type_layout.proofs.TypeLayoutLaws.{past, no-kind, by-words, struct-words, unfit-words}
 use Rattle.type_layout.proofs.layout_of.Statement.{statement}
 use Rattle.type_layout.proofs.layout_of.Tie as tie
 
 returns : tie.Need-returns
-returns c = 
+returns c =
     let a = c .before .before .before .before .before .before .args in
     let w = c .before .before .own-record in
     c .scalar-layout .ensures (memberCount (now (a .members))) (typeCount (now (a .types))) (a .i) (layoutsIn (now (a .rows))) (structMembers (now (a .types)) (now (a .members)) (a .i)) ∙ by-words (now (a .types)) (now (a .members)) (layoutsIn (now (a .rows))) (a .i) (w .result) (w .ensures) 0 (c .before .match .keys1)
 
 returns-2 : tie.Need-returns-2
-returns-2 c = 
+returns-2 c =
     let a = c .before .before .before .before .before .before .args in
     let w = c .before .before .own-record in
     c .vector-layout .ensures (memberCount (now (a .members))) (typeCount (now (a .types))) (a .i) (layoutsIn (now (a .rows))) (structMembers (now (a .types)) (now (a .members)) (a .i)) ∙ by-words (now (a .types)) (now (a .members)) (layoutsIn (now (a .rows))) (a .i) (w .result) (w .ensures) 1 (c .before .match .keys2)
 
 returns-3 : tie.Need-returns-3
-returns-3 c = 
+returns-3 c =
     let a = c .before .before .before .before .before .before .args in
     let w = c .before .before .own-record in
     c .matrix-layout .ensures (memberCount (now (a .members))) (typeCount (now (a .types))) (a .i) (layoutsIn (now (a .rows))) (structMembers (now (a .types)) (now (a .members)) (a .i)) ∙ by-words (now (a .types)) (now (a .members)) (layoutsIn (now (a .rows))) (a .i) (w .result) (w .ensures) 2 (c .before .match .keys3)
 
 returns-4 : tie.Need-returns-4
-returns-4 c = 
+returns-4 c =
     let a = c .before .before .before .before .before .before .args in
     let w = c .before .before .own-record in
     c .cooperative-layout .ensures (memberCount (now (a .members))) (typeCount (now (a .types))) (a .i) (layoutsIn (now (a .rows))) (structMembers (now (a .types)) (now (a .members)) (a .i)) ∙ by-words (now (a .types)) (now (a .members)) (layoutsIn (now (a .rows))) (a .i) (w .result) (w .ensures) 3 (c .before .match .keys4)
 
 returns-5 : tie.Need-returns-5
 unfolding fieldsOk innerOf layoutOf trySize alignmentOf
-returns-5 c = 
+returns-5 c =
     let a = c .before .before .before .before .before .before .args in
     let w = c .before .before .own-record in
     c .scalar-layout2 .ensures (memberCount (now (a .members))) (typeCount (now (a .types))) (a .i) (layoutsIn (now (a .rows))) (structMembers (now (a .types)) (now (a .members)) (a .i)) ∙ by-words (now (a .types)) (now (a .members)) (layoutsIn (now (a .rows))) (a .i) (w .result) (w .ensures) 4 (c .before .match .keys5)
 
 returns-6 : tie.Need-returns-6
 unfolding innerOf layoutOf trySize alignmentOf
-returns-6 c = 
+returns-6 c =
     let a = c .before .before .before .before .before .before .before .args in
     let w = c .before .before .before .own-record in
     rw (c .before .pointer-fields .ensures (memberCount (now (a .members))) (w .result .a)) at (c .based-layout .ensures) ∙ by-words (now (a .types)) (now (a .members)) (layoutsIn (now (a .rows))) (a .i) (w .result) (w .ensures) 5 (c .before .before .match .keys6)
 
 returns-7 : tie.Need-returns-7
 unfolding innerOf layoutOf trySize alignmentOf
-returns-7 c = 
+returns-7 c =
     let a = c .before .before .before .before .before .before .before .args in
     let w = c .before .before .before .own-record in
     rw (c .before .value-pointer-fields .ensures (memberCount (now (a .members)))) at (c .handle-layout .ensures) ∙ by-words (now (a .types)) (now (a .members)) (layoutsIn (now (a .rows))) (a .i) (w .result) (w .ensures) 6 (c .before .before .match .keys7)
 
 returns-8 : tie.Need-returns-8
-returns-8 c = 
+returns-8 c =
     let a = c .before .before .before .before .before .before .args in
     let w = c .before .before .own-record in
     c .array-record .ensures (memberCount (now (a .members))) (typeCount (now (a .types))) (structMembers (now (a .types)) (now (a .members)) (a .i)) ∙ by-words (now (a .types)) (now (a .members)) (layoutsIn (now (a .rows))) (a .i) (w .result) (w .ensures) 7 (c .before .match .keys8)
 
 returns-9 : tie.Need-returns-9
-returns-9 c = 
+returns-9 c =
     let a = c .before .before .before .before .before .before .args in
     let w = c .before .before .own-record in
     c .struct-record .ensures (typeCount (now (a .types)))
@@ -72,45 +71,46 @@ returns-9 c =
 
 returns-10 : tie.Need-returns-10
 unfolding innerOf layoutOf trySize alignmentOf
-returns-10 c = 
+returns-10 c =
     let a = c .before .before .before .before .before .before .before .args in
     let w = c .before .before .before .own-record in
     rw (c .before .image-fields .ensures (memberCount (now (a .members)))) at (c .handle-layout2 .ensures) ∙ by-words (now (a .types)) (now (a .members)) (layoutsIn (now (a .rows))) (a .i) (w .result) (w .ensures) 9 (c .before .before .match .keys10)
 
 returns-11 : tie.Need-returns-11
 unfolding innerOf layoutOf trySize alignmentOf
-returns-11 c = 
+returns-11 c =
     let a = c .before .before .before .before .before .before .before .args in
     let w = c .before .before .before .own-record in
     rw (c .before .sampler-fields .ensures (memberCount (now (a .members)))) at (c .handle-layout3 .ensures) ∙ by-words (now (a .types)) (now (a .members)) (layoutsIn (now (a .rows))) (a .i) (w .result) (w .ensures) 10 (c .before .before .match .keys11)
 
 returns-12 : tie.Need-returns-12
 unfolding innerOf layoutOf trySize alignmentOf
-returns-12 c = 
+returns-12 c =
     let a = c .before .before .before .before .before .before .before .args in
     let w = c .before .before .before .own-record in
     rw (c .before .acceleration-fields .ensures (memberCount (now (a .members)))) at (c .handle-layout4 .ensures) ∙ by-words (now (a .types)) (now (a .members)) (layoutsIn (now (a .rows))) (a .i) (w .result) (w .ensures) 11 (c .before .before .match .keys12)
 
 returns-13 : tie.Need-returns-13
 unfolding innerOf layoutOf trySize alignmentOf
-returns-13 c = 
+returns-13 c =
     let a = c .before .before .before .before .before .before .before .args in
     let w = c .before .before .before .own-record in
     rw (c .before .ray-query-fields .ensures (memberCount (now (a .members)))) at (c .handle-layout5 .ensures) ∙ by-words (now (a .types)) (now (a .members)) (layoutsIn (now (a .rows))) (a .i) (w .result) (w .ensures) 12 (c .before .before .match .keys13)
 
 returns-14 : tie.Need-returns-14
 unfolding innerOf layoutOf trySize alignmentOf
-returns-14 c = 
+returns-14 c =
     let a = c .before .before .before .before .before .before .before .args in
     let w = c .before .before .before .own-record in
     rw (c .before .binding-array-fields .ensures (memberCount (now (a .members))) (w .result .a)) at (c .based-layout2 .ensures) ∙ by-words (now (a .types)) (now (a .members)) (layoutsIn (now (a .rows))) (a .i) (w .result) (w .ensures) 13 (c .before .before .match .keys14)
 
 returns-15 : tie.Need-returns-15
-unfolding fieldsOk
-returns-15 c = 
+returns-15 c =
     let a = c .before .before .before .before .before .before .args in
     let w = c .before .before .own-record in
-    let none : fieldsOk (memberCount (now (a .members))) (w .result .kind) (w .result .a) (w .result .b) (w .result .c) (w .result .d) (w .result .e) ≡ false = simp (ne-eqb _ _ (c .before .match .rest .1), ne-eqb _ _ (c .before .match .rest .0 .1), ne-eqb _ _ (c .before .match .rest .0 .0 .1), ne-eqb _ _ (c .before .match .rest .0 .0 .0 .1), ne-eqb _ _ (c .before .match .rest .0 .0 .0 .0 .1), ne-eqb _ _ (c .before .match .rest .0 .0 .0 .0 .0 .1), ne-eqb _ _ (c .before .match .rest .0 .0 .0 .0 .0 .0 .1), ne-eqb _ _ (c .before .match .rest .0 .0 .0 .0 .0 .0 .0 .1), ne-eqb _ _ (c .before .match .rest .0 .0 .0 .0 .0 .0 .0 .0 .1), ne-eqb _ _ (c .before .match .rest .0 .0 .0 .0 .0 .0 .0 .0 .0 .1), ne-eqb _ _ (c .before .match .rest .0 .0 .0 .0 .0 .0 .0 .0 .0 .0 .1), ne-eqb _ _ (c .before .match .rest .0 .0 .0 .0 .0 .0 .0 .0 .0 .0 .0 .1), ne-eqb _ _ (c .before .match .rest .0 .0 .0 .0 .0 .0 .0 .0 .0 .0 .0 .0 .1), ne-eqb _ _ (c .before .match .rest .0 .0 .0 .0 .0 .0 .0 .0 .0 .0 .0 .0 .0 .1)) refl in
+    let r = c .before .match .rest in
+    let above = past 13 (past 12 (past 11 (past 10 (past 9 (past 8 (past 7 (past 6 (past 5 (past 4 (past 3 (past 2 (past 1 (past 0 {kind = w .result .kind} (omega arith) (r .0 .0 .0 .0 .0 .0 .0 .0 .0 .0 .0 .0 .0 .1)) (r .0 .0 .0 .0 .0 .0 .0 .0 .0 .0 .0 .0 .1)) (r .0 .0 .0 .0 .0 .0 .0 .0 .0 .0 .0 .1)) (r .0 .0 .0 .0 .0 .0 .0 .0 .0 .0 .1)) (r .0 .0 .0 .0 .0 .0 .0 .0 .0 .1)) (r .0 .0 .0 .0 .0 .0 .0 .0 .1)) (r .0 .0 .0 .0 .0 .0 .0 .1)) (r .0 .0 .0 .0 .0 .0 .1)) (r .0 .0 .0 .0 .0 .1)) (r .0 .0 .0 .0 .1)) (r .0 .0 .0 .1)) (r .0 .0 .1)) (r .0 .1)) (r .1) in
+    let none = no-kind (memberCount (now (a .members))) (w .result .kind) (w .result .a) (w .result .b) (w .result .c) (w .result .d) (w .result .e) above in
     c .unfit .ensures ∙ unfit-words (now (a .types)) (now (a .members)) (layoutsIn (now (a .rows))) (a .i) (w .result) (w .ensures) none
 
 pub layout-of-spec : {M : Type 1} → statement M
