@@ -21,7 +21,7 @@ use Rattle.type_layout.specs.declared.TypeLayout.{TypeLayout}
 use Rattle.type_layout.specs.declared.Laid.{Laid}
 use Rattle.type_layout.specs.declared.Laid.the-variants as laid
 use Rattle.type_layout.specs.TypeLayout.{recordLayout, layoutsIn, laidResult}
-use Rattle.layouter.specs.Layouter.{noLayout, layoutStep, layoutAt, layout, layoutOutcome, recordThenLayout, layoutRowAt, wordsAfter}
+use Rattle.layouter.specs.Layouter.{noLayout, layoutStep, layoutAt, layout, layoutOutcome, recordThenLayout, layoutRowAt, rowsAfter, wordsAfter}
 
 -- the tests of numbers 2 and 3 and then the rest, apart or in one
 two-required : (two three : Bool) (rest : Result TypeLayout)
@@ -89,9 +89,9 @@ module _ (ts ms : List ℕ) where
   unfolding layoutOutcome
   all-accepted e =
       let apart : (i : ℕ) → i < typeCount ts → (u : Unit {0}) × (recordAt ts ms i ≡ ok u) × ((l : TypeLayout) × (layoutAt (decoded ts ms) i ≡ ok l)) =
-          λ i h. let a = all-ok (recordThenLayout ts ms) (typeCount ts) e i h in
-              let p = and-then-ok (recordAt ts ms i) (λ _. layoutAt (decoded ts ms) i) (a .0) (a .1) in
-              (p .0, p .1, (a .0, p .2)) in
+      λ i h. let a = all-ok (recordThenLayout ts ms) (typeCount ts) e i h in
+      let p = and-then-ok (recordAt ts ms i) (λ _. layoutAt (decoded ts ms) i) (a .0) (a .1) in
+      (p .0, p .1, (a .0, p .2)) in
       rw (
         accepted-all (recordAt ts ms) (typeCount ts) (λ i h. let p = apart i h in (p .0, p .1)),
         accepted-all (layoutAt (decoded ts ms)) (typeCount ts) (λ i h. apart i h .2),
@@ -114,3 +114,9 @@ module _ (ts ms : List ℕ) where
           → also o (firstRefusal (recordThenLayout ts ms) (typeCount ts)) ≡ also o (firstRefusal (layoutAt (decoded ts ms)) (typeCount ts))
       go Accepted e = layouts-alone (typeCount ts) e
       go (Refused number ty member detail) e = refl
+
+-- a refusal leaves the same zeros, whichever it is
+pub refused-rows : (first second : Outcome) (rows : List ℕ) (n : ℕ) (words : List ℕ) {number ty member detail : ℕ}
+    → second ≡ Refused number ty member detail → rowsAfter (also first second) rows n words ≡ rowsAfter second rows n words
+refused-rows Accepted second rows n words e = refl
+refused-rows (Refused number ty member detail) second rows n words e = rw e refl

@@ -1,58 +1,40 @@
 use borrow.Author.Needs.{needs}
+use mathlib.Core.Path.{sym, _∙_}
+use denote.Ref.{now}
+use Rattle.layouter.specs.Layouter.{layoutRows}
+use Rattle.layouter.proofs.LayoutLaws.{all-accepted, also-layouts, refused-rows}
 use Rattle.layouter.proofs.layout_tables.Statement.{statement}
 use Rattle.layouter.proofs.layout_tables.Tie as tie
-use Rattle.layouter.proofs.layout_tables.Reads as reads
-use Rattle.layouter.proofs.layout_tables.Lts as lts
-use Rattle.fields.proofs.records_ok.Reads as records-ok-reads
-use Rattle.layouter.proofs.first_of.Reads as first-of-reads
-use Rattle.layouter.proofs.layout_all.Reads as layout-all-reads
 
--- src/lib.rt:82:9
-layout-all-requires : tie.Need-layout-all-requires
-layout-all-requires c κs = search needs
-
--- src/lib.rt:84:30
-enum-told : tie.Need-enum-told
-enum-told c = search needs
-
--- src/lib.rt:90:23
-enum-told-2 : tie.Need-enum-told-2
-enum-told-2 c = search needs
-
--- src/lib.rt:90:23
-records-ok-requires : tie.Need-records-ok-requires
-records-ok-requires c κs = search needs
-
--- src/lib.rt:90:14
-first-of-requires : tie.Need-first-of-requires
-first-of-requires c κs = search needs
-
--- src/lib.rt:76:1
-same-length : tie.Need-same-length
-same-length c = search needs
-
--- src/lib.rt:76:1
 returns : tie.Need-returns
-returns c = ?
+returns c =
+    let s = c .before .before .before .before .before .before .before .before .before in
+    let f = c .before .before .before .before .layout-all in
+    let e = c .enum-told .given .1 in
+    (e ∙ sym (all-accepted (now (s .args .types)) (now (s .args .members)) (rw (s .pre .1) at (sym (f .ensures .0) ∙ e))), f .ensures .1)
 
--- src/lib.rt:76:1
-same-length-2 : tie.Need-same-length-2
-same-length-2 c = search needs
-
--- src/lib.rt:76:1
 returns-2 : tie.Need-returns-2
-returns-2 c = ?
+returns-2 c =
+    let s = c .before .before .before .before .before .before .before .before .before .before .before in
+    let f = c .before .before .before .before .before .before .layout-all in
+    let e = c .before .before .enum-told2 .given .1 in
+    let types = now (s .args .types) in
+    let members = now (s .args .members) in
+    let first = rw (c .before .records-ok .ensures) at (c .first-of .ensures) in (
+      rw (f .ensures .0, s .pre .1) at first ∙ also-layouts types members,
+      rw (c .first-of .ensures, refused-rows (c .before .records-ok .result) (f .result) (layoutRows types members (s .args .n)) (s .args .n) (now (s .args .rows)) e) (f .ensures .1),
+    )
 
 pub layout-tables-spec : {M : Type 1} → statement M
 layout-tables-spec =
     tie.close
     (tie.spec
-    layout-all-requires
-    enum-told
-    enum-told-2
-    records-ok-requires
-    first-of-requires
-    same-length
+    (λ c κs. search needs)
+    (λ c. search needs)
+    (λ c. search needs)
+    (λ c κs. search needs)
+    (λ c κs. search needs)
+    (λ c. search needs)
     returns
-    same-length-2
+    (λ c. search needs)
     returns-2)
