@@ -1,4 +1,4 @@
--- Laws of layouts: the loop over types.
+-- Laws of layouts: the loop over types, the call.
 -- Assumes nothing.
 use mathlib.Core.Path.{_≡_, refl, sym, ap, fun-ext, _∙_}
 use mathlib.Core.Bool.{Bool, true, false}
@@ -84,17 +84,21 @@ module _ (ts ms : List ℕ) where
 
 -- ---- the call: numbers 2 to 7 type by type, against 2 and 3 of all types and then 4 to 7
 module _ (ts ms : List ℕ) where
-  -- where each type passes 2 to 7, all pass 2 and 3 and all pass 4 to 7
+  -- where the first n types pass 2 to 7, each passes 2 and 3, and 4 to 7
+  apart : (n : ℕ) → firstRefusal (recordThenLayout ts ms) n ≡ Accepted → (i : ℕ) → i < n
+      → (u : Unit {0}) × (recordAt ts ms i ≡ ok u) × ((l : TypeLayout) × (layoutAt (decoded ts ms) i ≡ ok l))
+  apart n e i h =
+      let a = all-ok (recordThenLayout ts ms) n e i h in
+      let p = and-then-ok (recordAt ts ms i) (λ _. layoutAt (decoded ts ms) i) (a .0) (a .1) in
+      (p .0, p .1, (a .0, p .2))
+
   pub all-accepted : firstRefusal (recordThenLayout ts ms) (typeCount ts) ≡ Accepted → layoutOutcome ts ms ≡ Accepted
   unfolding layoutOutcome
   all-accepted e =
-      let apart : (i : ℕ) → i < typeCount ts → (u : Unit {0}) × (recordAt ts ms i ≡ ok u) × ((l : TypeLayout) × (layoutAt (decoded ts ms) i ≡ ok l)) =
-      λ i h. let a = all-ok (recordThenLayout ts ms) (typeCount ts) e i h in
-      let p = and-then-ok (recordAt ts ms i) (λ _. layoutAt (decoded ts ms) i) (a .0) (a .1) in
-      (p .0, p .1, (a .0, p .2)) in
+      let n = typeCount ts in
       rw (
-        accepted-all (recordAt ts ms) (typeCount ts) (λ i h. let p = apart i h in (p .0, p .1)),
-        accepted-all (layoutAt (decoded ts ms)) (typeCount ts) (λ i h. apart i h .2),
+        accepted-all (recordAt ts ms) n (λ i h. let p = apart n e i h in (p .0, p .1)),
+        accepted-all (layoutAt (decoded ts ms)) n (λ i h. apart n e i h .2),
       ) refl
 
   -- where the first n records pass 2 and 3, the first refusal is that of 4 to 7

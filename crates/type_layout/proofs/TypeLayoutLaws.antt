@@ -1,6 +1,6 @@
 -- Laws of layouts: one type, one record, the loop over members.
 -- Assumes nothing.
-use mathlib.Core.Path.{_≡_, refl}
+use mathlib.Core.Path.{_≡_, refl, sym, _∙_}
 use mathlib.Core.Bool.{Bool, true, false, _&&_}
 use mathlib.Core.List.{List}
 use Prim.Native.Nat.{ℕ, _+_, _*_, _≤_, _<_, max}
@@ -12,12 +12,12 @@ use lib.ListN.{length, take, drop, length-drop}
 use lib.Seq.{length-take-le}
 use borrow.Author.Tests.{lt-ltb, le-ltb, ne-eqb}
 use Rattle.records.specs.Result.{err, ok, pick, andThen}
-use Rattle.records.specs.Record.{memberType, memberCount, typeCount, typeWord, recordWords, structKind, structMembers}
-use Rattle.records.specs.Fields.{fieldsOk}
+use Rattle.records.specs.Record.{memberType, memberCount, typeCount, typeWord, recordWords, structKind, structMembers, innerOf}
+use Rattle.records.specs.Fields.{fieldsOk, InnerBounds}
 use Rattle.records.specs.declared.Words.{Words}
 use Rattle.records.specs.declared.TypeInner.the-variants.{Array, RuntimeArray}
 use Rattle.records.proofs.ResultLaws.{true-T, and-left}
-use Rattle.records.proofs.RecordLaws.{members-part}
+use Rattle.records.proofs.RecordLaws.{members-part, fields-bounds}
 use Rattle.alignment.proofs.PowerLaws.{vector-within}
 use Rattle.alignment.specs.Alignment.{vectorAlignment}
 use Rattle.type_methods.specs.TypeMethods.{arraySize, runtimeArraySize, trySize}
@@ -28,6 +28,10 @@ use Rattle.type_layout.specs.TypeLayout.{membersAlignment, baseAlignment
 pub factor-within : (n : ℕ) → vectorAlignment n ≤ 16
 factor-within n = omega (arith, vector-within n)
 
+-- the bounds of the fields behind a test that was taken
+pub taken-bounds : (kind a b c d e : ℕ) (test : Bool) → ((m : ℕ) → test ≡ fieldsOk m kind a b c d e) → test ≡ true → InnerBounds (innerOf kind a b c d e)
+taken-bounds kind a b c d e test is taken = fields-bounds 0 kind a b c d e (true-T (sym (is 0) ∙ taken))
+
 -- an array, by its form
 pub array-laid : (layouts : ℕ → TypeLayout) (i base count stride : ℕ) (part : List ℕ) (t : Bool)
     → andThen (pick t (arraySize count stride) (runtimeArraySize stride)) (sizedLayout (baseAlignment layouts i base))
@@ -36,7 +40,7 @@ unfolding layoutOf trySize alignmentOf
 array-laid layouts i base count stride part true = refl
 array-laid layouts i base count stride part false = refl
 
--- above a number and not the next
+-- not below a number and not that number
 pub past : (n : ℕ) {kind : ℕ} → n ≤ kind → (kind ≡ n → ⊥) → n < kind
 past n h d = omega arith
 
@@ -45,9 +49,24 @@ pub no-kind : (m kind a b c d e : ℕ) → 13 < kind → fieldsOk m kind a b c d
 unfolding fieldsOk
 no-kind m kind a b c d e h =
     let other : (k : ℕ) → k ≤ 13 → eqb kind k ≡ false = λ k l. ne-eqb kind k (λ q. omega arith) in
-    rw (other 0 (omega arith), other 1 (omega arith), other 2 (omega arith), other 3 (omega arith), other 4 (omega arith), other 5 (omega arith), other 6 (omega arith), other 7 (omega arith), other 8 (omega arith), other 9 (omega arith), other 10 (omega arith), other 11 (omega arith), other 12 (omega arith), other 13 (omega arith)) refl
+    rw (
+      other 0 (omega arith),
+      other 1 (omega arith),
+      other 2 (omega arith),
+      other 3 (omega arith),
+      other 4 (omega arith),
+      other 5 (omega arith),
+      other 6 (omega arith),
+      other 7 (omega arith),
+      other 8 (omega arith),
+      other 9 (omega arith),
+      other 10 (omega arith),
+      other 11 (omega arith),
+      other 12 (omega arith),
+      other 13 (omega arith),
+    ) refl
 
--- ---- one record: what the code made of its words is the layout of the record
+-- ---- one record, by the words that were read of it
 module _ (ts ms : List ℕ) (layouts : ℕ → TypeLayout) (i : ℕ) (w : Words) (read : w ≡ recordWords ts i) where
   pub by-words : (kind : ℕ) → w .kind ≡ kind
       → wordsLayout (memberCount ms) (typeCount ts) layouts i kind (w .a) (w .b) (w .c) (w .d) (w .e) (structMembers ts ms i) ≡ recordLayout ts ms layouts i
@@ -72,7 +91,8 @@ pub struct-words : (ts ms : List ℕ) (layouts : ℕ → TypeLayout) (i : ℕ) (
     → wordsLayout (memberCount ms) (typeCount ts) layouts i structKind (w .a) (w .b) (w .c) (w .d) (w .e) (take (w .b * 2) (drop (w .a * 2) ms))
     ≡ recordLayout ts ms layouts i
 unfolding recordLayout
-struct-words ts ms layouts i w read k h = rw read (go (fieldsOk (memberCount ms) structKind (typeWord ts i 1) (typeWord ts i 2) (typeWord ts i 3) (typeWord ts i 4) (typeWord ts i 5)) refl)
+struct-words ts ms layouts i w read k h =
+    rw read (go (fieldsOk (memberCount ms) structKind (typeWord ts i 1) (typeWord ts i 2) (typeWord ts i 3) (typeWord ts i 4) (typeWord ts i 5)) refl)
   where
     kind : typeWord ts i 0 ≡ structKind
     kind = rw read at k

@@ -45,7 +45,7 @@ returns c =
     let refused = rw (c .before .before .before .before .before .number .given .1) at (sym at) in
     let same = rw (c .before .before .before .before .before .number .given .1) at (la .layout-at .ensures .1) in (
       sym (stays (recordThenLayout (now (a .types)) (now (a .members))) (l .loop .i) (l .loop .inv .1) (rw refused refl) (a .n) (la .before .before .loop-test .taken)),
-      rw (← l .loop .inv .3, ← same) (c .before .before .clear .ensures),
+      rw (same, l .loop .inv .3) at (c .before .before .clear .ensures),
     )
 
 loop-again : tie.Need-loop-again Inv-loop μ-loop

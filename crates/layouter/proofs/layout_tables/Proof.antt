@@ -20,9 +20,9 @@ returns-2 c =
     let e = c .before .before .enum-told2 .given .1 in
     let types = now (s .args .types) in
     let members = now (s .args .members) in
-    let first = rw (c .before .records-ok .ensures) at (c .first-of .ensures) in (
-      rw (f .ensures .0, s .pre .1) at first ∙ also-layouts types members,
-      rw (c .first-of .ensures, refused-rows (c .before .records-ok .result) (f .result) (layoutRows types members (s .args .n)) (s .args .n) (now (s .args .rows)) e) (f .ensures .1),
+    let zeros = refused-rows (c .before .records-ok .result) (f .result) (layoutRows types members (s .args .n)) (s .args .n) (now (s .args .rows)) e in (
+      rw (c .before .records-ok .ensures, f .ensures .0, s .pre .1) at (c .first-of .ensures) ∙ also-layouts types members,
+      rw (c .first-of .ensures, zeros) (f .ensures .1),
     )
 
 pub layout-tables-spec : {M : Type 1} → statement M

@@ -21,42 +21,12 @@ loop-holds : tie.Need-loop-holds Inv-loop μ-loop
 unfolding membersAlignment
 loop-holds c = (search needs, refl)
 
-own-type-requires : tie.Need-own-type-requires Inv-loop μ-loop
-own-type-requires c κs = search needs
-
-cast-t10 : tie.Need-cast-t10 Inv-loop μ-loop
-cast-t10 c = search needs
-
 returns : tie.Need-returns Inv-loop μ-loop
 returns c =
     let l = c .before .before .before .loop in
     let a = c .before .before .before .before .before .before .args in
     let late = rw (c .before .own-type .ensures) at (c .if1 .taken) in
     sym (member-late (layoutsIn (now (a .rows))) (a .i) (now (a .part)) (l .j) (l .a) (l .inv .1) late (a .count) (c .before .before .loop-test .taken))
-
-cast-larger : tie.Need-cast-larger Inv-loop μ-loop
-cast-larger c = search needs
-
-mul-larger : tie.Need-mul-larger Inv-loop μ-loop
-mul-larger c = search needs
-
-add-larger : tie.Need-add-larger Inv-loop μ-loop
-add-larger c = search needs
-
-mul-larger-2 : tie.Need-mul-larger-2 Inv-loop μ-loop
-mul-larger-2 c = search needs
-
-shared-slice-read-larger : tie.Need-shared-slice-read-larger Inv-loop μ-loop
-shared-slice-read-larger c = search needs
-
-larger-requires : tie.Need-larger-requires Inv-loop μ-loop
-larger-requires c κs = search needs
-
-add-j : tie.Need-add-j Inv-loop μ-loop
-add-j c = search needs
-
-loop-less : tie.Need-loop-less Inv-loop μ-loop
-loop-less c = search needs
 
 loop-again : tie.Need-loop-again Inv-loop μ-loop
 loop-again c =
@@ -78,16 +48,16 @@ members-alignment-spec =
     Inv-loop
     μ-loop
     loop-holds
-    own-type-requires
-    cast-t10
+    (λ c κs. search needs)
+    (λ c. search needs)
     returns
-    cast-larger
-    mul-larger
-    add-larger
-    mul-larger-2
-    shared-slice-read-larger
-    larger-requires
-    add-j
-    loop-less
+    (λ c. search needs)
+    (λ c. search needs)
+    (λ c. search needs)
+    (λ c. search needs)
+    (λ c. search needs)
+    (λ c κs. search needs)
+    (λ c. search needs)
+    (λ c. search needs)
     loop-again
     returns-2)
