@@ -15,7 +15,7 @@ use Rattle.records.specs.declared.Outcome.{Outcome}
 use Rattle.records.specs.declared.Outcome.the-variants.{Accepted, Refused}
 use Rattle.records.proofs.ResultLaws.{and-then-ok}
 use Rattle.records.proofs.TableLaws.{table-value, table-above, value-ok, flat-length, flat-word, all-ok, accepted-all, also-accepted, outcome-accepted}
-use Rattle.rows.specs.Rows.{rowWord, withRow}
+use Rattle.rows.specs.Rows.{rowWord, withRow, cleared}
 use Rattle.rows.proofs.RowLaws.{flat-more, drop-row}
 use Rattle.type_layout.specs.declared.TypeLayout.{TypeLayout}
 use Rattle.type_layout.specs.declared.Laid.{Laid}
@@ -81,6 +81,11 @@ module _ (ts ms : List ℕ) where
 
       pub rest-kept : (n : ℕ) → i < n → drop (n * rowWords) rows′ ≡ drop (n * rowWords) rows
       rest-kept n h = rw written (drop-row rows (layoutRowAt ts ms i) (i * rowWords) refl room (n * rowWords) (omega arith))
+
+-- zeros before what is as it was
+pub zeros-kept : (n : ℕ) (lent : List ℕ) {rows rows′ end : List ℕ} → rows′ ≡ rows → drop n rows ≡ drop n lent
+    → end ≡ cleared rows′ n → end ≡ cleared lent n
+zeros-kept n lent same kept e = rw (same, kept) at e
 
 -- ---- the call: numbers 2 to 7 type by type, against 2 and 3 of all types and then 4 to 7
 module _ (ts ms : List ℕ) where

@@ -12,7 +12,7 @@ use Rattle.records.specs.Table.{firstRefusal, flat}
 use Rattle.records.specs.declared.Outcome.the-variants.{Accepted}
 use Rattle.records.proofs.TableLaws.{stays}
 use Rattle.layouter.specs.Layouter.{recordThenLayout, layoutRowAt, layoutRows}
-use Rattle.layouter.proofs.LayoutLaws.{laid-at, row-written, rest-kept}
+use Rattle.layouter.proofs.LayoutLaws.{laid-at, row-written, rest-kept, zeros-kept}
 use Rattle.layouter.proofs.layout_all.Statement.{statement}
 use Rattle.layouter.proofs.layout_all.Tie as tie
 
@@ -45,7 +45,7 @@ returns c =
     let refused = rw (c .before .before .before .before .before .number .given .1) at (sym at) in
     let same = rw (c .before .before .before .before .before .number .given .1) at (la .layout-at .ensures .1) in (
       sym (stays (recordThenLayout (now (a .types)) (now (a .members))) (l .loop .i) (l .loop .inv .1) (rw refused refl) (a .n) (la .before .before .loop-test .taken)),
-      rw (same, l .loop .inv .3) at (c .before .before .clear .ensures),
+      zeros-kept (a .n * 14) (now (a .rows)) same (l .loop .inv .3) (c .before .before .clear .ensures),
     )
 
 loop-again : tie.Need-loop-again Inv-loop μ-loop
