@@ -1,30 +1,36 @@
--- Laws of layouts: one type, the loop over members.
+-- Laws of layouts: one type, one record, the loop over members.
 -- Assumes nothing.
-use mathlib.Core.Path.{_≡_, refl}
-use mathlib.Core.Bool.{Bool, true, false}
+use mathlib.Core.Path.{_≡_, refl, sym, _∙_}
+use mathlib.Core.Bool.{Bool, true, false, _&&_}
 use mathlib.Core.List.{List}
-use Prim.Native.Nat.{ℕ, _+_, _≤_, _<_, max}
+use Prim.Native.Nat.{ℕ, _+_, _*_, _≤_, _<_, max}
 use native.Mathlib.Omega.{arith}
 use native.Mathlib.Numerals.{add-one}
 use native.Mathlib.Decide.{le-ind}
-use lib.Dec.{eqb}
-use borrow.Author.Tests.{lt-ltb, le-ltb}
+use lib.Dec.{eqb, leb, leb→le}
+use lib.ListN.{length, take, drop, length-drop}
+use lib.Seq.{length-take-le}
+use borrow.Author.Tests.{lt-ltb, le-ltb, ne-eqb}
 use Rattle.records.specs.Result.{err, ok, pick, andThen}
-use Rattle.records.specs.Record.{memberType, imageKind, samplerKind, accelerationStructureKind, rayQueryKind}
-use Rattle.records.specs.declared.Leaf.the-variants.{RayQuery}
-use Rattle.records.specs.declared.NonData.the-variants.{Image, Sampler, AccelerationStructure, BindingArray}
-use Rattle.records.specs.declared.TypeInner.{TypeInner}
-use Rattle.records.specs.declared.TypeInner.the-variants.{Plain, Array, RuntimeArray, Other}
-use Rattle.records.proofs.ResultLaws.{pick-alike}
+use Rattle.records.specs.Record.{memberType, memberCount, typeCount, typeWord, recordWords, structKind, structMembers, innerOf}
+use Rattle.records.specs.Fields.{fieldsOk, InnerBounds}
+use Rattle.records.specs.declared.Words.{Words}
+use Rattle.records.specs.declared.TypeInner.the-variants.{Array, RuntimeArray}
+use Rattle.records.proofs.ResultLaws.{true-T, and-left}
+use Rattle.records.proofs.RecordLaws.{members-part, fields-bounds}
 use Rattle.alignment.proofs.PowerLaws.{vector-within}
 use Rattle.alignment.specs.Alignment.{vectorAlignment}
 use Rattle.type_methods.specs.TypeMethods.{arraySize, runtimeArraySize, trySize}
 use Rattle.type_layout.specs.declared.TypeLayout.{TypeLayout}
-use Rattle.type_layout.specs.TypeLayout.{membersAlignment, baseAlignment, alignmentOf, sizedLayout, layoutOf}
+use Rattle.type_layout.specs.TypeLayout.{membersAlignment, baseAlignment, alignmentOf, sizedLayout, layoutOf, wordsLayout, recordLayout}
 
 -- ---- one type
 pub factor-within : (n : ℕ) → vectorAlignment n ≤ 16
 factor-within n = omega (arith, vector-within n)
+
+-- the bounds of the fields behind a test that was taken
+pub taken-bounds : (kind a b c d e : ℕ) (test : Bool) → ((m : ℕ) → test ≡ fieldsOk m kind a b c d e) → test ≡ true → InnerBounds (innerOf kind a b c d e)
+taken-bounds kind a b c d e test is taken = fields-bounds 0 kind a b c d e (true-T (sym (is 0) ∙ taken))
 
 -- an array, by its form
 pub array-laid : (layouts : ℕ → TypeLayout) (i base count stride : ℕ) (part : List ℕ) (t : Bool)
@@ -34,22 +40,71 @@ unfolding layoutOf trySize alignmentOf
 array-laid layouts i base count stride part true = refl
 array-laid layouts i base count stride part false = refl
 
--- images, samplers, acceleration structures, ray queries and binding arrays measure nothing
-pub handle-laid : (layouts : ℕ → TypeLayout) (i kind a b c : ℕ) (part : List ℕ)
-    → layoutOf layouts i
-    (pick (eqb kind imageKind) (Other (Image a b c))
-    (pick (eqb kind samplerKind) (Other Sampler)
-    (pick (eqb kind accelerationStructureKind) (Other (AccelerationStructure a))
-    (pick (eqb kind rayQueryKind) (Plain (RayQuery a)) (Other (BindingArray a b c))))))
-    part
-    ≡ ok (record { size = 0; alignment = 1 })
-unfolding layoutOf trySize alignmentOf
-handle-laid layouts i kind a b c part =
-    let alike = pick-alike (λ (x : TypeInner). layoutOf layouts i x part) (ok (record { size = 0; alignment = 1 })) in
-    alike (eqb kind imageKind) _ _ refl
-    (alike (eqb kind samplerKind) _ _ refl
-    (alike (eqb kind accelerationStructureKind) _ _ refl
-    (alike (eqb kind rayQueryKind) _ _ refl refl)))
+-- not below a number and not that number
+pub past : (n : ℕ) {kind : ℕ} → n ≤ kind → (kind ≡ n → ⊥) → n < kind
+past n h d = omega arith
+
+-- no kind lies above 13
+pub no-kind : (m kind a b c d e : ℕ) → 13 < kind → fieldsOk m kind a b c d e ≡ false
+unfolding fieldsOk
+no-kind m kind a b c d e h =
+    let other : (k : ℕ) → k ≤ 13 → eqb kind k ≡ false = λ k l. ne-eqb kind k (λ q. omega arith) in
+    rw (
+      other 0 (omega arith),
+      other 1 (omega arith),
+      other 2 (omega arith),
+      other 3 (omega arith),
+      other 4 (omega arith),
+      other 5 (omega arith),
+      other 6 (omega arith),
+      other 7 (omega arith),
+      other 8 (omega arith),
+      other 9 (omega arith),
+      other 10 (omega arith),
+      other 11 (omega arith),
+      other 12 (omega arith),
+      other 13 (omega arith),
+    ) refl
+
+-- ---- one record, by the words that were read of it
+module _ (ts ms : List ℕ) (layouts : ℕ → TypeLayout) (i : ℕ) (w : Words) (read : w ≡ recordWords ts i) where
+  pub by-words : (kind : ℕ) → w .kind ≡ kind
+      → wordsLayout (memberCount ms) (typeCount ts) layouts i kind (w .a) (w .b) (w .c) (w .d) (w .e) (structMembers ts ms i) ≡ recordLayout ts ms layouts i
+  unfolding recordLayout
+  by-words kind e = rw (← e, read) refl
+
+  pub unfit-words : fieldsOk (memberCount ms) (w .kind) (w .a) (w .b) (w .c) (w .d) (w .e) ≡ false → err 2 0 0 ≡ recordLayout ts ms layouts i
+  unfolding recordLayout
+  unfit-words e = rw (rw read at e) refl
+
+-- the member rows of a struct whose fields are in order lie in the table
+pub members-within : (m a b c d e : ℕ) → fieldsOk m structKind a b c d e ≡ true → a + b ≤ m
+unfolding fieldsOk
+members-within m a b c d e h =
+    leb→le (a + b) m (and-left (leb (a + b) m) (eqb d 0) (and-left (leb (a + b) m && eqb d 0) (eqb e 0) (true-T h)))
+
+pub part-length : (ms : List ℕ) (first count : ℕ) → first + count ≤ memberCount ms → length (take (count * 2) (drop (first * 2) ms)) ≡ count * 2
+part-length ms first count h = length-take-le (count * 2) (drop (first * 2) ms) (rw (length-drop (first * 2) ms) (omega (arith, h)))
+
+-- a struct: its rows are read only where its fields are in order
+pub struct-words : (ts ms : List ℕ) (layouts : ℕ → TypeLayout) (i : ℕ) (w : Words) → w ≡ recordWords ts i → w .kind ≡ structKind → i * 6 + 6 ≤ length ts
+    → wordsLayout (memberCount ms) (typeCount ts) layouts i structKind (w .a) (w .b) (w .c) (w .d) (w .e) (take (w .b * 2) (drop (w .a * 2) ms))
+    ≡ recordLayout ts ms layouts i
+unfolding recordLayout
+struct-words ts ms layouts i w read k h =
+    rw read (go (fieldsOk (memberCount ms) structKind (typeWord ts i 1) (typeWord ts i 2) (typeWord ts i 3) (typeWord ts i 4) (typeWord ts i 5)) refl)
+  where
+    kind : typeWord ts i 0 ≡ structKind
+    kind = rw read at k
+
+    go : (t : Bool) → fieldsOk (memberCount ms) structKind (typeWord ts i 1) (typeWord ts i 2) (typeWord ts i 3) (typeWord ts i 4) (typeWord ts i 5) ≡ t
+        → wordsLayout (memberCount ms) (typeCount ts) layouts i structKind (typeWord ts i 1) (typeWord ts i 2) (typeWord ts i 3) (typeWord ts i 4) (typeWord ts i 5)
+        (take (typeWord ts i 2 * 2) (drop (typeWord ts i 1 * 2) ms))
+        ≡ recordLayout ts ms layouts i
+    go true e =
+        let within = members-within (memberCount ms) (typeWord ts i 1) (typeWord ts i 2) (typeWord ts i 3) (typeWord ts i 4) (typeWord ts i 5) e in
+        rw (members-part ts ms i (omega (arith, h)) kind within, kind) refl
+    go false e = rw (kind, e) refl
 
 -- ---- the loop over members
 module _ (layouts : ℕ → TypeLayout) (i : ℕ) (part : List ℕ) (j a : ℕ) (so-far : membersAlignment layouts i part j ≡ ok a) where

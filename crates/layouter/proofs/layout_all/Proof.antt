@@ -1,4 +1,4 @@
--- `layouter::layout_all` meets its contract. The invariant: the first i types have layouts, which stand in their rows, and what stands
+-- `layouter::layout_all` meets its contract. The invariant: the first i types pass numbers 2 to 7, their layouts stand in their rows, and what stands
 -- behind the n rows is as it was. Assumes nothing.
 use borrow.Author.Needs.{needs}
 use mathlib.Core.Path.{_≡_, refl, sym, _∙_}
@@ -8,19 +8,18 @@ use native.Mathlib.Numerals.{add-one}
 use native.Mathlib.Omega.{arith}
 use lib.ListN.{length, take, drop, take-append-drop}
 use denote.Ref.{now}
-use Rattle.records.specs.Record.{decoded}
 use Rattle.records.specs.Table.{firstRefusal, flat}
 use Rattle.records.specs.declared.Outcome.the-variants.{Accepted}
 use Rattle.records.proofs.TableLaws.{stays}
-use Rattle.layouter.specs.Layouter.{layoutAt, layoutRowAt, layoutRows}
-use Rattle.layouter.proofs.LayoutLaws.{laid-at, row-written, rest-kept}
+use Rattle.layouter.specs.Layouter.{recordThenLayout, layoutRowAt, layoutRows}
+use Rattle.layouter.proofs.LayoutLaws.{laid-at, row-written, rest-kept, zeros-kept}
 use Rattle.layouter.proofs.layout_all.Statement.{statement}
 use Rattle.layouter.proofs.layout_all.Tie as tie
 
 abbrev Inv-loop : tie.InvT-loop
 Inv-loop types members rows₀ n i₀ rows i =
     (i ≤ n)
-    × (firstRefusal (layoutAt (decoded types members)) i ≡ Accepted)
+    × (firstRefusal (recordThenLayout types members) i ≡ Accepted)
     × (take (i * 14) rows ≡ flat (layoutRowAt types members) i)
     × (drop (n * 14) rows ≡ drop (n * 14) rows₀)
     × (length rows ≡ length rows₀)
@@ -32,7 +31,7 @@ loop-holds : tie.Need-loop-holds Inv-loop μ-loop
 loop-holds c = (search needs, refl, refl, refl, refl)
 
 layout-at-requires : tie.Need-layout-at-requires Inv-loop μ-loop
-layout-at-requires c κs = let l = c .before .before .loop in (omega arith, c .before .before .before .before .before .before .pre .1 (l .i) (c .before .loop-test .taken))
+layout-at-requires c κs = (omega arith, omega arith)
 
 clear-requires : tie.Need-clear-requires Inv-loop μ-loop
 clear-requires c κs = omega (arith, c .before .before .before .before .before .before .layout-at .kept .1 .1 .0)
@@ -45,8 +44,8 @@ returns c =
     let at = laid-at (now (a .types)) (now (a .members)) (l .loop .rows) (l .loop .i) (la .layout-at .result) (l .loop .inv .2) (la .layout-at .ensures .0) in
     let refused = rw (c .before .before .before .before .before .number .given .1) at (sym at) in
     let same = rw (c .before .before .before .before .before .number .given .1) at (la .layout-at .ensures .1) in (
-      sym (stays (layoutAt (decoded (now (a .types)) (now (a .members)))) (l .loop .i) (l .loop .inv .1) (rw refused refl) (a .n) (la .before .before .loop-test .taken)),
-      rw (← l .loop .inv .3, ← same) (c .before .before .clear .ensures),
+      sym (stays (recordThenLayout (now (a .types)) (now (a .members))) (l .loop .i) (l .loop .inv .1) (rw refused refl) (a .n) (la .before .before .loop-test .taken)),
+      zeros-kept (a .n * 14) (now (a .rows)) same (l .loop .inv .3) (c .before .before .clear .ensures),
     )
 
 loop-again : tie.Need-loop-again Inv-loop μ-loop

@@ -12,10 +12,10 @@ use Rattle.type_layout.proofs.members_alignment.Statement.{statement}
 use Rattle.type_layout.proofs.members_alignment.Tie as tie
 
 abbrev Inv-loop : tie.InvT-loop
-Inv-loop rows i part count a₀ j₀ a j = (j ≤ count) × (membersAlignment (layoutsIn rows) i part j ≡ ok a)
+Inv-loop rows i part count a₀ end j₀ a j = (j ≤ count) × (membersAlignment (layoutsIn rows) i part j ≡ ok a)
 
 abbrev μ-loop : tie.MeasureT-loop
-μ-loop rows i part count a₀ j₀ a j = count - j
+μ-loop rows i part count a₀ end j₀ a j = count - j
 
 loop-holds : tie.Need-loop-holds Inv-loop μ-loop
 unfolding membersAlignment
@@ -25,16 +25,16 @@ returns : tie.Need-returns Inv-loop μ-loop
 returns c =
     let l = c .before .before .before .loop in
     let a = c .before .before .before .before .before .before .args in
-    let late = rw (c .before .member-type .ensures) at (c .if1 .taken) in
+    let late = rw (c .before .own-type .ensures) at (c .if1 .taken) in
     sym (member-late (layoutsIn (now (a .rows))) (a .i) (now (a .part)) (l .j) (l .a) (l .inv .1) late (a .count) (c .before .before .loop-test .taken))
 
 loop-again : tie.Need-loop-again Inv-loop μ-loop
 loop-again c =
     let l = c .before .before .before .before .before .loop in
     let a = c .before .before .before .before .before .before .before .before .args in
-    let earlier = rw (c .before .before .before .member-type .ensures) at (c .before .before .if1 .left) in
+    let earlier = rw (c .before .before .before .own-type .ensures) at (c .before .before .if1 .left) in
     let step = member-earlier (layoutsIn (now (a .rows))) (a .i) (now (a .part)) (l .j) (l .a) (l .inv .1) earlier in
-    (search needs, rw (c .larger .ensures, c .before .row-word .ensures, c .before .before .before .member-type .ensures) step)
+    (search needs, rw (c .larger .ensures, c .before .before .before .own-type .ensures) step)
 
 returns-2 : tie.Need-returns-2 Inv-loop μ-loop
 returns-2 c =
@@ -49,8 +49,13 @@ members-alignment-spec =
     μ-loop
     loop-holds
     (λ c κs. search needs)
+    (λ c. search needs)
     returns
-    (λ c κs. search needs)
+    (λ c. search needs)
+    (λ c. search needs)
+    (λ c. search needs)
+    (λ c. search needs)
+    (λ c. search needs)
     (λ c κs. search needs)
     (λ c. search needs)
     (λ c. search needs)
