@@ -1,21 +1,20 @@
 -- Laws of the arena check: what a laid-out arena has, and how laying out and judging make up the whole.
 -- Assumes nothing.
-use mathlib.Core.Path.{_≡_, refl, sym, ap, _∙_}
+use mathlib.Core.Path.{_≡_, refl, sym}
 use mathlib.Core.Bool.{Bool, true, false}
 use mathlib.Core.List.{List, _++_}
-use Prim.Native.Nat.{ℕ, _+_, _*_, _≤_, _<_}
+use Prim.Native.Nat.{ℕ, _+_, _*_}
 use native.Mathlib.Omega.{arith}
-use lib.ListN.{length, take, drop, length-append}
+use lib.ListN.{length, take, drop}
 use lib.Seq.{take-at, drop-at}
-use Rattle.records.specs.Result.{ok, pick}
-use Rattle.records.specs.Record.{typeCount, typeInner, decoded}
-use Rattle.records.specs.Fields.{rowWords, tablesFit, capabilitiesKnown, recordAt, InnerBounds}
-use Rattle.records.specs.Table.{also, firstRefusal, flat}
+use Rattle.records.specs.Result.{pick}
+use Rattle.records.specs.Record.{typeCount, decoded}
+use Rattle.records.specs.Fields.{rowWords, tablesFit, capabilitiesKnown, recordAt}
+use Rattle.records.specs.Table.{firstRefusal}
 use Rattle.records.specs.declared.Outcome.{Outcome}
 use Rattle.records.specs.declared.Outcome.the-variants.{Accepted, Refused}
-use Rattle.records.proofs.TableLaws.{all-ok, also-accepted, flat-length}
-use Rattle.records.proofs.RecordLaws.{Fitting, tables-fitting, record-bounds}
-use Rattle.rows.specs.Rows.{cleared}
+use Rattle.records.proofs.TableLaws.{also-accepted, flat-length}
+use Rattle.records.proofs.RecordLaws.{Fitting, tables-fitting}
 use Rattle.layouter.specs.Layouter.{layoutAt, layoutRowAt, layoutRows, layoutOutcome, layoutAnswer, layoutWords, rowsAfter}
 use Rattle.valid.specs.Arena.{judgeOutcome, arenaOutcome, arenaAnswer, arenaRows, arenaWords}
 
@@ -42,11 +41,10 @@ module _ (ts ms rows : List ℕ) (l : LaidOut ts ms rows) where
   pub fitting : Fitting (length ts) (length ms) (length rows)
   fitting = tables-fitting (length ts) (length ms) (length rows) (l .fits)
 
-  pub laid-bounds : (i : ℕ) → i < typeCount ts → InnerBounds (typeInner ts i)
+  -- all records are in order and all layouts accepted
+  pub both-accepted : (firstRefusal (recordAt ts ms) (typeCount ts) ≡ Accepted) × (firstRefusal (layoutAt (decoded ts ms)) (typeCount ts) ≡ Accepted)
   unfolding layoutOutcome
-  laid-bounds i h =
-      let records = also-accepted (firstRefusal (recordAt ts ms) (typeCount ts)) (firstRefusal (layoutAt (decoded ts ms)) (typeCount ts)) (l .outcome) in
-      record-bounds ts ms i (all-ok (recordAt ts ms) (typeCount ts) (records .0) i h .1)
+  both-accepted = also-accepted (firstRefusal (recordAt ts ms) (typeCount ts)) (firstRefusal (layoutAt (decoded ts ms)) (typeCount ts)) (l .outcome)
 
   pub laid-rows : take (typeCount ts * rowWords) (layoutWords ts ms rows) ≡ layoutRows ts ms (typeCount ts)
   laid-rows =

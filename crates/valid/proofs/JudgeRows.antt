@@ -1,17 +1,16 @@
 -- Laws of the loop that judges types over laid-out rows: what stands in the rows of the types before, and in the row of the next.
 -- Assumes nothing.
 use mathlib.Core.Path.{_≡_, refl, sym, ap, subst, fun-ext, _∙_}
-use mathlib.Core.List.{List, _++_}
-use Prim.Native.Nat.{ℕ, zero, suc, _+_, _-_, _*_, _≤_, _<_}
+use mathlib.Core.List.{List}
+use Prim.Native.Nat.{ℕ, suc, _+_, _-_, _*_, _≤_, _<_}
 use native.Mathlib.Omega.{arith}
-use native.Mathlib.Nat.{add-zero}
 use native.Mathlib.Decide.{decLe}
 use lib.ListN.{length, getD, take, drop, List·getD-eq-default}
 use lib.Seq.{getD-drop, getD-take, drop-drop}
 use Rattle.records.specs.Result.{Result, err, ok}
-use Rattle.records.specs.Record.{Decoded, decoded, typeInner, structMembers}
+use Rattle.records.specs.Record.{decoded, typeInner, structMembers}
 use Rattle.records.specs.Fields.{rowWords}
-use Rattle.records.specs.Table.{table, resultAt, valueAt, flat}
+use Rattle.records.specs.Table.{table, resultAt, flat}
 use Rattle.records.proofs.TableLaws.{table-value, table-above, value-ok, flat-length, flat-word}
 use Rattle.rows.specs.Rows.{rowWord, withRow}
 use Rattle.rows.proofs.RowLaws.{flat-more, drop-row}
@@ -22,8 +21,23 @@ use Rattle.type_info.specs.declared.Row.{Row}
 use Rattle.type_info.specs.TypeInfo.{wordsOf, rowsIn, emptyRow}
 use Rattle.valid.specs.declared.Judged.{Judged}
 use Rattle.valid.specs.declared.Judged.the-variants as judged
-use Rattle.valid.specs.Valid.{judge, judgedResult, rowsWith}
+use Rattle.valid.specs.declared.Judged.the-variants.{Made}
+use Rattle.valid.specs.Valid.{judge, Settled}
 use Rattle.valid.specs.Arena.{judgeStep, judgedAt, row, rowAt}
+
+-- what an answer says of the judgement that it settles, and of the words
+module _ (r : Judged) (at : ℕ) (before after : List ℕ) where
+  pub settled-made : (o : Result Row) → Settled r at before after o → r ≡ Made → (made : Row) × (o ≡ ok made) × (after ≡ withRow before at (wordsOf made))
+  settled-made (ok made) s e = (made, refl, s .1)
+  settled-made (err n m d) s e = let f = s .0 in let z : _≡_ {A = ℕ} 0 1 = cc in absurd (omega arith)
+
+  pub settled-refused : {number member detail : ℕ} (o : Result Row) → Settled r at before after o → r ≡ judged.Refused number member detail
+      → (o ≡ err number member detail) × (after ≡ before)
+  settled-refused {number} {member} {detail} (err n m d) s e =
+      let f = s .0 in
+      let t : (n ≡ number) × (m ≡ member) × (d ≡ detail) = (cc, cc, cc) in
+      (rw (t .0, t .1, t .2) refl, s .1)
+  settled-refused (ok made) s e = let f = s .0 in let z : _≡_ {A = ℕ} 0 1 = cc in absurd (omega arith)
 
 -- a row is as long as a row is
 pub row-length : (r : Row) → length (wordsOf r) ≡ rowWords
@@ -92,27 +106,38 @@ module _ (c : ℕ) (ts ms : List ℕ) where
     pub own-layout : layoutsIn rows i ≡ layout (decoded ts ms) i
     own-layout = λ x. record { size = own-word 0 (omega arith) x; alignment = own-word 1 (omega arith) x }
 
-  module _ (rows : List ℕ) (i : ℕ) (r : Judged) (so-far : take (i * rowWords) rows ≡ flat (rowAt c ts ms) i)
+  module _ (rows rows′ : List ℕ) (i : ℕ) (r : Judged) (so-far : take (i * rowWords) rows ≡ flat (rowAt c ts ms) i)
       (own : layoutsIn rows i ≡ layout (decoded ts ms) i)
-      (one : judgedResult r ≡ judge c (typeInner ts) (rowsIn (take (i * rowWords) rows)) i (layoutsIn rows i) (typeInner ts i) (structMembers ts ms i)) where
-    -- what the code answers for type i is what the definition has
-    pub judged-at : judgedResult r ≡ judgedAt c (decoded ts ms) i
+      (one : Settled r (i * rowWords) rows rows′
+      (judge c (typeInner ts) (rowsIn (take (i * rowWords) rows)) i (layoutsIn rows i) (typeInner ts i) (structMembers ts ms i))) where
+    -- the judgement from the words is what the definition has
+    as-defined : judge c (typeInner ts) (rowsIn (take (i * rowWords) rows)) i (layoutsIn rows i) (typeInner ts i) (structMembers ts ms i)
+        ≡ judgedAt c (decoded ts ms) i
     unfolding resultAt
-    judged-at =
-        one
-        ∙ ap (λ (l : TypeLayout). judge c (typeInner ts) (rowsIn (take (i * rowWords) rows)) i l (typeInner ts i) (structMembers ts ms i)) own
+    as-defined =
+        ap (λ (l : TypeLayout). judge c (typeInner ts) (rowsIn (take (i * rowWords) rows)) i l (typeInner ts i) (structMembers ts ms i)) own
         ∙ ap (λ (f : ℕ → Row). judge c (typeInner ts) f i (layout (decoded ts ms) i) (typeInner ts i) (structMembers ts ms i)) (rows-in (take (i * rowWords) rows) i so-far)
 
-    module _ (made : Row) (e : r ≡ judged.Made made) (rows′ : List ℕ) (w : rows′ ≡ rowsWith r (i * rowWords) rows)
-        (room : i * rowWords + rowWords ≤ length rows) where
-      is-row : row c (decoded ts ms) i ≡ made
-      is-row = value-ok emptyRow (judgeStep c (decoded ts ms)) i made (sym judged-at ∙ ap judgedResult e)
+    judged-at : Settled r (i * rowWords) rows rows′ (judgedAt c (decoded ts ms) i)
+    judged-at = subst (λ (o : Result Row). Settled r (i * rowWords) rows rows′ o) as-defined one
+
+    pub refused-at : {number member detail : ℕ} → r ≡ judged.Refused number member detail
+        → (judgedAt c (decoded ts ms) i ≡ err number member detail) × (rows′ ≡ rows)
+    refused-at e = settled-refused r (i * rowWords) rows rows′ (judgedAt c (decoded ts ms) i) judged-at e
+
+    module _ (e : r ≡ Made) where
+      pub made-at : (made : Row) × (judgedAt c (decoded ts ms) i ≡ ok made) × (rows′ ≡ withRow rows (i * rowWords) (wordsOf made))
+      made-at = settled-made r (i * rowWords) rows rows′ (judgedAt c (decoded ts ms) i) judged-at e
+
+      is-row : row c (decoded ts ms) i ≡ made-at .0
+      is-row = value-ok emptyRow (judgeStep c (decoded ts ms)) i (made-at .0) (made-at .1)
 
       written : rows′ ≡ withRow rows (i * rowWords) (rowAt c ts ms i)
-      written = w ∙ rw (e, is-row) refl
+      written = made-at .2 ∙ ap (λ (x : Row). withRow rows (i * rowWords) (wordsOf x)) (sym is-row)
 
-      pub row-written : take ((i + 1) * rowWords) rows′ ≡ flat (rowAt c ts ms) (i + 1)
-      row-written = rw written (flat-more rows (rowAt c ts ms) i so-far (whole i) room)
+      module _ (room : i * rowWords + rowWords ≤ length rows) where
+        pub row-written : take ((i + 1) * rowWords) rows′ ≡ flat (rowAt c ts ms) (i + 1)
+        row-written = rw written (flat-more rows (rowAt c ts ms) i so-far (whole i) room)
 
-      pub rest-kept : drop ((i + 1) * rowWords) rows′ ≡ drop ((i + 1) * rowWords) rows
-      rest-kept = rw written (drop-row rows (rowAt c ts ms i) (i * rowWords) (whole i) room ((i + 1) * rowWords) (omega arith))
+        pub rest-kept : drop ((i + 1) * rowWords) rows′ ≡ drop ((i + 1) * rowWords) rows
+        rest-kept = rw written (drop-row rows (rowAt c ts ms i) (i * rowWords) (whole i) room ((i + 1) * rowWords) (omega arith))

@@ -1,5 +1,6 @@
 pub mod RowParts
 pub mod JudgeRows
+pub mod OwnMembers
 pub mod CheckLaws
 pub mod CapabilityLaws
 pub mod JudgeLaws

@@ -13,16 +13,18 @@ use Rattle.records.specs.declared.Leaf.{Leaf}
 use Rattle.records.specs.declared.NonData.{NonData}
 use Rattle.records.specs.declared.TypeInner.{TypeInner}
 use Rattle.type_layout.specs.declared.TypeLayout.{TypeLayout}
-use Rattle.records.specs.declared.TypeInner.the-variants.{Plain, Array, RuntimeArray, Struct, Other}
+use Rattle.records.specs.declared.TypeInner.the-variants.{Plain, Array, RuntimeArray, Other}
 use Rattle.flags.specs.Flags.{arrayFlags, runtimeArrayFlags}
 use Rattle.type_flags.specs.TypeFlags.{leafFlags, isArrayBase}
 use Rattle.type_info.specs.declared.Row.{Row}
+use Rattle.type_info.specs.Verdict.{okVerdict}
 use Rattle.member_rules.specs.declared.Bounds.{Bounds}
 use Rattle.members.specs.declared.State.{State}
 use Rattle.member_rules.specs.MemberRules.{boundsAfter, uniformAfter, storageAfter, immediatesAfter, previousOf}
 use Rattle.members.specs.Members.{stateAfter}
-use Rattle.valid.specs.declared.Judged.{Judged}
-use Rattle.valid.specs.Valid.{nonDataFlags, flagsOf, leafVerdictAlignment, leafImmediates, uniformOf, storageOf, immediatesOf, rowOf, judge, judgedResult, plainRow, arrayRow, arrayOf}
+use Rattle.plain_members.specs.declared.PlainState.{PlainState}
+use Rattle.plain_members.specs.PlainMembers.{plainBounds, PlainAfter}
+use Rattle.valid.specs.Valid.{nonDataFlags, flagsOf, leafVerdictAlignment, leafImmediates, uniformOf, storageOf, immediatesOf, rowOf, judge, PlainParts, plainBy, plainRow, plainJudged, arrayRow, arrayOf}
 
 -- what follows a value that a test lets through
 pub require-then {ℓ κ} : {A : Type ℓ} {B : Type κ} (b : Bool) (n m d : ℕ) (a : A) (f : A → Result B)
@@ -30,40 +32,41 @@ pub require-then {ℓ κ} : {A : Type ℓ} {B : Type κ} (b : Bool) (n m d : ℕ
 require-then true n m d a f = refl
 require-then false n m d a f = refl
 
-module _ (c : ℕ) (inner : ℕ → TypeInner) (rows : ℕ → Row) (i : ℕ) (layout : TypeLayout) (part : List ℕ) (w : Words) (answer : Judged) where
+-- a plain type's row, by its flags
+plain-then : (layout : TypeLayout) (alignment immediates : ℕ) (flags : Result ℕ)
+    → plainJudged layout (plainBy alignment immediates flags)
+    ≡ andThen flags (λ f. ok (plainRow layout (record { flags = f; alignment = alignment; immediates = immediates })))
+plain-then layout alignment immediates (err n m d) = refl
+plain-then layout alignment immediates (ok f) = refl
+
+module _ (c : ℕ) (inner : ℕ → TypeInner) (rows : ℕ → Row) (i : ℕ) (layout : TypeLayout) (part : List ℕ) (w : Words) where
   -- where a record says a leaf, it is judged by the leaf's flags
-  pub leaf-judged : (leaf : Leaf) → innerIn w ≡ Plain leaf
-      → judgedResult answer ≡ andThen (leafFlags c leaf) (λ f. ok (plainRow layout (leafVerdictAlignment leaf) (leafImmediates leaf) f))
-      → judgedResult answer ≡ judge c inner rows i layout (innerIn w) part
+  pub leaf-judged : (leaf : Leaf) → innerIn w ≡ Plain leaf → (o : Result PlainParts)
+      → o ≡ plainBy (leafVerdictAlignment leaf) (leafImmediates leaf) (leafFlags c leaf)
+      → plainJudged layout o ≡ judge c inner rows i layout (innerIn w) part
   unfolding judge flagsOf rowOf uniformOf storageOf immediatesOf
-  leaf-judged leaf says e = rw says e
+  leaf-judged leaf says o e = rw (says, e) (plain-then layout (leafVerdictAlignment leaf) (leafImmediates leaf) (leafFlags c leaf))
 
   -- where it says what is no data, by the flags of that
-  pub other-judged : (o : NonData) → innerIn w ≡ Other o
-      → judgedResult answer ≡ andThen (nonDataFlags c inner rows o) (λ f. ok (plainRow layout 1 0 f))
-      → judgedResult answer ≡ judge c inner rows i layout (innerIn w) part
+  pub other-judged : (n : NonData) → innerIn w ≡ Other n → (o : Result PlainParts)
+      → o ≡ plainBy 1 0 (nonDataFlags c inner rows n)
+      → plainJudged layout o ≡ judge c inner rows i layout (innerIn w) part
   unfolding judge flagsOf rowOf uniformOf storageOf immediatesOf
-  other-judged o says e = rw says e
+  other-judged n says o e = rw (says, e) (plain-then layout 1 0 (nonDataFlags c inner rows n))
 
-  -- an array is judged by its form
-  pub array-judged : (base form count stride : ℕ) → innerIn w ≡ pick (eqb form 0) (Array base count stride) (RuntimeArray base stride)
-      → judgedResult answer ≡ arrayOf form i stride (rows base) layout → judgedResult answer ≡ judge c inner rows i layout (innerIn w) part
-  unfolding judge flagsOf rowOf uniformOf storageOf immediatesOf
-  array-judged base form count stride says e = rw says (go (eqb form 0) e)
-    where
-      go : (t : Bool)
-          → judgedResult answer ≡ require (isArrayBase (rows base .flags)) 15 0 0
-          (ok (arrayRow i stride (rows base) layout (pick t (arrayFlags (rows base .flags)) (runtimeArrayFlags (rows base .flags)))))
-          → judgedResult answer ≡ judge c inner rows i layout (pick t (Array base count stride) (RuntimeArray base stride)) part
-      go true q = rw (require-then (isArrayBase (rows base .flags)) 15 0 0 (arrayFlags (rows base .flags)) (λ f. ok (arrayRow i stride (rows base) layout f))) q
-      go false q = rw (require-then (isArrayBase (rows base .flags)) 15 0 0 (runtimeArrayFlags (rows base .flags)) (λ f. ok (arrayRow i stride (rows base) layout f))) q
-
-  -- a struct asks for no capability
-  pub struct-judged : (count span : ℕ) → innerIn w ≡ Struct count span
-      → judgedResult answer ≡ judge 0 inner rows i layout (Struct count span) part
-      → judgedResult answer ≡ judge c inner rows i layout (innerIn w) part
-  unfolding judge flagsOf
-  struct-judged count span says e = rw says e
+-- an array is judged by its form
+pub array-judged : (c : ℕ) (inner : ℕ → TypeInner) (rows : ℕ → Row) (i : ℕ) (layout : TypeLayout) (part : List ℕ) (this : TypeInner)
+    (base form count stride : ℕ) → this ≡ pick (eqb form 0) (Array base count stride) (RuntimeArray base stride)
+    → arrayOf form i stride (rows base) layout ≡ judge c inner rows i layout this part
+unfolding judge flagsOf rowOf uniformOf storageOf immediatesOf
+array-judged c inner rows i layout part this base form count stride says = rw says (go (eqb form 0))
+  where
+    go : (t : Bool)
+        → require (isArrayBase (rows base .flags)) 15 0 0
+        (ok (arrayRow i stride (rows base) layout (pick t (arrayFlags (rows base .flags)) (runtimeArrayFlags (rows base .flags)))))
+        ≡ judge c inner rows i layout (pick t (Array base count stride) (RuntimeArray base stride)) part
+    go true = sym (require-then (isArrayBase (rows base .flags)) 15 0 0 (arrayFlags (rows base .flags)) (λ f. ok (arrayRow i stride (rows base) layout f)))
+    go false = sym (require-then (isArrayBase (rows base .flags)) 15 0 0 (runtimeArrayFlags (rows base .flags)) (λ f. ok (arrayRow i stride (rows base) layout f)))
 
 module _ (inner : ℕ → TypeInner) (rows : ℕ → Row) (i count span : ℕ) (part : List ℕ) (j : ℕ) where
   -- the state after j members, part by part
@@ -97,6 +100,19 @@ module _ (inner : ℕ → TypeInner) (rows : ℕ → Row) (i count span : ℕ) (
             storage = ap (λ (x : State). x .storage) t;
             immediates = ap (λ (x : State). x .immediates) t;
           }
+
+  -- after members that broke no rule
+  pub plain-state : (s : PlainState) → PlainAfter inner rows i count span part j s
+      → stateAfter inner rows i count span part j
+      ≡ ok (record {
+        bounds = plainBounds s;
+        uniform = okVerdict (s .uniform);
+        storage = okVerdict (s .storage);
+        immediates = 0;
+        previous = previousOf inner part j;
+      })
+  unfolding stateAfter
+  plain-state s p = rw (p .0, p .1, p .2, p .3) refl
 
   pub state-error : {n m d : ℕ} → stateAfter inner rows i count span part j ≡ err n m d → boundsAfter inner rows count span part j ≡ err n m d
   unfolding stateAfter made

@@ -6,7 +6,7 @@ use denote.Ref.{now}
 use borrow.Author.Tests.{not-true, not-false}
 use Rattle.records.specs.Fields.{capabilitiesKnown}
 use Rattle.valid.specs.Arena.{judgeOutcome, arenaAnswer, arenaWords}
-use Rattle.valid.proofs.CheckLaws.{laid-out, fitting, laid-bounds, laid-rows, answer-judged, words-judged, refused-same}
+use Rattle.valid.proofs.CheckLaws.{laid-out, fitting, both-accepted, laid-rows, answer-judged, words-judged, refused-same}
 use Rattle.valid.proofs.check.Statement.{statement}
 use Rattle.valid.proofs.check.Tie as tie
 
@@ -24,7 +24,10 @@ judge-all-requires : tie.Need-judge-all-requires
 judge-all-requires c κs =
     let a = c .before .before .before .before .before .before .before .before .before .before .before .before .args in let ts = now (a .types) in let ms = now (a .members) in let rows = now (a .rows) in
     let l = laid-out ts ms rows (sym (c .before .before .before .before .before .layout .ensures .0) ∙ c .before .enum-told .given .1) in
-    (omega (arith, fitting ts ms rows l .rows, c .before .before .before .before .before .layout .kept .1 .1 .0), (laid-bounds ts ms rows l, rw (c .before .before .before .before .before .layout .ensures .1) (laid-rows ts ms rows l)))
+    let accepted = both-accepted ts ms rows l in (
+      omega (arith, fitting ts ms rows l .rows, c .before .before .before .before .before .layout .kept .1 .1 .0),
+      (omega arith, (accepted .0, (accepted .1, rw (c .before .before .before .before .before .layout .ensures .1) (laid-rows ts ms rows l)))),
+    )
 
 returns-2 : tie.Need-returns-2
 unfolding judgeOutcome

@@ -9,11 +9,13 @@ use native.Mathlib.Omega.{arith}
 use lib.ListN.{length, take, drop, take-append-drop}
 use denote.Ref.{now}
 use Rattle.records.specs.Record.{decoded}
+use Rattle.records.specs.Fields.{recordAt}
 use Rattle.records.specs.Table.{firstRefusal, flat}
 use Rattle.records.specs.declared.Outcome.the-variants.{Accepted}
-use Rattle.records.proofs.TableLaws.{stays}
+use Rattle.records.proofs.TableLaws.{all-ok, stays}
 use Rattle.valid.specs.Arena.{judgedAt, rowAt, arenaRows}
-use Rattle.valid.proofs.JudgeRows.{drop-later, own-layout, judged-at, row-written, rest-kept}
+use Rattle.valid.proofs.JudgeRows.{drop-later, own-layout, refused-at, made-at, row-written, rest-kept}
+use Rattle.valid.proofs.OwnMembers.{members-earlier}
 use Rattle.valid.proofs.judge_all.Statement.{statement}
 use Rattle.valid.proofs.judge_all.Tie as tie
 
@@ -32,39 +34,47 @@ loop-holds : tie.Need-loop-holds Inv-loop μ-loop
 loop-holds c = (search needs, refl, refl, refl, refl)
 
 judge-at-requires : tie.Need-judge-at-requires Inv-loop μ-loop
-judge-at-requires c κs = let l = c .before .before .loop in (omega (arith, c .before .before .before .before .before .before .pre .0, c .before .loop-test .taken), c .before .before .before .before .before .before .pre .1 .0 (l .i) (c .before .loop-test .taken))
+judge-at-requires c κs =
+    let a = c .before .before .before .before .before .before .args in let ts = now (a .types) in let ms = now (a .members) in
+    let below = c .before .loop-test .taken in (
+      omega (arith, c .before .before .before .before .before .before .pre .0, below),
+      (
+        omega (arith, c .before .before .before .before .before .before .pre .1 .0, below),
+        (
+          all-ok (recordAt ts ms) (a .n) (c .before .before .before .before .before .before .pre .1 .1 .0) (c .before .before .loop .i) below .1,
+          members-earlier (decoded ts ms) (a .n) (c .before .before .before .before .before .before .pre .1 .1 .1 .0) (c .before .before .loop .i) below,
+        ),
+      ),
+    )
 
 clear-requires : tie.Need-clear-requires Inv-loop μ-loop
 clear-requires c κs = omega (arith, c .before .before .before .before .before .before .judge-at .kept .1 .1 .1 .0, c .before .before .before .before .before .before .before .before .before .before .before .before .before .pre .0)
 
 returns : tie.Need-returns Inv-loop μ-loop
 returns c =
-    let ja = c .before .before .before .before .before .before .before .before .before in
-    let l = ja .before .before .before in
-    let a = l .before .before .before .before .args in
-    let own = own-layout (a .capabilities) (now (a .types)) (now (a .members)) (now (a .rows)) (l .loop .rows) (a .n) (l .loop .i) (l .before .before .before .before .pre .1 .1) (ja .before .before .loop-test .taken) (l .loop .inv .3) in
-    let at = judged-at (a .capabilities) (now (a .types)) (now (a .members)) (l .loop .rows) (l .loop .i) (ja .judge-at .result) (l .loop .inv .2) own (ja .judge-at .ensures .0) in
-    let refused = rw (c .before .before .before .before .before .number .given .1) at (sym at) in
-    let same = rw (c .before .before .before .before .before .number .given .1) at (ja .judge-at .ensures .1) in (
-      sym (stays (judgedAt (a .capabilities) (decoded (now (a .types)) (now (a .members)))) (l .loop .i) (l .loop .inv .1) (rw refused refl) (a .n) (ja .before .before .loop-test .taken)),
-      rw (← drop-later (l .loop .rows) (now (a .rows)) (l .loop .i * 14) (a .n * 14) (l .loop .inv .3) (omega (arith, ja .before .before .loop-test .taken)), ← same) (c .before .before .clear .ensures),
+    let a = c .before .before .before .before .before .before .before .before .before .before .before .before .before .before .before .before .args in let ts = now (a .types) in let ms = now (a .members) in
+    let l = c .before .before .before .before .before .before .before .before .before .before .before .before .loop in
+    let j = c .before .before .before .before .before .before .before .before .before .judge-at in
+    let own = own-layout (a .capabilities) ts ms (now (a .rows)) (l .rows) (a .n) (l .i) (c .before .before .before .before .before .before .before .before .before .before .before .before .before .before .before .before .pre .1 .1 .1 .1) (c .before .before .before .before .before .before .before .before .before .before .before .loop-test .taken) (l .inv .3) in
+    let gone = refused-at (a .capabilities) ts ms (l .rows) _ (l .i) (j .result) (l .inv .2) own (j .ensures) (c .before .before .before .before .before .number .given .1) in (
+      sym (stays (judgedAt (a .capabilities) (decoded ts ms)) (l .i) (l .inv .1) (rw (gone .0) refl) (a .n) (c .before .before .before .before .before .before .before .before .before .before .before .loop-test .taken)),
+      rw (← drop-later (l .rows) (now (a .rows)) (l .i * 14) (a .n * 14) (l .inv .3) (omega (arith, c .before .before .before .before .before .before .before .before .before .before .before .loop-test .taken)), ← gone .1) (c .before .before .clear .ensures),
     )
 
 loop-again : tie.Need-loop-again Inv-loop μ-loop
 loop-again c =
-    let ja = c .before .before .before .before in
-    let l = ja .before .before .before in
-    let a = l .before .before .before .before .args in
-    let room : l .loop .i * 14 + 14 ≤ length (l .loop .rows) = omega (arith, l .before .before .before .before .pre .0, ja .before .before .loop-test .taken) in
-    let own = own-layout (a .capabilities) (now (a .types)) (now (a .members)) (now (a .rows)) (l .loop .rows) (a .n) (l .loop .i) (l .before .before .before .before .pre .1 .1) (ja .before .before .loop-test .taken) (l .loop .inv .3) in
-    let at = judged-at (a .capabilities) (now (a .types)) (now (a .members)) (l .loop .rows) (l .loop .i) (ja .judge-at .result) (l .loop .inv .2) own (ja .judge-at .ensures .0) in
-    let accepted = rw (c .enum-told .given .1) at (sym at) in (
-      omega (arith, ja .before .before .loop-test .taken),
-      rw (add-one, l .loop .inv .1, accepted) refl,
-      row-written (a .capabilities) (now (a .types)) (now (a .members)) (l .loop .rows) (l .loop .i) (ja .judge-at .result) (l .loop .inv .2) own (ja .judge-at .ensures .0) _ (c .enum-told .given .1) _ (ja .judge-at .ensures .1) room,
-      rest-kept (a .capabilities) (now (a .types)) (now (a .members)) (l .loop .rows) (l .loop .i) (ja .judge-at .result) (l .loop .inv .2) own (ja .judge-at .ensures .0) _ (c .enum-told .given .1) _ (ja .judge-at .ensures .1) room
-          ∙ drop-later (l .loop .rows) (now (a .rows)) (l .loop .i * 14) ((l .loop .i + 1) * 14) (l .loop .inv .3) (omega arith),
-      ja .judge-at .kept .1 .1 .1 .0 ∙ l .loop .inv .4,
+    let a = c .before .before .before .before .before .before .before .before .before .before .before .args in let ts = now (a .types) in let ms = now (a .members) in
+    let l = c .before .before .before .before .before .before .before .loop in
+    let j = c .before .before .before .before .judge-at in
+    let own = own-layout (a .capabilities) ts ms (now (a .rows)) (l .rows) (a .n) (l .i) (c .before .before .before .before .before .before .before .before .before .before .before .pre .1 .1 .1 .1) (c .before .before .before .before .before .before .loop-test .taken) (l .inv .3) in
+    let room : l .i * 14 + 14 ≤ length (l .rows) = omega (arith, c .before .before .before .before .before .before .before .before .before .before .before .pre .0, c .before .before .before .before .before .before .loop-test .taken) in
+    let made = made-at (a .capabilities) ts ms (l .rows) _ (l .i) (j .result) (l .inv .2) own (j .ensures) (c .enum-told .given .1) in (
+      omega (arith, c .before .before .before .before .before .before .loop-test .taken),
+      rw (add-one, l .inv .1, made .1) refl,
+      row-written (a .capabilities) ts ms (l .rows) _ (l .i) (j .result) (l .inv .2) own (j .ensures) (c .enum-told .given .1) room,
+      rest-kept (a .capabilities) ts ms (l .rows) _ (l .i) (j .result) (l .inv .2) own (j .ensures) (c .enum-told .given .1) room
+          ∙ drop-later (l .rows) (now (a .rows)) (l .i * 14) ((l .i + 1) * 14) (l .inv .3) (omega arith),
+      j .kept .1 .1 .1 .0 ∙ l .inv .4,
     )
 
 returns-2 : tie.Need-returns-2 Inv-loop μ-loop

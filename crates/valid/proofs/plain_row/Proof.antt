@@ -4,7 +4,7 @@ use Rattle.valid.proofs.plain_row.Statement.{statement}
 use Rattle.valid.proofs.plain_row.Tie as tie
 
 returns : tie.Need-returns
-returns c = rw (c .before .before .flagged .given .1, c .ok-verdict .ensures) refl
+returns c = rw (c .before .flagged .given .1) refl
 
 returns-2 : tie.Need-returns-2
 returns-2 c = rw (c .before .flagged2 .given .1) refl
@@ -14,7 +14,6 @@ plain-row-spec =
     tie.close
     (tie.spec
     (λ c. search needs)
-    (λ c κs. search needs)
     (λ c. search needs)
     returns
     returns-2)
