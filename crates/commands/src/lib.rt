@@ -1,5 +1,6 @@
 // The state of a session, and the commands that ask for no check of the arena.
 use input::Read;
+use output::Buffer;
 use slots::SlotsAnswer;
 use text::Line;
 ghost use Prim.Native.Nat.{_≤_};
@@ -8,6 +9,8 @@ ghost use Prim.Native.Nat.{_≤_};
 pub const MEMBERS_AT: usize = 6144;
 
 pub const ARENA_WORDS: usize = 14336;
+
+pub type Arena = [u32; ARENA_WORDS];
 
 pub struct Session {
     pub capabilities: u32,
@@ -70,15 +73,15 @@ pub fn with_waiting(session: Session, waiting: usize) -> Session {
 }
 
 // A line that cannot be read is the last.
-pub fn stop(session: Session, out: &mut [u8], why: &[u8]) -> Session {
+pub fn stop(session: Session, out: &mut Buffer, why: u32) -> Session {
     let mut s = session;
     let at = output::put_line(out, s.waiting, s.line);
-    s.waiting = output::put_text(out, at, why);
+    s.waiting = output::put_why(out, at, why);
     s.stopped = true;
     s
 }
 
-fn stop_by(session: Session, out: &mut [u8], reason: arguments::Reason) -> Session {
+fn stop_by(session: Session, out: &mut Buffer, reason: arguments::Reason) -> Session {
     let mut s = session;
     let at = output::put_line(out, s.waiting, s.line);
     s.waiting = output::put_reason(out, at, reason);
@@ -98,7 +101,7 @@ pub fn part(words: &[u32], start: usize, end: usize) -> &[u32] {
 }
 
 // Puts a record at `at`, if it ends at `limit` or before, and answers where the next one goes.
-fn add_record(arena: &mut [u32], at: usize, limit: usize, words: &[u32]) -> usize {
+fn add_record(arena: &mut Arena, at: usize, limit: usize, words: &[u32]) -> usize {
     if arena.len() < limit {
         return at;
     }
@@ -116,40 +119,36 @@ fn add_record(arena: &mut [u32], at: usize, limit: usize, words: &[u32]) -> usiz
     at + i
 }
 
-fn add_type(session: Session, arena: &mut [u32], out: &mut [u8], words: [u32; 6]) -> Session {
+fn add_type(session: Session, arena: &mut Arena, out: &mut Buffer, words: [u32; 6]) -> Session {
     let at = session.types;
     let after = add_record(arena, at, MEMBERS_AT, &words);
     if after == at {
-        return stop(session, out, b"the arena is full, with 1024 types\n");
+        return stop(session, out, output::TYPES_FULL);
     }
     let mut s = session;
     s.types = after;
     s
 }
 
-fn add_member(session: Session, arena: &mut [u32], out: &mut [u8], words: [u32; 2]) -> Session {
+fn add_member(session: Session, arena: &mut Arena, out: &mut Buffer, words: [u32; 2]) -> Session {
     let at = session.members;
     let after = add_record(arena, at, ARENA_WORDS, &words);
     if after == at {
-        return stop(
-            session,
-            out,
-            b"the member table is full, with 4096 members\n",
-        );
+        return stop(session, out, output::MEMBERS_FULL);
     }
     let mut s = session;
     s.members = after;
     s
 }
 
-fn members_of(session: Session, arena: &[u32], out: &mut [u8], ty: u32) -> Session {
+fn members_of(session: Session, arena: &Arena, out: &mut Buffer, ty: u32) -> Session {
     let t = part(arena, 0, session.types);
     let m = part(arena, MEMBERS_AT, session.members);
     let own = records::struct_members(t, m, ty);
     with_waiting(session, output::put_members(out, session.waiting, own))
 }
 
-pub fn show_slots(session: Session, out: &mut [u8], answer: SlotsAnswer) -> Session {
+pub fn show_slots(session: Session, out: &mut Buffer, answer: SlotsAnswer) -> Session {
     let at = session.waiting;
     match answer {
         SlotsAnswer::Slots(mask) => with_waiting(session, output::put_slots(out, at, mask)),
@@ -168,7 +167,7 @@ pub fn show_slots(session: Session, out: &mut [u8], answer: SlotsAnswer) -> Sess
 }
 
 // Writes the answers that wait.
-pub fn flushed(session: Session, out: &[u8]) -> Session {
+pub fn flushed(session: Session, out: &Buffer) -> Session {
     let mut s = session;
     if !output::flush(out, s.waiting) {
         s.stopped = true;
@@ -184,19 +183,18 @@ fn stopped(session: Session) -> Session {
 }
 
 // Stops where no more can be read.
-pub fn after_read(session: Session, read: Read, out: &mut [u8]) -> Session {
+pub fn after_read(session: Session, read: Read, out: &mut Buffer) -> Session {
     match read {
         Read::More => session,
         Read::Ended => stopped(session),
-        Read::Full => stop(session, out, b"longer than 65535 bytes\n"),
-        Read::Failed => stop(session, out, b"the input cannot be read\n"),
+        Read::Full => stop(session, out, output::LINE_TOO_LONG),
+        Read::Failed => stop(session, out, output::INPUT_FAILED),
     }
 }
 
 // What a line does that asks for no check; any other leaves the session as it is.
-pub fn change(line: Line, session: Session, arena: &mut [u32], out: &mut [u8]) -> Session {
+pub fn change(line: Line, session: Session, arena: &mut Arena, out: &mut Buffer) -> Session {
     match line {
-        Line::Nothing => session,
         Line::Capabilities(word) => with_capabilities(session, word),
         Line::TypeRecord {
             kind,
@@ -207,12 +205,10 @@ pub fn change(line: Line, session: Session, arena: &mut [u32], out: &mut [u8]) -
             e,
         } => add_type(session, arena, out, [kind, a, b, c, d, e]),
         Line::MemberRecord { ty, offset } => add_member(session, arena, out, [ty, offset]),
-        Line::Check => session,
         Line::Members(ty) => members_of(session, arena, out, ty),
-        Line::Slots { ty: _, offset: _ } => session,
         Line::Range { offset, size } => show_slots(session, out, slots::range(offset, size)),
-        Line::Place { start: _, steps: _ } => session,
         Line::Clear => cleared(session),
         Line::Wrong(reason) => stop_by(session, out, reason),
+        _ => session,
     }
 }

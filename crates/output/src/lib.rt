@@ -1,6 +1,9 @@
 // The answers wait in a buffer, which is written out when it is full and before the program reads again.
 // `at` is how many bytes wait; each function answers how many do after it.
 
+// A reference to an array of a known length is proved sooner than one to a slice.
+pub type Buffer = [u8; 65536];
+
 const STDOUT: i32 = 1;
 
 // Writes out what waits; false where that fails.
@@ -12,20 +15,17 @@ pub fn flush(out: &[u8], at: usize) -> bool {
     }
 }
 
-fn put_byte(out: &mut [u8], at: usize, b: u8) -> usize {
+fn put_byte(out: &mut Buffer, at: usize, b: u8) -> usize {
     if at < out.len() {
         out[at] = b;
         return at + 1;
     }
     flush(out, at);
-    if 0 < out.len() {
-        out[0] = b;
-        return 1;
-    }
-    0
+    out[0] = b;
+    1
 }
 
-pub fn put_text(out: &mut [u8], at: usize, text: &[u8]) -> usize {
+fn put_text(out: &mut Buffer, at: usize, text: &[u8]) -> usize {
     let mut end = at;
     let mut i = 0;
     while i < text.len() {
@@ -35,36 +35,52 @@ pub fn put_text(out: &mut [u8], at: usize, text: &[u8]) -> usize {
     end
 }
 
-pub fn put_number(out: &mut [u8], at: usize, n: u64) -> usize {
+fn put_number(out: &mut Buffer, at: usize, n: u64) -> usize {
     let mut digits = [0u8; 20];
     let k = io::decimal(n, &mut digits);
     put_text(out, at, &digits[..k])
 }
 
 // A number after a blank.
-fn put_next(out: &mut [u8], at: usize, n: u64) -> usize {
+fn put_next(out: &mut Buffer, at: usize, n: u64) -> usize {
     let end = put_byte(out, at, b' ');
     put_number(out, end, n)
 }
 
+// A word and a number.
+fn put_named(out: &mut Buffer, at: usize, name: &[u8], n: u64) -> usize {
+    let end = put_text(out, at, name);
+    put_next(out, end, n)
+}
+
+// A line of words after its head.
+fn put_words(out: &mut Buffer, at: usize, head: &[u8], words: &[u32]) -> usize {
+    let mut end = put_text(out, at, head);
+    let mut i = 0;
+    while i < words.len() {
+        end = put_next(out, end, records::word_at(words, i) as u64);
+        i += 1;
+    }
+    put_byte(out, end, b'\n')
+}
+
 pub fn put_refusal(
-    out: &mut [u8],
+    out: &mut Buffer,
     at: usize,
     number: u32,
     ty: u32,
     member: u32,
     detail: u32,
 ) -> usize {
-    let a = put_text(out, at, b"refused");
-    let b = put_next(out, a, number as u64);
-    let c = put_next(out, b, ty as u64);
-    let d = put_next(out, c, member as u64);
-    let e = put_next(out, d, detail as u64);
-    put_byte(out, e, b'\n')
+    put_words(out, at, b"refused", &[number, ty, member, detail])
+}
+
+pub fn put_members(out: &mut Buffer, at: usize, part: &[u32]) -> usize {
+    put_words(out, at, b"members", part)
 }
 
 // The number of a type and its row.
-fn put_row(out: &mut [u8], at: usize, rows: &[u32], i: u32) -> usize {
+fn put_row(out: &mut Buffer, at: usize, rows: &[u32], i: u32) -> usize {
     let mut end = put_number(out, at, i as u64);
     let mut k: u32 = 0;
     while k < 14 {
@@ -75,7 +91,7 @@ fn put_row(out: &mut [u8], at: usize, rows: &[u32], i: u32) -> usize {
 }
 
 // The rows of n types.
-pub fn put_rows(out: &mut [u8], at: usize, rows: &[u32], n: u32) -> usize {
+pub fn put_rows(out: &mut Buffer, at: usize, rows: &[u32], n: u32) -> usize {
     let mut end = put_text(out, at, b"ok\n");
     let mut i: u32 = 0;
     while i < n {
@@ -85,81 +101,104 @@ pub fn put_rows(out: &mut [u8], at: usize, rows: &[u32], n: u32) -> usize {
     end
 }
 
-pub fn put_members(out: &mut [u8], at: usize, part: &[u32]) -> usize {
-    let mut end = put_text(out, at, b"members");
-    let mut i = 0;
-    while i < part.len() {
-        end = put_next(out, end, records::word_at(part, i) as u64);
-        i += 1;
-    }
+pub fn put_slots(out: &mut Buffer, at: usize, mask: u64) -> usize {
+    let end = put_named(out, at, b"slots", mask);
     put_byte(out, end, b'\n')
 }
 
-pub fn put_slots(out: &mut [u8], at: usize, mask: u64) -> usize {
-    let a = put_text(out, at, b"slots");
-    let b = put_next(out, a, mask);
+pub fn put_place(out: &mut Buffer, at: usize, byte: u64, leaf: u32) -> usize {
+    let a = put_named(out, at, b"place", byte);
+    let b = put_next(out, a, leaf as u64);
     put_byte(out, b, b'\n')
 }
 
-pub fn put_place(out: &mut [u8], at: usize, byte: u64, leaf: u32) -> usize {
-    let a = put_text(out, at, b"place");
-    let b = put_next(out, a, byte);
-    let c = put_next(out, b, leaf as u64);
-    put_byte(out, c, b'\n')
-}
+// Why a session stops: the numbers of the lines of the text in `put_why`.
+const NOT_A_NUMBER: u32 = 0;
 
-fn put_usage(out: &mut [u8], at: usize, command: arguments::Command) -> usize {
+const TOO_LARGE: u32 = 1;
+
+pub const LINE_TOO_LONG: u32 = 2;
+
+pub const INPUT_FAILED: u32 = 3;
+
+pub const TYPES_FULL: u32 = 4;
+
+pub const MEMBERS_FULL: u32 = 5;
+
+// The line that says what a command takes.
+fn usage_line(command: arguments::Command) -> u32 {
     match command {
-        arguments::Command::Capabilities => put_text(out, at, b"caps takes one number\n"),
-        arguments::Command::TypeRecord => put_text(
-            out,
-            at,
-            b"type takes a kind and at most 5 words\n",
-        ),
-        arguments::Command::MemberRecord => put_text(
-            out,
-            at,
-            b"member takes a type and an offset\n",
-        ),
-        arguments::Command::Check => put_text(out, at, b"check takes no number\n"),
-        arguments::Command::Members => put_text(out, at, b"members takes a type\n"),
-        arguments::Command::Slots => put_text(out, at, b"slots takes a type and an offset\n"),
-        arguments::Command::Range => put_text(out, at, b"range takes an offset and a size\n"),
-        arguments::Command::Place => put_text(
-            out,
-            at,
-            b"place takes a type and at most 1024 steps\n",
-        ),
-        arguments::Command::Clear => put_text(out, at, b"clear takes no number\n"),
-        arguments::Command::Unknown => put_text(
-            out,
-            at,
-            b"no such command; there are caps, type, member, check, members, slots, range, place and clear\n",
-        ),
+        arguments::Command::Capabilities => 6,
+        arguments::Command::TypeRecord => 7,
+        arguments::Command::MemberRecord => 8,
+        arguments::Command::Check => 9,
+        arguments::Command::Members => 10,
+        arguments::Command::Slots => 11,
+        arguments::Command::Range => 12,
+        arguments::Command::Place => 13,
+        arguments::Command::Clear => 14,
+        arguments::Command::Unknown => 15,
     }
 }
 
-fn put_word(out: &mut [u8], at: usize, word: u32, what: &[u8]) -> usize {
-    let a = put_text(out, at, b"word");
-    let b = put_next(out, a, word as u64);
-    put_text(out, b, what)
+// The line of a text that has n lines before it.
+fn put_line_of(out: &mut Buffer, at: usize, text: &[u8], n: u32) -> usize {
+    let mut end = at;
+    let mut before: u32 = 0;
+    let mut i = 0;
+    while i < text.len() {
+        let b = text[i];
+        if before == n {
+            end = put_byte(out, end, b);
+        }
+        if b == b'\n' {
+            before = std::num::wrapping_add_u32(before, 1);
+        }
+        i += 1;
+    }
+    end
 }
 
-pub fn put_reason(out: &mut [u8], at: usize, reason: arguments::Reason) -> usize {
+// One text for all the reasons is proved sooner than a text in each arm that has one.
+pub fn put_why(out: &mut Buffer, at: usize, why: u32) -> usize {
+    put_line_of(
+        out,
+        at,
+        b" is not a decimal number
+ is above 4294967295
+longer than 65535 bytes
+the input cannot be read
+the arena is full, with 1024 types
+the member table is full, with 4096 members
+caps takes one number
+type takes a kind and at most 5 words
+member takes a type and an offset
+check takes no number
+members takes a type
+slots takes a type and an offset
+range takes an offset and a size
+place takes a type and at most 1024 steps
+clear takes no number
+no such command; there are caps, type, member, check, members, slots, range, place and clear
+",
+        why,
+    )
+}
+
+fn put_word(out: &mut Buffer, at: usize, word: u32, why: u32) -> usize {
+    let end = put_named(out, at, b"word", word as u64);
+    put_why(out, end, why)
+}
+
+pub fn put_reason(out: &mut Buffer, at: usize, reason: arguments::Reason) -> usize {
     match reason {
-        arguments::Reason::NotANumber(word) => put_word(
-            out,
-            at,
-            word,
-            b" is not a decimal number\n",
-        ),
-        arguments::Reason::TooLarge(word) => put_word(out, at, word, b" is above 4294967295\n"),
-        arguments::Reason::Usage(command) => put_usage(out, at, command),
+        arguments::Reason::NotANumber(word) => put_word(out, at, word, NOT_A_NUMBER),
+        arguments::Reason::TooLarge(word) => put_word(out, at, word, TOO_LARGE),
+        arguments::Reason::Usage(command) => put_why(out, at, usage_line(command)),
     }
 }
 
-pub fn put_line(out: &mut [u8], at: usize, line: u64) -> usize {
-    let a = put_text(out, at, b"line ");
-    let b = put_number(out, a, line);
-    put_text(out, b, b": ")
+pub fn put_line(out: &mut Buffer, at: usize, line: u64) -> usize {
+    let end = put_named(out, at, b"line", line);
+    put_text(out, end, b": ")
 }

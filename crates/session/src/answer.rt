@@ -1,10 +1,12 @@
 // The commands that judge the arena, and the answer to a line.
+use commands::Arena;
 use commands::Session;
+use output::Buffer;
 use place::PlaceAnswer;
 use records::Outcome;
 use text::Line;
 
-fn check(session: Session, arena: &[u32], out: &mut [u8]) -> Session {
+fn check(session: Session, arena: &Arena, out: &mut Buffer) -> Session {
     let mut rows = [0u32; 14336];
     let at = session.waiting;
     let t = commands::part(arena, 0, session.types);
@@ -28,7 +30,7 @@ fn check(session: Session, arena: &[u32], out: &mut [u8]) -> Session {
     }
 }
 
-fn slots_of(session: Session, arena: &[u32], out: &mut [u8], ty: u32, offset: u32) -> Session {
+fn slots_of(session: Session, arena: &Arena, out: &mut Buffer, ty: u32, offset: u32) -> Session {
     let mut rows = [0u32; 14336];
     let t = commands::part(arena, 0, session.types);
     let m = commands::part(arena, commands::MEMBERS_AT, session.members);
@@ -39,7 +41,13 @@ fn slots_of(session: Session, arena: &[u32], out: &mut [u8], ty: u32, offset: u3
     )
 }
 
-fn place_of(session: Session, arena: &[u32], out: &mut [u8], start: u32, steps: &[u32]) -> Session {
+fn place_of(
+    session: Session,
+    arena: &Arena,
+    out: &mut Buffer,
+    start: u32,
+    steps: &[u32],
+) -> Session {
     let mut rows = [0u32; 14336];
     let at = session.waiting;
     let t = commands::part(arena, 0, session.types);
@@ -74,7 +82,7 @@ fn steps_of(numbers: &[u32], steps: u32) -> &[u32] {
 }
 
 // Answers a line.
-pub fn answer(line: &[u8], session: Session, arena: &mut [u32], out: &mut [u8]) -> Session {
+pub fn answer(line: &[u8], session: Session, arena: &mut Arena, out: &mut Buffer) -> Session {
     let mut numbers = [0u32; 1025];
     let read = text::read_line(line, &mut numbers);
     match read {

@@ -1,12 +1,14 @@
 // Answers the commands on standard input, line by line, over one arena.
 mod answer;
 
+use commands::Arena;
 use commands::Session;
+use output::Buffer;
 ghost use Prim.Native.Nat.{_≤_};
 ghost use lib.ListN.{length};
 
 // Answers the whole lines of the input, and says how many bytes are left.
-fn answer_lines(input: &[u8], session: Session, arena: &mut [u32], out: &mut [u8]) -> Session
+fn answer_lines(input: &[u8], session: Session, arena: &mut Arena, out: &mut Buffer) -> Session
     ensures { λ r. ⌜ r .held ≤ length (now (input .entry)) ⌝ }
 {
     let mut s = session;
@@ -31,8 +33,8 @@ fn answer_input(
     buffer: &mut [u8],
     end: usize,
     session: Session,
-    arena: &mut [u32],
-    out: &mut [u8],
+    arena: &mut Arena,
+    out: &mut Buffer,
 ) -> Session
     requires { ⌜ end ≤ length (now buffer) ⌝ }
 {
@@ -42,7 +44,7 @@ fn answer_input(
     s
 }
 
-fn turn(buffer: &mut [u8], session: Session, arena: &mut [u32], out: &mut [u8]) -> Session {
+fn turn(buffer: &mut [u8], session: Session, arena: &mut Arena, out: &mut Buffer) -> Session {
     let got = input::read_more(buffer, session.held);
     let end = got.end;
     let read = got.read;
@@ -50,7 +52,7 @@ fn turn(buffer: &mut [u8], session: Session, arena: &mut [u32], out: &mut [u8]) 
 }
 
 // A proved loop has to end, and nothing says that the input does: the turns are counted down from a number that no run uses up.
-fn answer_all(buffer: &mut [u8], arena: &mut [u32], out: &mut [u8]) {
+fn answer_all(buffer: &mut [u8], arena: &mut Arena, out: &mut Buffer) {
     let mut s = commands::start();
     let mut turns = u64::MAX;
     while turns > 0 {

@@ -1,12 +1,11 @@
 use borrow.Author.Needs.{needs}
-use mathlib.Core.Path.{_≡_}
 use Prim.Native.Nat.{_+_, _-_, _≤_}
 use lib.ListN.{length}
 use Rattle.commands.proofs.add_record.Statement.{statement}
 use Rattle.commands.proofs.add_record.Tie as tie
 
 abbrev Inv-loop : tie.InvT-loop
-Inv-loop arena₀ at limit words i₀ arena i = (i ≤ length words) × (length arena ≡ length arena₀)
+Inv-loop arena₀ at limit words i₀ arena i = i ≤ length words
 
 abbrev μ-loop : tie.MeasureT-loop
 μ-loop arena₀ at limit words i₀ arena i = length words - i
@@ -17,7 +16,6 @@ add-record-spec =
     (tie.spec
     Inv-loop
     μ-loop
-    (λ c. search needs)
     (λ c. search needs)
     (λ c. search needs)
     (λ c. search needs)

@@ -1,12 +1,11 @@
 use borrow.Author.Needs.{needs}
-use mathlib.Core.Path.{_≡_}
 use Prim.Native.Nat.{_-_, _≤_}
 use lib.ListN.{length}
 use Rattle.output.proofs.put_rows.Statement.{statement}
 use Rattle.output.proofs.put_rows.Tie as tie
 
 abbrev Inv-loop : tie.InvT-loop
-Inv-loop out₀ at rows n end₀ i₀ out end i = (i ≤ n) × (length out ≡ length out₀)
+Inv-loop out₀ at rows n end₀ i₀ out end i = i ≤ n
 
 abbrev μ-loop : tie.MeasureT-loop
 μ-loop out₀ at rows n end₀ i₀ out end i = n - i
@@ -21,7 +20,6 @@ put-rows-spec =
     (λ c κs. search needs)
     (λ c. search needs)
     (λ c κs. search needs)
-    (λ c. search needs)
     (λ c. search needs)
     (λ c. search needs)
     (λ c. search needs)

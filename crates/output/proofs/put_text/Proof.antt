@@ -1,12 +1,11 @@
 use borrow.Author.Needs.{needs}
-use mathlib.Core.Path.{_≡_}
 use Prim.Native.Nat.{_-_, _≤_}
 use lib.ListN.{length}
 use Rattle.output.proofs.put_text.Statement.{statement}
 use Rattle.output.proofs.put_text.Tie as tie
 
 abbrev Inv-loop : tie.InvT-loop
-Inv-loop out₀ at text end₀ i₀ out end i = (i ≤ length text) × (length out ≡ length out₀)
+Inv-loop out₀ at text end₀ i₀ out end i = i ≤ length text
 
 abbrev μ-loop : tie.MeasureT-loop
 μ-loop out₀ at text end₀ i₀ out end i = length text - i
@@ -20,7 +19,6 @@ put-text-spec =
     (λ c. search needs)
     (λ c. search needs)
     (λ c κs. search needs)
-    (λ c. search needs)
     (λ c. search needs)
     (λ c. search needs)
     (λ c. search needs)

@@ -6,7 +6,7 @@ use Rattle.session.proofs.answer_all.Statement.{statement}
 use Rattle.session.proofs.answer_all.Tie as tie
 
 abbrev Inv-loop : tie.InvT-loop
-Inv-loop buffer₀ arena₀ out₀ s₀ turns₀ buffer arena out s turns = (length buffer ≡ length buffer₀) × (length arena ≡ length arena₀) × (length out ≡ length out₀)
+Inv-loop buffer₀ arena₀ out₀ s₀ turns₀ buffer arena out s turns = length buffer ≡ length buffer₀
 
 abbrev μ-loop : tie.MeasureT-loop
 μ-loop buffer₀ arena₀ out₀ s₀ turns₀ buffer arena out s turns = turns
@@ -21,10 +21,6 @@ answer-all-spec =
     (λ c. search needs)
     (λ c κs. search needs)
     (λ c κs. search needs)
-    (λ c. search needs)
-    (λ c. search needs)
-    (λ c. search needs)
-    (λ c. search needs)
     (λ c. search needs)
     (λ c. search needs)
     (λ c. search needs)

@@ -1,6 +1,5 @@
 -- `session::answer_lines` is safe and ends: each turn goes past the end of a line. Assumes nothing.
 use borrow.Author.Needs.{needs}
-use mathlib.Core.Path.{_≡_}
 use Prim.Native.Nat.{_-_, _≤_}
 use native.Mathlib.Omega.{arith}
 use lib.ListN.{length}
@@ -8,23 +7,16 @@ use Rattle.session.proofs.answer_lines.Statement.{statement}
 use Rattle.session.proofs.answer_lines.Tie as tie
 
 abbrev Inv-loop : tie.InvT-loop
-Inv-loop input arena₀ out₀ s₀ at₀ end₀ arena out s at end = (at ≤ end) × (end ≤ length input) × (length arena ≡ length arena₀) × (length out ≡ length out₀)
+Inv-loop input arena₀ out₀ s₀ at₀ end₀ arena out s at end = (at ≤ end) × (end ≤ length input)
 
 abbrev μ-loop : tie.MeasureT-loop
 μ-loop input arena₀ out₀ s₀ at₀ end₀ arena out s at end = length input - at
 
 loop-less : tie.Need-loop-less Inv-loop μ-loop
-loop-less c = omega (arith, c .before .before .before .before .before .before .before .before .before .before .before .loop-test .taken, c .before .before .before .before .before .before .before .before .before .before .before .before .loop .inv .0)
+loop-less c = omega (arith, c .before .before .before .before .before .before .before .loop-test .taken, c .before .before .before .before .before .before .before .before .loop .inv .0)
 
 loop-again : tie.Need-loop-again Inv-loop μ-loop
-loop-again c =
-    let i = c .before .before .before .before .before .before .before .before .before .before .before .before .loop .inv in
-    let k = c .before .before .before .before .before .before .before .answer .kept in (
-      c .run-end2 .ensures .1 .0,
-      c .run-end2 .ensures .1 .1,
-      omega (arith, i .2, k .1 .1 .0),
-      omega (arith, i .3, k .1 .1 .1 .0),
-    )
+loop-again c = (c .run-end2 .ensures .1 .0, c .run-end2 .ensures .1 .1)
 
 pub answer-lines-spec : {M : Type 1} → statement M
 answer-lines-spec =
@@ -41,14 +33,10 @@ answer-lines-spec =
     (λ c κs. search needs)
     (λ c κs. search needs)
     (λ c. search needs)
-    (λ c. search needs)
-    (λ c. search needs)
     (λ c κs. search needs)
     (λ c κs. search needs)
     loop-less
     loop-again
     (λ c. search needs)
     (λ c κs. search needs)
-    (λ c. search needs)
-    (λ c. search needs)
     (λ c. search needs))

@@ -1,23 +1,21 @@
 use borrow.Author.Needs.{needs}
-use mathlib.Core.Path.{_≡_}
 use Prim.Native.Nat.{_-_, _≤_}
 use lib.ListN.{length}
-use Rattle.output.proofs.put_members.Statement.{statement}
-use Rattle.output.proofs.put_members.Tie as tie
+use Rattle.output.proofs.put_words.Statement.{statement}
+use Rattle.output.proofs.put_words.Tie as tie
 
 abbrev Inv-loop : tie.InvT-loop
-Inv-loop out₀ at part end₀ i₀ out end i = (i ≤ length part) × (length out ≡ length out₀)
+Inv-loop out₀ at head words end₀ i₀ out end i = i ≤ length words
 
 abbrev μ-loop : tie.MeasureT-loop
-μ-loop out₀ at part end₀ i₀ out end i = length part - i
+μ-loop out₀ at head words end₀ i₀ out end i = length words - i
 
-pub put-members-spec : {M : Type 1} → statement M
-put-members-spec =
+pub put-words-spec : {M : Type 1} → statement M
+put-words-spec =
     tie.close
     (tie.spec
     Inv-loop
     μ-loop
-    (λ c. search needs)
     (λ c κs. search needs)
     (λ c. search needs)
     (λ c κs. search needs)
@@ -27,5 +25,4 @@ put-members-spec =
     (λ c. search needs)
     (λ c. search needs)
     (λ c κs. search needs)
-    (λ c. search needs)
     (λ c. search needs))
