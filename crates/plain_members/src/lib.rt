@@ -1,16 +1,13 @@
 // The first members of a struct, as long as none breaks a rule: the member loop of validate_type in naga's valid/type.rs,
 // in fewer tests than `members` takes.
 ghost use mathlib.Core.Path.{_≡_};
-ghost use mathlib.Core.Bool.{_&&_};
 ghost use Prim.Native.Nat.{ℕ, _+_, _*_, _≤_, _<_};
 ghost use lib.ListN.{length};
-ghost use lib.Dec.{eqb};
-ghost use Rattle.records.specs.Record.{memberType, typeInner};
-ghost use Rattle.alignment.specs.Alignment.{isMask, isAligned};
+ghost use Rattle.records.specs.Record.{structKind, memberType, typeInner};
 ghost use Rattle.flags.specs.Flags.{startingFlags};
-ghost use Rattle.rows.specs.Rows.{rowWord};
 ghost use Rattle.type_info.specs.declared.Previous as previous;
 ghost use Rattle.type_info.specs.TypeInfo.{rowsIn};
+ghost use Rattle.type_info.specs.Verdict.{minUniform, minStorage};
 ghost use Rattle.member_rules.specs.MemberRules.{structAt};
 ghost use Rattle.plain_members.specs.PlainMembers.{leastOf, keepsVerdicts, Stepped, PlainAfter};
 
@@ -101,6 +98,20 @@ fn plain_member(
     })
 }
 
+// Before the first member.
+fn start() -> PlainState
+    ensures { λ r. ⌜ r ≡ record { end = 0; flags = startingFlags structKind; uniform = minUniform; storage = minStorage; least = 0 } ⌝ }
+{
+    let flags = flags::starting_flags(flags::STRUCT_KIND);
+    PlainState {
+        end: 0,
+        flags,
+        uniform: type_info::MIN_UNIFORM,
+        storage: type_info::MIN_STORAGE,
+        least: 0,
+    }
+}
+
 // The members of struct i up to the first that breaks a rule; rows has those of the types before it.
 pub fn plain_members(
     types: &[u32],
@@ -117,14 +128,7 @@ pub fn plain_members(
     ensures { λ r. ⌜ r .taken ≤ count ⌝ }
     ensures { λ r. ⌜ PlainAfter (typeInner (now (types .entry))) (rowsIn (now (rows .entry))) i count span (now (part .entry)) (r .taken) (r .state) ⌝ }
 {
-    let flags = flags::starting_flags(flags::STRUCT_KIND);
-    let mut state = PlainState {
-        end: 0,
-        flags,
-        uniform: type_info::MIN_UNIFORM,
-        storage: type_info::MIN_STORAGE,
-        least: 0,
-    };
+    let mut state = start();
     let last = count as usize;
     let mut j: usize = 0;
     while j < last {

@@ -15,17 +15,17 @@ use Rattle.plain_members.proofs.plain_members.Statement.{statement}
 use Rattle.plain_members.proofs.plain_members.Tie as tie
 
 abbrev Inv-loop : tie.InvT-loop
-Inv-loop types rows i part count span flags state₀ last j₀ state j =
+Inv-loop types rows i part count span state₀ last j₀ state j =
     (j ≤ count)
     × PlainAfter (typeInner types) (rowsIn rows) i count span part j state
     × (leastOf (state .end) (previousOf (typeInner types) part j) ≡ state .least)
 
 abbrev μ-loop : tie.MeasureT-loop
-μ-loop types rows i part count span flags state₀ last j₀ state j = count - j
+μ-loop types rows i part count span state₀ last j₀ state j = count - j
 
 loop-holds : tie.Need-loop-holds Inv-loop μ-loop
 unfolding boundsAfter uniformAfter storageAfter immediatesAfter previousOf
-loop-holds c = (omega arith, (rw (c .starting-flags .ensures) refl, refl, refl, refl), refl)
+loop-holds c = (omega arith, (rw (c .start .ensures) refl, rw (c .start .ensures) refl, rw (c .start .ensures) refl, refl), rw (c .start .ensures) refl)
 
 own-type-requires : tie.Need-own-type-requires Inv-loop μ-loop
 own-type-requires c κs = omega (arith, c .before .before .before .before .before .before .pre .1 .1 .0, c .loop-test .taken)
@@ -39,8 +39,8 @@ plain-member-requires c κs =
     let earlier = rw (← c .before .own-type .ensures) at (pre .1 .1 .1 (c .before .before .before .loop .j) (c .before .before .loop-test .taken)) in
     (omega (arith, earlier, pre .0), omega (arith, earlier, pre .1 .0))
 
-cast-t16 : tie.Need-cast-t16 Inv-loop μ-loop
-cast-t16 c = omega (arith, c .before .before .before .before .before .loop-test .taken, c .before .before .before .before .before .before .before .before .before .before .before .fits .count)
+cast-t15 : tie.Need-cast-t15 Inv-loop μ-loop
+cast-t15 c = omega (arith, c .before .before .before .before .before .loop-test .taken, c .before .before .before .before .before .before .before .before .before .before .before .fits .count)
 
 returns : tie.Need-returns Inv-loop μ-loop
 returns c = let l = c .before .before .before .before .before .before .loop in (l .inv .0, l .inv .1)
@@ -81,7 +81,7 @@ plain-members-spec =
     plain-member-requires
     (λ c. search needs)
     (λ c. search needs)
-    cast-t16
+    cast-t15
     returns
     add-j
     loop-less

@@ -1,0 +1,10 @@
+use borrow.Author.Needs.{needs}
+use mathlib.Core.Path.{refl}
+use Rattle.plain_members.proofs.start.Statement.{statement}
+use Rattle.plain_members.proofs.start.Tie as tie
+
+returns : tie.Need-returns
+returns c = rw (c .starting-flags .ensures) refl
+
+pub start-spec : {M : Type 1} → statement M
+start-spec = tie.close (tie.spec (λ c κs. search needs) returns)
