@@ -16,10 +16,11 @@ use Rattle.records.proofs.ResultLaws.{required, ok-inj}
 use Rattle.records.proofs.TableLaws.{all-ok, value-ok, table-value}
 use Rattle.alignment.specs.Alignment.{powerOfTwo}
 use Rattle.type_methods.specs.TypeMethods.{mostSize, leafSize, trySize}
-use Rattle.type_layout.specs.declared.TypeLayout.{TypeLayout}
-use Rattle.type_layout.specs.TypeLayout.{leafWidth, leafFactor, baseAlignment, membersAlignment, alignmentOf}
+use Rattle.type_alignment.specs.declared.TypeLayout.{TypeLayout}
+use Rattle.type_alignment.specs.TypeAlignment.{leafWidth, leafFactor, baseAlignment, membersAlignment, alignmentOf}
 use Rattle.layouter.specs.Layouter.{noLayout, layoutStep, layoutAt, layout}
-use Rattle.type_layout.proofs.AcceptedParts.{leaf-accepted, base-accepted, member-accepted, layout-parts}
+use Rattle.type_alignment.proofs.AcceptedAlignment.{leaf-accepted, base-accepted, member-accepted}
+use Rattle.type_layout.proofs.AcceptedParts.{layout-parts}
 
 -- where the first n types are accepted, the layout of each is made from the layouts of those before it
 pub accepted-step : (types : ℕ → Decoded) (n : ℕ) → firstRefusal (layoutAt types) n ≡ Accepted → (t : ℕ) → t < n

@@ -17,10 +17,11 @@ use Rattle.records.proofs.ResultLaws.{and-then-ok}
 use Rattle.records.proofs.TableLaws.{table-value, table-above, value-ok, flat-length, flat-word, all-ok, accepted-all, also-accepted, outcome-accepted}
 use Rattle.rows.specs.Rows.{rowWord, withRow, cleared}
 use Rattle.rows.proofs.RowLaws.{flat-more, drop-row}
-use Rattle.type_layout.specs.declared.TypeLayout.{TypeLayout}
+use Rattle.type_alignment.specs.declared.TypeLayout.{TypeLayout}
+use Rattle.type_alignment.specs.TypeAlignment.{layoutsIn}
 use Rattle.type_layout.specs.declared.Laid.{Laid}
 use Rattle.type_layout.specs.declared.Laid.the-variants as laid
-use Rattle.type_layout.specs.TypeLayout.{recordLayout, layoutsIn, laidResult}
+use Rattle.type_layout.specs.TypeLayout.{recordLayout, laidResult}
 use Rattle.layouter.specs.Layouter.{noLayout, layoutStep, layoutAt, layout, layoutOutcome, recordThenLayout, layoutRowAt, rowsAfter, wordsAfter}
 
 -- the tests of numbers 2 and 3 and then the rest, apart or in one

@@ -12,10 +12,10 @@ use Rattle.records.specs.declared.Outcome.the-variants.{Accepted}
 use Rattle.records.proofs.TableLaws.{value-holds, all-ok, also-accepted}
 use Rattle.records.proofs.RecordLaws.{record-bounds}
 use Rattle.alignment.specs.Alignment.{Power}
-use Rattle.type_layout.specs.declared.TypeLayout.{TypeLayout}
+use Rattle.type_alignment.specs.declared.TypeLayout.{TypeLayout}
 use Rattle.layouter.specs.Layouter.{noLayout, layoutStep, layoutAt, layout, layoutOutcome}
+use Rattle.type_alignment.proofs.AlignmentPower.{alignment-power}
 use Rattle.type_layout.proofs.AcceptedParts.{layout-parts}
-use Rattle.type_layout.proofs.AlignmentPower.{alignment-power}
 
 -- where the fields of the first n types are within their bounds and they have layouts, the alignment of each is a power of two
 pub layout-power : (types : ℕ → Decoded) (n : ℕ) → ((i : ℕ) → i < n → InnerBounds (types i .inner)) → firstRefusal (layoutAt types) n ≡ Accepted

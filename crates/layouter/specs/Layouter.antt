@@ -11,7 +11,7 @@ use Rattle.records.specs.Table.{resultAt, valueAt, also, firstRefusal, flat}
 use Rattle.records.specs.declared.Outcome.{Outcome}
 use Rattle.records.specs.declared.Outcome.the-variants.{Accepted, Refused}
 use Rattle.rows.specs.Rows.{layoutRow, withRow, cleared}
-use Rattle.type_layout.specs.declared.TypeLayout.{TypeLayout}
+use Rattle.type_alignment.specs.declared.TypeLayout.{TypeLayout}
 use Rattle.type_layout.specs.declared.Laid.{Laid}
 use Rattle.type_layout.specs.declared.Laid.the-variants as laid
 use Rattle.type_layout.specs.TypeLayout.{layoutOf}

@@ -6,7 +6,8 @@ ghost use Prim.Native.Nat.{_+_, _*_, _≤_, _<_};
 ghost use lib.ListN.{length, take};
 ghost use Rattle.records.specs.Record.{typeCount};
 ghost use Rattle.records.specs.Table.{also, firstRefusal};
-ghost use Rattle.type_layout.specs.TypeLayout.{recordLayout, layoutsIn, laidResult};
+ghost use Rattle.type_alignment.specs.TypeAlignment.{layoutsIn};
+ghost use Rattle.type_layout.specs.TypeLayout.{recordLayout, laidResult};
 ghost use Rattle.layouter.specs.Layouter.{wordsAfter, recordThenLayout, layoutRows, rowsAfter, layoutOutcome, layoutAnswer, layoutWords};
 
 // The first refusal, or else the second.

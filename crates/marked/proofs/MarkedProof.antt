@@ -13,7 +13,8 @@ use Rattle.records.specs.declared.Outcome.{Outcome}
 use Rattle.records.specs.declared.Outcome.the-variants.{Accepted, Refused}
 use Rattle.records.proofs.ResultLaws.{and-left, and-right}
 use Rattle.type_methods.specs.TypeMethods.{trySize}
-use Rattle.type_layout.specs.TypeLayout.{membersAlignment, alignmentOf, layoutOf}
+use Rattle.type_alignment.specs.TypeAlignment.{membersAlignment, alignmentOf}
+use Rattle.type_layout.specs.TypeLayout.{layoutOf}
 use Rattle.layouter.specs.Layouter.{layoutOutcome, layoutAnswer, layoutRows}
 use Rattle.width.specs.Width.{integerWidth, floatWidth, checkWidth, integerAtomic, atomicWidth}
 use Rattle.type_flags.specs.TypeFlags.{leafFlags}

@@ -1,3 +1,2 @@
 pub mod TypeLayoutLaws
 pub mod AcceptedParts
-pub mod AlignmentPower

@@ -1,33 +1,27 @@
--- Laws of layouts: one type, one record, the loop over members.
+-- Laws of layouts: one type, one record.
 -- Assumes nothing.
 use mathlib.Core.Path.{_≡_, refl, sym, _∙_}
 use mathlib.Core.Bool.{Bool, true, false, _&&_}
 use mathlib.Core.List.{List}
-use Prim.Native.Nat.{ℕ, _+_, _*_, _≤_, _<_, max}
+use Prim.Native.Nat.{ℕ, _+_, _*_, _≤_, _<_}
 use native.Mathlib.Omega.{arith}
-use native.Mathlib.Numerals.{add-one}
-use native.Mathlib.Decide.{le-ind}
 use lib.Dec.{eqb, leb, leb→le}
 use lib.ListN.{length, take, drop, length-drop}
 use lib.Seq.{length-take-le}
-use borrow.Author.Tests.{lt-ltb, le-ltb, ne-eqb}
-use Rattle.records.specs.Result.{err, ok, pick, andThen}
-use Rattle.records.specs.Record.{memberType, memberCount, typeCount, typeWord, recordWords, structKind, structMembers, innerOf}
+use borrow.Author.Tests.{ne-eqb}
+use Rattle.records.specs.Result.{err, pick, andThen}
+use Rattle.records.specs.Record.{memberCount, typeCount, typeWord, recordWords, structKind, structMembers, innerOf}
 use Rattle.records.specs.Fields.{fieldsOk, InnerBounds}
 use Rattle.records.specs.declared.Words.{Words}
 use Rattle.records.specs.declared.TypeInner.the-variants.{Array, RuntimeArray}
 use Rattle.records.proofs.ResultLaws.{true-T, and-left}
 use Rattle.records.proofs.RecordLaws.{members-part, fields-bounds}
-use Rattle.alignment.proofs.PowerLaws.{vector-within}
-use Rattle.alignment.specs.Alignment.{vectorAlignment}
 use Rattle.type_methods.specs.TypeMethods.{arraySize, runtimeArraySize, trySize}
-use Rattle.type_layout.specs.declared.TypeLayout.{TypeLayout}
-use Rattle.type_layout.specs.TypeLayout.{membersAlignment, baseAlignment, alignmentOf, sizedLayout, layoutOf, wordsLayout, recordLayout}
+use Rattle.type_alignment.specs.declared.TypeLayout.{TypeLayout}
+use Rattle.type_alignment.specs.TypeAlignment.{baseAlignment, alignmentOf}
+use Rattle.type_layout.specs.TypeLayout.{sizedLayout, layoutOf, wordsLayout, recordLayout}
 
 -- ---- one type
-pub factor-within : (n : ℕ) → vectorAlignment n ≤ 16
-factor-within n = omega (arith, vector-within n)
-
 -- the bounds of the fields behind a test that was taken
 pub taken-bounds : (kind a b c d e : ℕ) (test : Bool) → ((m : ℕ) → test ≡ fieldsOk m kind a b c d e) → test ≡ true → InnerBounds (innerOf kind a b c d e)
 taken-bounds kind a b c d e test is taken = fields-bounds 0 kind a b c d e (true-T (sym (is 0) ∙ taken))
@@ -105,14 +99,3 @@ struct-words ts ms layouts i w read k h =
         let within = members-within (memberCount ms) (typeWord ts i 1) (typeWord ts i 2) (typeWord ts i 3) (typeWord ts i 4) (typeWord ts i 5) e in
         rw (members-part ts ms i (omega (arith, h)) kind within, kind) refl
     go false e = rw (kind, e) refl
-
--- ---- the loop over members
-module _ (layouts : ℕ → TypeLayout) (i : ℕ) (part : List ℕ) (j a : ℕ) (so-far : membersAlignment layouts i part j ≡ ok a) where
-  pub member-earlier : memberType part j < i → membersAlignment layouts i part (j + 1) ≡ ok (max a (layouts (memberType part j) .alignment))
-  unfolding membersAlignment
-  member-earlier h = rw (add-one j, so-far, lt-ltb (memberType part j) i h)
-
-  pub member-late : i ≤ memberType part j → (n : ℕ) → j < n → membersAlignment layouts i part n ≡ err 6 j 0
-  unfolding membersAlignment
-  member-late h n l =
-      le-ind (λ (m : ℕ). membersAlignment layouts i part m ≡ err 6 j 0) (rw (so-far, le-ltb (memberType part j) i h)) (λ m k p. rw p) n l

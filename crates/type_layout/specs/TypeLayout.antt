@@ -1,69 +1,17 @@
 -- 01, 'The layout': size and alignment of one type (`Layouter::update` of naga's proc/layouter.rs) from those of the types before it,
--- numbers 4 to 7.
+-- numbers 4 to 7, of which 5 to 7 come from the alignment (type_alignment: TypeAlignment).
 -- Assumes nothing.
 use mathlib.Core.List.{List}
-use Prim.Native.Nat.{ℕ, zero, suc, _*_, max}
-use lib.Dec.{ltb}
+use Prim.Native.Nat.{ℕ}
 use Rattle.records.specs.Result.{Result, err, ok, require, andThen}
-use Rattle.records.specs.Record.{memberType, memberCount, typeCount, typeWord, innerOf, structMembers}
+use Rattle.records.specs.Record.{memberCount, typeCount, typeWord, innerOf, structMembers}
 use Rattle.records.specs.Fields.{fieldsOk, baseWithin}
-use Rattle.records.specs.declared.Leaf.{Leaf}
-use Rattle.records.specs.declared.Leaf.the-variants.{Scalar, Vector, Matrix, CooperativeMatrix, Atomic, RayQuery}
 use Rattle.records.specs.declared.TypeInner.{TypeInner}
-use Rattle.records.specs.declared.TypeInner.the-variants.{Plain, Array, RuntimeArray, Struct, Other}
-use Rattle.rows.specs.Rows.{rowWord}
-use Rattle.alignment.specs.Alignment.{powerOfTwo, vectorAlignment}
 use Rattle.type_methods.specs.TypeMethods.{trySize}
-use Rattle.type_layout.specs.declared.TypeLayout.{TypeLayout}
-use Rattle.type_layout.specs.declared.Aligned.{Aligned}
-use Rattle.type_layout.specs.declared.Aligned.the-variants as aligned
+use Rattle.type_alignment.specs.declared.TypeLayout.{TypeLayout}
+use Rattle.type_alignment.specs.TypeAlignment.{alignmentOf}
 use Rattle.type_layout.specs.declared.Laid.{Laid}
 use Rattle.type_layout.specs.declared.Laid.the-variants as laid
-
--- ---- alignments
--- the width that has to be a power of two
-abbrev pub leafWidth : Leaf → ℕ
-leafWidth (Scalar kind width) = width
-leafWidth (Vector size kind width) = width
-leafWidth (Matrix columns rows kind width) = width
-leafWidth (CooperativeMatrix columns rows kind width role) = width
-leafWidth (Atomic kind width) = width
-leafWidth (RayQuery vertexReturn) = 1
-
--- what the width is multiplied by
-abbrev pub leafFactor : Leaf → ℕ
-leafFactor (Scalar kind width) = 1
-leafFactor (Vector size kind width) = vectorAlignment size
-leafFactor (Matrix columns rows kind width) = vectorAlignment rows
-leafFactor (CooperativeMatrix columns rows kind width role) = rows
-leafFactor (Atomic kind width) = 1
-leafFactor (RayQuery vertexReturn) = 1
-
--- the largest alignment of the first j members; number 6 with the member's position
-unfoldable pub membersAlignment : (layouts : ℕ → TypeLayout) (i : ℕ) (members : List ℕ) → ℕ → Result ℕ
-membersAlignment layouts i members zero = ok 1
-membersAlignment layouts i members (suc j) =
-    andThen (membersAlignment layouts i members j)
-    (λ a. require (ltb (memberType members j) i) 6 j 0 (ok (max a (layouts (memberType members j) .alignment))))
-
--- number 5: an array's element is an earlier type
-abbrev pub baseAlignment : (layouts : ℕ → TypeLayout) (i base : ℕ) → Result ℕ
-baseAlignment layouts i base = require (ltb base i) 5 0 0 (ok (layouts base .alignment))
-
--- number 7: the width is a power of two
-abbrev pub widthAlignment : (factor width : ℕ) → Result ℕ
-widthAlignment factor width = require (powerOfTwo width) 7 0 0 (ok (factor * width))
-
-abbrev pub leafAlignment : Leaf → Result ℕ
-leafAlignment leaf = widthAlignment (leafFactor leaf) (leafWidth leaf)
-
--- of type i, from the layouts of those before it
-unfoldable pub alignmentOf : (layouts : ℕ → TypeLayout) → ℕ → TypeInner → (members : List ℕ) → Result ℕ
-alignmentOf layouts i (Plain leaf) members = leafAlignment leaf
-alignmentOf layouts i (Array base count stride) members = baseAlignment layouts i base
-alignmentOf layouts i (RuntimeArray base stride) members = baseAlignment layouts i base
-alignmentOf layouts i (Struct count span) members = membersAlignment layouts i members count
-alignmentOf layouts i (Other o) members = ok 1
 
 -- ---- layouts
 -- of this size, where the alignment is not refused
@@ -87,15 +35,7 @@ recordLayout ts ms layouts i =
     wordsLayout (memberCount ms) (typeCount ts) layouts i (typeWord ts i 0) (typeWord ts i 1) (typeWord ts i 2) (typeWord ts i 3) (typeWord ts i 4) (typeWord ts i 5)
     (structMembers ts ms i)
 
--- ---- what the code reads and answers
--- the layouts in the first two words of fourteen-word rows
-abbrev pub layoutsIn : List ℕ → ℕ → TypeLayout
-layoutsIn rows k = record { size = rowWord rows k 0; alignment = rowWord rows k 1 }
-
-abbrev pub alignedResult : Aligned → Result ℕ
-alignedResult (aligned.To alignment) = ok alignment
-alignedResult (aligned.Refused number member) = err number member 0
-
+-- ---- what the code answers
 abbrev pub laidResult : Laid → Result TypeLayout
 laidResult (laid.Layout l) = ok l
 laidResult (laid.Refused number member) = err number member 0

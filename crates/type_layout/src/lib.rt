@@ -1,4 +1,6 @@
 // The layout of one type, from the rows of the types before it, as in Layouter::update of naga's proc/layouter.rs; numbers 2 to 7.
+use type_alignment::Aligned;
+use type_alignment::TypeLayout;
 use type_methods::Size;
 ghost use mathlib.Core.Path.{_≡_};
 ghost use mathlib.Core.List.{List};
@@ -7,77 +9,13 @@ ghost use lib.ListN.{length, take, drop};
 ghost use Rattle.records.specs.Result.{err, ok, require, andThen};
 ghost use Rattle.records.specs.Record.{scalarKind, vectorKind, matrixKind, cooperativeMatrixKind, arrayKind, structKind, memberCount};
 ghost use Rattle.type_methods.specs.TypeMethods.{sizeByForm};
-ghost use Rattle.type_layout.specs.declared.TypeLayout as layout;
-ghost use Rattle.type_layout.specs.TypeLayout.{widthAlignment, membersAlignment, baseAlignment, sizedLayout, wordsLayout, recordLayout, layoutsIn, alignedResult, laidResult};
-
-// naga's TypeLayout.
-pub struct TypeLayout {
-    pub size: u32,
-    pub alignment: u32,
-}
-
-pub enum Aligned {
-    To(u32),
-    Refused { number: u32, member: u32 },
-}
+ghost use Rattle.type_alignment.specs.declared.TypeLayout as layout;
+ghost use Rattle.type_alignment.specs.TypeAlignment.{baseAlignment, layoutsIn, alignedResult};
+ghost use Rattle.type_layout.specs.TypeLayout.{sizedLayout, wordsLayout, recordLayout, laidResult};
 
 pub enum Laid {
     Layout(TypeLayout),
     Refused { number: u32, member: u32 },
-}
-
-// Number 7 for a width that is no power of two.
-fn leaf_alignment(factor: u32, width: u32) -> Aligned
-    requires { ⌜ factor ≤ 16 ⌝ }
-    requires { ⌜ width ≤ 255 ⌝ }
-    ensures { λ r. ⌜ alignedResult r ≡ widthAlignment factor width ⌝ }
-{
-    if alignment::power_of_two(width) {
-        let product = factor * width;
-        Aligned::To(product)
-    } else {
-        Aligned::Refused {
-            number: 7,
-            member: 0,
-        }
-    }
-}
-
-// Number 5 for an element that is no earlier type.
-fn base_alignment(rows: &[u32], i: u32, base: u32) -> Aligned
-    ensures { λ r. ⌜ alignedResult r ≡ baseAlignment (layoutsIn (now (rows .entry))) i base ⌝ }
-{
-    if base < i {
-        Aligned::To(rows::row_word(rows, base, 1))
-    } else {
-        Aligned::Refused {
-            number: 5,
-            member: 0,
-        }
-    }
-}
-
-// The largest alignment of a struct's members; number 6 for a member that is no earlier type.
-fn members_alignment(rows: &[u32], i: u32, part: &[u32], count: u32) -> Aligned
-    requires { ⌜ length (now rows) ≡ i * 14 ⌝ }
-    requires { ⌜ length (now part) ≡ count * 2 ⌝ }
-    ensures { λ r. ⌜ alignedResult r ≡ membersAlignment (layoutsIn (now (rows .entry))) i (now (part .entry)) count ⌝ }
-{
-    let mut a: u32 = 1;
-    let end = count as usize;
-    let mut j: usize = 0;
-    while j < end {
-        let ty = records::own_type(part, j);
-        if i <= ty {
-            return Aligned::Refused {
-                number: 6,
-                member: j as u32,
-            };
-        }
-        a = alignment::larger(a, rows[(ty as usize) * records::ROW_WORDS + 1]);
-        j += 1;
-    }
-    Aligned::To(a)
 }
 
 fn with_alignment(size: u32, aligned: Aligned) -> Laid
@@ -103,7 +41,7 @@ fn scalar_layout(a: u32, b: u32, c: u32, d: u32, e: u32) -> Laid
     ensures { λ r. ⌜ ((m n i : ℕ) (layouts : ℕ → layout.TypeLayout) (members : List ℕ) → laidResult r ≡ wordsLayout m n layouts i scalarKind a b c d e members) ⌝ }
 {
     if fields::scalar_fields(a, b, c, d, e) {
-        return with_alignment(b, leaf_alignment(1, b));
+        return with_alignment(b, type_alignment::leaf_alignment(1, b));
     }
     unfit()
 }
@@ -113,7 +51,10 @@ fn vector_layout(a: u32, b: u32, c: u32, d: u32, e: u32) -> Laid
 {
     if fields::vector_fields(a, b, c, d, e) {
         let factor = alignment::vector_alignment(a);
-        return with_alignment(type_methods::vector_size(a, c), leaf_alignment(factor, c));
+        return with_alignment(
+            type_methods::vector_size(a, c),
+            type_alignment::leaf_alignment(factor, c),
+        );
     }
     unfit()
 }
@@ -125,7 +66,7 @@ fn matrix_layout(a: u32, b: u32, c: u32, d: u32, e: u32) -> Laid
         let factor = alignment::vector_alignment(b);
         return with_alignment(
             type_methods::matrix_size(a, b, d),
-            leaf_alignment(factor, d),
+            type_alignment::leaf_alignment(factor, d),
         );
     }
     unfit()
@@ -137,7 +78,7 @@ fn cooperative_layout(a: u32, b: u32, c: u32, d: u32, e: u32) -> Laid
     if fields::cooperative_fields(a, b, c, d, e) {
         return with_alignment(
             type_methods::cooperative_size(a, b, d),
-            leaf_alignment(b, d),
+            type_alignment::leaf_alignment(b, d),
         );
     }
     unfit()
@@ -174,7 +115,7 @@ fn array_layout(rows: &[u32], i: u32, base: u32, form: u32, count: u32, stride: 
     ensures { λ r. ⌜ laidResult r ≡ andThen (sizeByForm form count stride) (sizedLayout (baseAlignment (layoutsIn (now (rows .entry))) i base)) ⌝ }
 {
     match type_methods::size_by_form(form, count, stride) {
-        Size::Bytes(size) => with_alignment(size, base_alignment(rows, i, base)),
+        Size::Bytes(size) => with_alignment(size, type_alignment::base_alignment(rows, i, base)),
         Size::TooLarge => Laid::Refused {
             number: 4,
             member: 0,
@@ -206,7 +147,7 @@ fn struct_record(
 {
     if fields::struct_fields(members.len() / records::MEMBER_WORDS, a, b, d, e) {
         let part = records::member_part(members, a, b);
-        return with_alignment(c, members_alignment(rows, i, part, b));
+        return with_alignment(c, type_alignment::members_alignment(rows, i, part, b));
     }
     unfit()
 }

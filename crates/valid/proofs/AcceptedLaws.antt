@@ -25,11 +25,11 @@ use Rattle.records.proofs.TableLaws.{table-value, value-ok, same-value, same-go
 use Rattle.alignment.specs.Alignment.{Power}
 use Rattle.alignment.proofs.PowerLaws.{power-of-width, power-vector}
 use Rattle.type_methods.specs.TypeMethods.{leafSize}
-use Rattle.type_layout.specs.TypeLayout.{leafWidth}
+use Rattle.type_alignment.specs.TypeAlignment.{leafWidth}
+use Rattle.type_alignment.proofs.AcceptedAlignment.{members-earlier}
+use Rattle.type_alignment.proofs.AlignmentPower.{power-one}
 use Rattle.layouter.specs.Layouter.{noLayout, layoutStep, layoutAt, layout}
-use Rattle.type_layout.proofs.AcceptedParts.{members-earlier}
 use Rattle.layouter.proofs.LayoutAccepted.{plain-layout, plain-width, array-layout, runtime-array-layout, struct-layout}
-use Rattle.type_layout.proofs.AlignmentPower.{power-one}
 use Rattle.layouter.proofs.LayoutPower.{layout-power}
 use Rattle.flags.specs.Flags.{bit, dataBit, sizedBit, creationResolvedBit}
 use Rattle.flags.proofs.BitLaws.{bit-or-left, bit-or-right}

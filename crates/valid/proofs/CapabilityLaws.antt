@@ -13,7 +13,7 @@ use Rattle.records.specs.declared.NonData.the-variants.{Pointer, ValuePointer, 
 use Rattle.records.specs.declared.TypeInner.{TypeInner}
 use Rattle.records.specs.declared.TypeInner.the-variants.{Plain, Array, RuntimeArray, Struct, Other}
 use Rattle.records.proofs.ResultLaws.{required, require-pass, and-then-ok}
-use Rattle.type_layout.specs.declared.TypeLayout.{TypeLayout}
+use Rattle.type_alignment.specs.declared.TypeLayout.{TypeLayout}
 use Rattle.flags.specs.Flags.{bit}
 use Rattle.width.specs.Width.{float64, shaderFloat16, shaderInt16, shaderInt64, shaderFloat32Atomic, shaderInt64AtomicMinMax, shaderInt64AtomicAllOps, cooperativeMatrix, cubeArrayTextures, textureExternal, rayQuery, rayTracingPipeline, rayHitVertexPosition, uint, float, integerWidth, floatWidth, checkWidth, integerAtomic, atomicWidth}
 use Rattle.type_flags.specs.TypeFlags.{leafFlags, imageFlags}

@@ -10,7 +10,7 @@ use Rattle.records.specs.Record.{Decoded}
 use Rattle.records.specs.Table.{table, resultAt}
 use Rattle.records.specs.declared.TypeInner.{TypeInner}
 use Rattle.records.proofs.TableLaws.{table-above}
-use Rattle.type_layout.specs.declared.TypeLayout.{TypeLayout}
+use Rattle.type_alignment.specs.declared.TypeLayout.{TypeLayout}
 use Rattle.type_layout.specs.TypeLayout.{layoutOf}
 use Rattle.layouter.specs.Layouter.{noLayout, layoutStep, layoutAt, layout}
 use Rattle.layouter.proofs.TableSame.{value-same, tables-agree, values-agree, results-agree}

@@ -14,7 +14,7 @@ use Rattle.records.specs.declared.NonData.the-variants.{Pointer, ValuePointer, 
 use Rattle.records.specs.declared.TypeInner.{TypeInner}
 use Rattle.records.specs.declared.TypeInner.the-variants.{Plain, Array, RuntimeArray, Struct, Other}
 use Rattle.records.proofs.ResultLaws.{required, and-then-ok, ok-inj, T-true, and-left}
-use Rattle.type_layout.specs.declared.TypeLayout.{TypeLayout}
+use Rattle.type_alignment.specs.declared.TypeLayout.{TypeLayout}
 use Rattle.flags.specs.Flags.{bit, dataBit, sizedBit, creationResolvedBit, scalarFlags, bindingArrayFlags}
 use Rattle.flags.proofs.BitLaws.{bit-and, bit-and-both}
 use Rattle.width.specs.Width.{float, cooperativeMatrix, cubeArrayTextures, textureExternal, rayQuery, rayTracingPipeline, rayHitVertexPosition, checkWidth, atomicWidth}

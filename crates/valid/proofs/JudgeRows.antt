@@ -14,8 +14,8 @@ use Rattle.records.specs.Table.{table, resultAt, flat}
 use Rattle.records.proofs.TableLaws.{table-value, table-above, value-ok, flat-length, flat-word}
 use Rattle.rows.specs.Rows.{rowWord, withRow}
 use Rattle.rows.proofs.RowLaws.{flat-more, drop-row}
-use Rattle.type_layout.specs.declared.TypeLayout.{TypeLayout}
-use Rattle.type_layout.specs.TypeLayout.{layoutsIn}
+use Rattle.type_alignment.specs.declared.TypeLayout.{TypeLayout}
+use Rattle.type_alignment.specs.TypeAlignment.{layoutsIn}
 use Rattle.layouter.specs.Layouter.{layout, layoutRowAt, layoutRows}
 use Rattle.type_info.specs.declared.Row.{Row}
 use Rattle.type_info.specs.TypeInfo.{wordsOf, rowsIn, emptyRow}

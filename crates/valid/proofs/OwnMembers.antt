@@ -19,7 +19,7 @@ use Rattle.records.specs.declared.Outcome.the-variants.{Accepted}
 use Rattle.records.specs.declared.TypeInner.the-variants.{Array, RuntimeArray, Struct}
 use Rattle.records.proofs.ResultLaws.{required, and-left}
 use Rattle.records.proofs.RecordLaws.{members-part}
-use Rattle.type_layout.specs.TypeLayout.{membersAlignment}
+use Rattle.type_alignment.specs.TypeAlignment.{membersAlignment}
 use Rattle.layouter.specs.Layouter.{noLayout, layoutStep, layoutAt}
 use Rattle.layouter.proofs.LayoutAccepted.{struct-layout, member-layout}
 use Rattle.valid.specs.Valid.{MembersEarlier}

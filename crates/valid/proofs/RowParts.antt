@@ -12,7 +12,7 @@ use Rattle.records.specs.declared.Words.{Words}
 use Rattle.records.specs.declared.Leaf.{Leaf}
 use Rattle.records.specs.declared.NonData.{NonData}
 use Rattle.records.specs.declared.TypeInner.{TypeInner}
-use Rattle.type_layout.specs.declared.TypeLayout.{TypeLayout}
+use Rattle.type_alignment.specs.declared.TypeLayout.{TypeLayout}
 use Rattle.records.specs.declared.TypeInner.the-variants.{Plain, Array, RuntimeArray, Other}
 use Rattle.flags.specs.Flags.{arrayFlags, runtimeArrayFlags}
 use Rattle.type_flags.specs.TypeFlags.{leafFlags, isArrayBase}

@@ -14,7 +14,7 @@ use Rattle.records.specs.declared.NonData.the-variants.{Pointer, ValuePointer, 
 use Rattle.records.specs.declared.TypeInner.{TypeInner}
 use Rattle.records.specs.declared.TypeInner.the-variants.{Plain, Array, RuntimeArray, Struct, Other}
 use Rattle.alignment.specs.Alignment.{vectorAlignment}
-use Rattle.type_layout.specs.declared.TypeLayout.{TypeLayout}
+use Rattle.type_alignment.specs.declared.TypeLayout.{TypeLayout}
 use Rattle.flags.specs.Flags.{startingFlags, pointerFlags, arrayFlags, runtimeArrayFlags}
 use Rattle.width.specs.Width.{checkWidth, immediatesWord}
 use Rattle.type_flags.specs.TypeFlags.{withWidth, leafFlags, imageFlags, pointerTo, accelerationFlags, bindingArrayOf, isArrayBase}

@@ -25,8 +25,8 @@ ghost use Rattle.flags.specs.Flags.{startingFlags, scalarFlags, arrayFlags, run
 ghost use Rattle.records.specs.Table.{firstRefusal};
 ghost use Rattle.records.specs.declared.Outcome.the-variants.{Accepted};
 ghost use Rattle.records.specs.declared.TypeInner.the-variants.{Struct};
-ghost use Rattle.type_layout.specs.declared.TypeLayout as layout;
-ghost use Rattle.type_layout.specs.TypeLayout.{layoutsIn};
+ghost use Rattle.type_alignment.specs.declared.TypeLayout as layout;
+ghost use Rattle.type_alignment.specs.TypeAlignment.{layoutsIn};
 ghost use Rattle.layouter.specs.Layouter.{layoutAt, layoutRows, rowsAfter};
 ghost use Rattle.width.specs.Width.{checkWidth, immediatesWord};
 ghost use Rattle.type_info.specs.TypeInfo.{rowsIn};

@@ -13,7 +13,7 @@ use Rattle.records.specs.declared.Outcome.the-variants.{Accepted}
 use Rattle.records.specs.declared.Leaf.the-variants.{Scalar as ScalarLeaf, Vector as VectorLeaf, Matrix as MatrixLeaf, Atomic as AtomicLeaf}
 use Rattle.records.proofs.ResultLaws.{ok-inj}
 use Rattle.records.proofs.TableLaws.{also-accepted}
-use Rattle.type_layout.specs.TypeLayout.{membersAlignment}
+use Rattle.type_alignment.specs.TypeAlignment.{membersAlignment}
 use Rattle.layouter.specs.Layouter.{noLayout, layoutStep, layoutAt, layout, layoutOutcome}
 use Rattle.wgsl.specs.Wgsl.{integer, float, WgslType, scalar, vector, matrix, atomic, array, runtimeArray, struct, Members, last, member, lastMember, memberTotal, number, kindOf, widthOf, maxOver, alignOf, alignOfMember, sizeOf, strideOf, HostShareable, AllHostShareable, IsType, IsMember}
 use Rattle.layouter.proofs.LayoutAccepted.{plain-layout, array-layout, runtime-array-layout, struct-layout, member-layout}

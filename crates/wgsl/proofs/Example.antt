@@ -10,7 +10,8 @@ use Rattle.records.specs.Fields.{fieldsOk, recordAt}
 use Rattle.records.specs.Table.{resultAt, valueAt}
 use Rattle.records.specs.declared.Outcome.the-variants.{Accepted}
 use Rattle.type_methods.specs.TypeMethods.{trySize}
-use Rattle.type_layout.specs.TypeLayout.{membersAlignment, alignmentOf, layoutOf}
+use Rattle.type_alignment.specs.TypeAlignment.{membersAlignment, alignmentOf}
+use Rattle.type_layout.specs.TypeLayout.{layoutOf}
 use Rattle.layouter.specs.Layouter.{layout, layoutOutcome}
 use Rattle.wgsl.specs.Wgsl.{u32, Float, f32, f16, float, bool, Dimension, two, three, four, number, WgslType, scalar, vector, matrix, atomic, array, runtimeArray, struct, Members, last, member, lastMember, roundUp, maxOver, offsetBy, alignOf, sizeOf, alignOfMember, sizeOfMember, offsetOfMember, HostShareable, IsType, IsMember}
 use Rattle.wgsl.proofs.Agreement.{tables-agreement}

@@ -19,7 +19,7 @@ use Rattle.records.specs.declared.Leaf.the-variants.{Scalar as ScalarLeaf, Vect
 use Rattle.records.specs.declared.TypeInner.{TypeInner}
 use Rattle.records.specs.declared.TypeInner.the-variants.{Plain, Struct}
 use Rattle.records.proofs.ResultLaws.{and-then-ok, ok-inj, and-left, and-right}
-use Rattle.type_layout.specs.TypeLayout.{membersAlignment}
+use Rattle.type_alignment.specs.TypeAlignment.{membersAlignment}
 use Rattle.layouter.specs.Layouter.{noLayout, layoutStep, layoutAt, layout}
 use Rattle.layouter.proofs.LayoutAccepted.{array-layout, runtime-array-layout, struct-layout, member-layout}
 use Rattle.flags.specs.Flags.{bit, dataBit, sizedBit, hostShareableBit, creationResolvedBit, startingFlags, scalarFlags}

@@ -2,7 +2,8 @@ use borrow.Author.Needs.{needs}
 use mathlib.Core.Path.{sym, _∙_}
 use Rattle.records.specs.Record.{innerOf}
 use Rattle.type_methods.specs.TypeMethods.{trySize}
-use Rattle.type_layout.specs.TypeLayout.{layoutOf, alignmentOf}
+use Rattle.type_alignment.specs.TypeAlignment.{alignmentOf}
+use Rattle.type_layout.specs.TypeLayout.{layoutOf}
 use Rattle.alignment.proofs.PowerLaws.{cooperative-within}
 use Rattle.type_layout.proofs.TypeLayoutLaws.{taken-bounds}
 use Rattle.type_layout.proofs.cooperative_layout.Statement.{statement}

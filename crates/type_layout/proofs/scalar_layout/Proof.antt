@@ -3,7 +3,8 @@ use mathlib.Core.Path.{sym, _∙_}
 use native.Mathlib.Omega.{arith}
 use Rattle.records.specs.Record.{innerOf}
 use Rattle.type_methods.specs.TypeMethods.{trySize}
-use Rattle.type_layout.specs.TypeLayout.{layoutOf, alignmentOf}
+use Rattle.type_alignment.specs.TypeAlignment.{alignmentOf}
+use Rattle.type_layout.specs.TypeLayout.{layoutOf}
 use Rattle.type_layout.proofs.TypeLayoutLaws.{taken-bounds}
 use Rattle.type_layout.proofs.scalar_layout.Statement.{statement}
 use Rattle.type_layout.proofs.scalar_layout.Tie as tie

@@ -3,7 +3,8 @@ use mathlib.Core.Path.{sym, _∙_}
 use denote.Ref.{now}
 use Rattle.records.specs.Record.{memberCount, innerOf}
 use Rattle.type_methods.specs.TypeMethods.{trySize}
-use Rattle.type_layout.specs.TypeLayout.{layoutOf, alignmentOf}
+use Rattle.type_alignment.specs.TypeAlignment.{alignmentOf}
+use Rattle.type_layout.specs.TypeLayout.{layoutOf}
 use Rattle.type_layout.proofs.TypeLayoutLaws.{members-within, part-length}
 use Rattle.type_layout.proofs.struct_record.Statement.{statement}
 use Rattle.type_layout.proofs.struct_record.Tie as tie

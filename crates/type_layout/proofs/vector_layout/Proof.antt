@@ -2,8 +2,10 @@ use borrow.Author.Needs.{needs}
 use mathlib.Core.Path.{sym, _∙_}
 use Rattle.records.specs.Record.{innerOf}
 use Rattle.type_methods.specs.TypeMethods.{trySize}
-use Rattle.type_layout.specs.TypeLayout.{layoutOf, alignmentOf}
-use Rattle.type_layout.proofs.TypeLayoutLaws.{factor-within, taken-bounds}
+use Rattle.type_alignment.specs.TypeAlignment.{alignmentOf}
+use Rattle.type_alignment.proofs.AlignmentLaws.{factor-within}
+use Rattle.type_layout.specs.TypeLayout.{layoutOf}
+use Rattle.type_layout.proofs.TypeLayoutLaws.{taken-bounds}
 use Rattle.type_layout.proofs.vector_layout.Statement.{statement}
 use Rattle.type_layout.proofs.vector_layout.Tie as tie
 

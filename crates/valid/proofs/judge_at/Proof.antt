@@ -5,7 +5,7 @@ use lib.ListN.{take}
 use denote.Ref.{now}
 use Rattle.records.specs.Record.{typeCount, typeWord, typeInner, structMembers}
 use Rattle.records.proofs.RecordLaws.{record-bounds}
-use Rattle.type_layout.specs.TypeLayout.{layoutsIn}
+use Rattle.type_alignment.specs.TypeAlignment.{layoutsIn}
 use Rattle.type_info.specs.TypeInfo.{rowsIn}
 use Rattle.valid.proofs.RowParts.{array-judged}
 use Rattle.valid.proofs.OwnMembers.{array-says, struct-within, struct-says, own-length, own-part, own-earlier}

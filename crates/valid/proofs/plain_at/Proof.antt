@@ -5,7 +5,7 @@ use native.Mathlib.Omega.{arith}
 use native.Mathlib.Nat.{add-zero}
 use lib.Seq.{length-take-le}
 use denote.Ref.{now}
-use Rattle.type_layout.specs.TypeLayout.{layoutsIn}
+use Rattle.type_alignment.specs.TypeAlignment.{layoutsIn}
 use Rattle.valid.proofs.plain_at.Statement.{statement}
 use Rattle.valid.proofs.plain_at.Tie as tie
 

@@ -13,9 +13,9 @@ use Rattle.records.specs.declared.TypeInner.the-variants.{Plain, Array, Runtime
 use Rattle.records.proofs.ResultLaws.{ok-inj}
 use Rattle.alignment.specs.Alignment.{Power}
 use Rattle.alignment.proofs.PowerLaws.{power-of-width, power-vector, power-product, power-cooperative, power-max}
-use Rattle.type_layout.specs.declared.TypeLayout.{TypeLayout}
-use Rattle.type_layout.specs.TypeLayout.{leafWidth, leafFactor, leafAlignment, baseAlignment, membersAlignment, alignmentOf}
-use Rattle.type_layout.proofs.AcceptedParts.{leaf-accepted, base-accepted, member-accepted}
+use Rattle.type_alignment.specs.declared.TypeLayout.{TypeLayout}
+use Rattle.type_alignment.specs.TypeAlignment.{leafWidth, leafFactor, leafAlignment, baseAlignment, membersAlignment, alignmentOf}
+use Rattle.type_alignment.proofs.AcceptedAlignment.{leaf-accepted, base-accepted, member-accepted}
 
 -- one is a power of two
 pub power-one : Power 1

@@ -1,7 +1,7 @@
 use borrow.Author.Needs.{needs}
 use borrow.Author.Tests.{lt-ltb, le-ltb}
-use Rattle.type_layout.proofs.base_alignment.Statement.{statement}
-use Rattle.type_layout.proofs.base_alignment.Tie as tie
+use Rattle.type_alignment.proofs.base_alignment.Statement.{statement}
+use Rattle.type_alignment.proofs.base_alignment.Tie as tie
 
 returns : tie.Need-returns
 returns c = rw (lt-ltb _ _ (c .before .if1 .taken), c .row-word .ensures)

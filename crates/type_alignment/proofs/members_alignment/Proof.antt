@@ -1,4 +1,4 @@
--- `type_layout::members_alignment` meets its contract. The invariant: the first j members are earlier types, and a is their largest alignment.
+-- `type_alignment::members_alignment` meets its contract. The invariant: the first j members are earlier types, and a is their largest alignment.
 -- Assumes nothing.
 use borrow.Author.Needs.{needs}
 use mathlib.Core.Path.{_≡_, refl, sym}
@@ -6,10 +6,10 @@ use Prim.Native.Nat.{_≤_, _-_}
 use native.Mathlib.Nat.{le-antisymm}
 use denote.Ref.{now}
 use Rattle.records.specs.Result.{ok}
-use Rattle.type_layout.specs.TypeLayout.{membersAlignment, layoutsIn}
-use Rattle.type_layout.proofs.TypeLayoutLaws.{member-earlier, member-late}
-use Rattle.type_layout.proofs.members_alignment.Statement.{statement}
-use Rattle.type_layout.proofs.members_alignment.Tie as tie
+use Rattle.type_alignment.specs.TypeAlignment.{membersAlignment, layoutsIn}
+use Rattle.type_alignment.proofs.AlignmentLaws.{member-earlier, member-late}
+use Rattle.type_alignment.proofs.members_alignment.Statement.{statement}
+use Rattle.type_alignment.proofs.members_alignment.Tie as tie
 
 abbrev Inv-loop : tie.InvT-loop
 Inv-loop rows i part count a₀ end j₀ a j = (j ≤ count) × (membersAlignment (layoutsIn rows) i part j ≡ ok a)

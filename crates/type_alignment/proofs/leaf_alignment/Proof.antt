@@ -2,8 +2,8 @@ use borrow.Author.Needs.{needs}
 use mathlib.Core.Path.{refl, sym, _∙_}
 use native.Mathlib.Omega.{arith}
 use Rattle.alignment.proofs.PowerLaws.{mul-within}
-use Rattle.type_layout.proofs.leaf_alignment.Statement.{statement}
-use Rattle.type_layout.proofs.leaf_alignment.Tie as tie
+use Rattle.type_alignment.proofs.leaf_alignment.Statement.{statement}
+use Rattle.type_alignment.proofs.leaf_alignment.Tie as tie
 
 mul-product : tie.Need-mul-product
 mul-product c = omega (arith, mul-within (c .before .before .args .factor) (c .before .before .args .width) (c .before .before .pre .0) (c .before .before .pre .1))

@@ -1,0 +1,3 @@
+pub mod AlignmentLaws
+pub mod AcceptedAlignment
+pub mod AlignmentPower

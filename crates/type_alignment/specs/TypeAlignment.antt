@@ -1,0 +1,70 @@
+-- 01, 'The layout': the alignment of one type (`Layouter::update` of naga's proc/layouter.rs) from the layouts of the types before it,
+-- numbers 5 to 7.
+-- Assumes nothing.
+use mathlib.Core.List.{List}
+use Prim.Native.Nat.{ℕ, zero, suc, _*_, max}
+use lib.Dec.{ltb}
+use Rattle.records.specs.Result.{Result, err, ok, require, andThen}
+use Rattle.records.specs.Record.{memberType}
+use Rattle.records.specs.declared.Leaf.{Leaf}
+use Rattle.records.specs.declared.Leaf.the-variants.{Scalar, Vector, Matrix, CooperativeMatrix, Atomic, RayQuery}
+use Rattle.records.specs.declared.TypeInner.{TypeInner}
+use Rattle.records.specs.declared.TypeInner.the-variants.{Plain, Array, RuntimeArray, Struct, Other}
+use Rattle.rows.specs.Rows.{rowWord}
+use Rattle.alignment.specs.Alignment.{powerOfTwo, vectorAlignment}
+use Rattle.type_alignment.specs.declared.TypeLayout.{TypeLayout}
+use Rattle.type_alignment.specs.declared.Aligned.{Aligned}
+use Rattle.type_alignment.specs.declared.Aligned.the-variants as aligned
+
+-- the width that has to be a power of two
+abbrev pub leafWidth : Leaf → ℕ
+leafWidth (Scalar kind width) = width
+leafWidth (Vector size kind width) = width
+leafWidth (Matrix columns rows kind width) = width
+leafWidth (CooperativeMatrix columns rows kind width role) = width
+leafWidth (Atomic kind width) = width
+leafWidth (RayQuery vertexReturn) = 1
+
+-- what the width is multiplied by
+abbrev pub leafFactor : Leaf → ℕ
+leafFactor (Scalar kind width) = 1
+leafFactor (Vector size kind width) = vectorAlignment size
+leafFactor (Matrix columns rows kind width) = vectorAlignment rows
+leafFactor (CooperativeMatrix columns rows kind width role) = rows
+leafFactor (Atomic kind width) = 1
+leafFactor (RayQuery vertexReturn) = 1
+
+-- the largest alignment of the first j members; number 6 with the member's position
+unfoldable pub membersAlignment : (layouts : ℕ → TypeLayout) (i : ℕ) (members : List ℕ) → ℕ → Result ℕ
+membersAlignment layouts i members zero = ok 1
+membersAlignment layouts i members (suc j) =
+    andThen (membersAlignment layouts i members j)
+    (λ a. require (ltb (memberType members j) i) 6 j 0 (ok (max a (layouts (memberType members j) .alignment))))
+
+-- number 5: an array's element is an earlier type
+abbrev pub baseAlignment : (layouts : ℕ → TypeLayout) (i base : ℕ) → Result ℕ
+baseAlignment layouts i base = require (ltb base i) 5 0 0 (ok (layouts base .alignment))
+
+-- number 7: the width is a power of two
+abbrev pub widthAlignment : (factor width : ℕ) → Result ℕ
+widthAlignment factor width = require (powerOfTwo width) 7 0 0 (ok (factor * width))
+
+abbrev pub leafAlignment : Leaf → Result ℕ
+leafAlignment leaf = widthAlignment (leafFactor leaf) (leafWidth leaf)
+
+-- of type i, from the layouts of those before it
+unfoldable pub alignmentOf : (layouts : ℕ → TypeLayout) → ℕ → TypeInner → (members : List ℕ) → Result ℕ
+alignmentOf layouts i (Plain leaf) members = leafAlignment leaf
+alignmentOf layouts i (Array base count stride) members = baseAlignment layouts i base
+alignmentOf layouts i (RuntimeArray base stride) members = baseAlignment layouts i base
+alignmentOf layouts i (Struct count span) members = membersAlignment layouts i members count
+alignmentOf layouts i (Other o) members = ok 1
+
+-- ---- what the code reads and answers
+-- the layouts in the first two words of fourteen-word rows
+abbrev pub layoutsIn : List ℕ → ℕ → TypeLayout
+layoutsIn rows k = record { size = rowWord rows k 0; alignment = rowWord rows k 1 }
+
+abbrev pub alignedResult : Aligned → Result ℕ
+alignedResult (aligned.To alignment) = ok alignment
+alignedResult (aligned.Refused number member) = err number member 0
