@@ -21,7 +21,7 @@ use Rattle.type_flags.specs.TypeFlags.{leafFlags}
 use Rattle.type_info.specs.TypeInfo.{wordsOf}
 use Rattle.type_info.specs.Verdict.{arrayVerdict, shareVerdict, memberVerdict, distanceVerdict, distanceOk, unsizedVerdict, spanVerdict}
 use Rattle.member_rules.specs.MemberRules.{previousOf, memberBounds, boundsAfter, uniformAfter, storageAfter, immediatesAfter}
-use Rattle.valid.specs.Valid.{nonDataFlags, flagsOf, uniformOf, storageOf, immediatesOf, rowOf, judge}
+use Rattle.validate_type.specs.ValidateType.{nonDataFlags, flagsOf, uniformOf, storageOf, immediatesOf, rowOf, judge}
 use Rattle.valid.specs.Arena.{judgeOutcome, arenaOutcome, arenaAnswer, arenaRows, arenaWords}
 use Rattle.slots.specs.declared.SlotsAnswer.{SlotsAnswer}
 use Rattle.slots.specs.declared.SlotsAnswer.the-variants as slots

@@ -42,10 +42,10 @@ use Rattle.member_rules.specs.declared.Bounds.{Bounds}
 use Rattle.member_rules.specs.MemberRules.{isArray, boundsAfter, uniformAfter, storageAfter, immediatesAfter}
 use Rattle.member_rules.proofs.MemberLaws.{MemberIn, members-in, storage-power-after, uniform-power-after}
 use Rattle.member_rules.proofs.MemberSame.{bounds-rows, uniform-rows, storage-rows, immediates-rows}
-use Rattle.valid.specs.Valid.{flagsOf, leafVerdictAlignment, leafImmediates, uniformOf, storageOf, immediatesOf, rowOf, judge}
+use Rattle.validate_type.specs.ValidateType.{flagsOf, leafVerdictAlignment, leafImmediates, uniformOf, storageOf, immediatesOf, rowOf, judge}
 use Rattle.valid.specs.Arena.{judgeStep, judgedAt, row}
-use Rattle.valid.proofs.CapabilityLaws.{HasAll, judge-more}
-use Rattle.valid.proofs.JudgeLaws.{Judged, judged-parts, isDataInner, flags-data}
+use Rattle.validate_type.proofs.CapabilityLaws.{HasAll, judge-more}
+use Rattle.validate_type.proofs.JudgeLaws.{Judged, judged-parts, isDataInner, flags-data}
 use Rattle.valid.proofs.DependLaws.{innerIn, rowsBefore, layout-at-depends, row-depends, judged-depends}
 
 -- the first n types are accepted: fields within their bounds, layouts, rows

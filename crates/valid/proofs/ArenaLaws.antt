@@ -25,8 +25,8 @@ use Rattle.flags.specs.Flags.{bit, dataBit, sizedBit}
 use Rattle.type_info.specs.Verdict.{isOk, alignmentIn}
 use Rattle.member_rules.specs.MemberRules.{isArray}
 use Rattle.valid.specs.Arena.{judgedAt, row, judgeOutcome, arenaOutcome, arena}
-use Rattle.valid.proofs.CapabilityLaws.{HasAll}
-use Rattle.valid.proofs.JudgeLaws.{isDataInner}
+use Rattle.validate_type.proofs.CapabilityLaws.{HasAll}
+use Rattle.validate_type.proofs.JudgeLaws.{isDataInner}
 use Rattle.valid.proofs.AcceptedLaws.{AcceptedTypes, array-row, runtime-array-row, base-sized, member-earlier, member-sized, data-kind, row-power, row-alignment-power, accepted-more, fewer-types, row-capability}
 use Rattle.valid.proofs.AppendLaws.{types-append, decoded-append}
 

@@ -17,9 +17,9 @@ use Rattle.layouter.proofs.TableSame.{value-same, tables-agree, values-agree, r
 use Rattle.flags.specs.Flags.{bit, creationResolvedBit}
 use Rattle.type_info.specs.declared.Row.{Row}
 use Rattle.type_info.specs.TypeInfo.{emptyRow}
-use Rattle.valid.specs.Valid.{judge}
+use Rattle.validate_type.specs.ValidateType.{judge}
 use Rattle.valid.specs.Arena.{judgeStep, judgedAt, row}
-use Rattle.valid.proofs.JudgeLaws.{judge-inner}
+use Rattle.validate_type.proofs.JudgeLaws.{judge-inner}
 
 -- what the records say
 abbrev pub innerIn : (ℕ → Decoded) → ℕ → TypeInner

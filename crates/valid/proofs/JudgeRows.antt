@@ -19,10 +19,10 @@ use Rattle.type_alignment.specs.TypeAlignment.{layoutsIn}
 use Rattle.layouter.specs.Layouter.{layout, layoutRowAt, layoutRows}
 use Rattle.type_info.specs.declared.Row.{Row}
 use Rattle.type_info.specs.TypeInfo.{wordsOf, rowsIn, emptyRow}
-use Rattle.valid.specs.declared.Judged.{Judged}
-use Rattle.valid.specs.declared.Judged.the-variants as judged
-use Rattle.valid.specs.declared.Judged.the-variants.{Made}
-use Rattle.valid.specs.Valid.{judge, Settled}
+use Rattle.validate_type.specs.declared.Judged.{Judged}
+use Rattle.validate_type.specs.declared.Judged.the-variants as judged
+use Rattle.validate_type.specs.declared.Judged.the-variants.{Made}
+use Rattle.validate_type.specs.ValidateType.{judge, Settled}
 use Rattle.valid.specs.Arena.{judgeStep, judgedAt, row, rowAt}
 
 -- what an answer says of the judgement that it settles, and of the words

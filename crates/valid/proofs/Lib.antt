@@ -1,9 +1,5 @@
-pub mod RowParts
 pub mod JudgeRows
-pub mod OwnMembers
 pub mod CheckLaws
-pub mod CapabilityLaws
-pub mod JudgeLaws
 pub mod DependLaws
 pub mod AcceptedLaws
 pub mod AppendLaws

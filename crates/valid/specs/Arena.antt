@@ -14,7 +14,7 @@ use Rattle.records.specs.declared.TypeInner.{TypeInner}
 use Rattle.layouter.specs.Layouter.{layout, layoutOutcome, rowsAfter}
 use Rattle.type_info.specs.declared.Row.{Row}
 use Rattle.type_info.specs.TypeInfo.{emptyRow, wordsOf}
-use Rattle.valid.specs.Valid.{judge}
+use Rattle.validate_type.specs.ValidateType.{judge}
 
 -- ---- types in ascending order
 abbrev pub judgeStep : (c : ℕ) (types : ℕ → Decoded) → (ℕ → Row) → ℕ → Result Row

@@ -22,7 +22,7 @@ use Rattle.type_info.specs.TypeInfo.{emptyRow}
 use Rattle.type_info.specs.Verdict.{minUniform, okVerdict, arrayVerdict, spanVerdict}
 use Rattle.member_rules.specs.declared.Bounds.{Bounds}
 use Rattle.member_rules.specs.MemberRules.{boundsAfter, uniformAfter, storageAfter}
-use Rattle.valid.specs.Valid.{flagsOf, leafVerdictAlignment, uniformOf, storageOf, rowOf, judge}
+use Rattle.validate_type.specs.ValidateType.{flagsOf, leafVerdictAlignment, uniformOf, storageOf, rowOf, judge}
 use Rattle.valid.specs.Arena.{judgeStep, judgedAt, row}
 use Rattle.wgsl.specs.Constraints.{Space, storage, uniform}
 use Rattle.wgsl.proofs.TreeLaws.{leastIn}

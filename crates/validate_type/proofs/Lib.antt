@@ -1,0 +1,4 @@
+pub mod RowParts
+pub mod OwnMembers
+pub mod CapabilityLaws
+pub mod JudgeLaws

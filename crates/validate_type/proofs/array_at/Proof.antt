@@ -1,0 +1,46 @@
+use borrow.Author.Needs.{needs}
+use mathlib.Core.Path.{refl, sym, _∙_}
+use Prim.Native.Nat.{_*_}
+use native.Mathlib.Omega.{arith}
+use native.Mathlib.Nat.{add-zero}
+use lib.Seq.{length-take-le}
+use borrow.Author.Tests.{not-true, not-false}
+use Rattle.validate_type.proofs.array_at.Statement.{statement}
+use Rattle.validate_type.proofs.array_at.Tie as tie
+
+slice-aggregate-row-at : tie.Need-slice-aggregate-row-at
+slice-aggregate-row-at c = let a = c .before .before .args in sym (length-take-le (a .i * 14) (a .rows .now) (omega (arith, c .before .before .pre)))
+
+row-at-requires : tie.Need-row-at-requires
+row-at-requires c κs = let a = c .before .before .args in rw (length-take-le (a .i * 14) (a .rows .now) (omega (arith, c .before .before .pre))) (omega arith)
+
+returns : tie.Need-returns
+returns c = rw (← c .before .before .row-at .ensures, sym (c .before .is-array-base .ensures) ∙ not-true _ (c .if1 .taken)) (refl, refl)
+
+returns-2 : tie.Need-returns-2
+returns-2 c =
+    rw (← c .before .before .before .before .before .before .before .before .before .before .before .row-at .ensures, sym (c .before .before .before .before .before .before .before .before .before .before .is-array-base .ensures) ∙ not-false _ (c .before .before .before .before .before .before .before .before .before .if1 .left), add-zero (c .before .before .before .before .before .before .before .before .before .before .before .before .before .before .args .i * 14))
+    (refl, rw (c .before .before .before .before .before .before .flags-by-form .ensures, c .before .before .before .before .before .array-verdict .ensures, c .before .before .before .before .array-verdict2 .ensures) at (c .before .before .put .ensures))
+
+pub array-at-spec : {M : Type 1} → statement M
+array-at-spec =
+    tie.close
+    (tie.spec
+    (λ c. search needs)
+    (λ c. search needs)
+    slice-aggregate-row-at
+    row-at-requires
+    (λ c κs. search needs)
+    (λ c. search needs)
+    returns
+    (λ c. search needs)
+    (λ c. search needs)
+    (λ c. search needs)
+    (λ c. search needs)
+    (λ c. search needs)
+    (λ c κs. search needs)
+    (λ c κs. search needs)
+    (λ c κs. search needs)
+    (λ c κs. search needs)
+    (λ c. search needs)
+    returns-2)

@@ -1,0 +1,46 @@
+use borrow.Author.Needs.{needs}
+use mathlib.Core.Path.{refl, sym}
+use Prim.Native.Nat.{_*_}
+use native.Mathlib.Omega.{arith}
+use native.Mathlib.Nat.{add-zero}
+use lib.Seq.{length-take-le}
+use denote.Ref.{now}
+use Rattle.type_alignment.specs.TypeAlignment.{layoutsIn}
+use Rattle.validate_type.proofs.plain_at.Statement.{statement}
+use Rattle.validate_type.proofs.plain_at.Tie as tie
+
+slice-aggregate-judge-plain : tie.Need-slice-aggregate-judge-plain
+slice-aggregate-judge-plain c = let a = c .before .before .before .args in sym (length-take-le (a .i * 14) (a .rows .now) (omega (arith, c .before .before .before .pre .0)))
+
+returns : tie.Need-returns
+returns c =
+    let a = c .before .before .before .before .before .before .before .before .before .before .before .before .before .before .args in
+    λ members. rw (← c .before .before .before .before .before .before .before .before .before .before .judge-plain .ensures (a .i) (layoutsIn (now (a .rows)) (a .i)) members, c .before .before .before .before .before .before .before .before .flags .given .1, add-zero (a .i * 14))
+    (refl, rw (c .before .before .before .before .before .before .ok-verdict .ensures) at (c .before .before .put .ensures))
+
+returns-2 : tie.Need-returns-2
+returns-2 c =
+    let a = c .before .before .before .before .before .before .before .args in
+    λ members. rw (← c .before .before .before .judge-plain .ensures (a .i) (layoutsIn (now (a .rows)) (a .i)) members, c .before .number .given .1) (refl, refl)
+
+pub plain-at-spec : {M : Type 1} → statement M
+plain-at-spec =
+    tie.close
+    (tie.spec
+    (λ c. search needs)
+    (λ c. search needs)
+    slice-aggregate-judge-plain
+    (λ c κs. search needs)
+    (λ c. search needs)
+    (λ c κs. search needs)
+    (λ c. search needs)
+    (λ c. search needs)
+    (λ c. search needs)
+    (λ c. search needs)
+    (λ c. search needs)
+    (λ c κs. search needs)
+    (λ c. search needs)
+    (λ c. search needs)
+    returns
+    (λ c. search needs)
+    returns-2)

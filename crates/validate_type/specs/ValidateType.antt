@@ -1,0 +1,169 @@
+-- 01, 'The result row': the row of one type (`validate_type` of naga's valid/type.rs). c is the capability word, `inner` what each record
+-- of the arena says, `rows` the rows of the types before type i. Flags, or the refusal, on one side; verdicts on the other.
+-- Assumes nothing.
+use mathlib.Core.List.{List}
+use mathlib.Core.Path.{_≡_}
+use Prim.Native.Nat.{ℕ, _*_, _<_}
+use lib.Dec.{eqb, ltb}
+use Rattle.records.specs.Result.{Result, err, ok, pick, require, andThen}
+use Rattle.records.specs.Record.{Decoded, memberType, valuePointerKind, samplerKind}
+use Rattle.records.specs.declared.Leaf.{Leaf}
+use Rattle.records.specs.declared.Leaf.the-variants.{Scalar, Vector, Matrix, CooperativeMatrix, Atomic, RayQuery}
+use Rattle.records.specs.declared.NonData.{NonData}
+use Rattle.records.specs.declared.NonData.the-variants.{Pointer, ValuePointer, Image, Sampler, AccelerationStructure, BindingArray}
+use Rattle.records.specs.declared.TypeInner.{TypeInner}
+use Rattle.records.specs.declared.TypeInner.the-variants.{Plain, Array, RuntimeArray, Struct, Other}
+use Rattle.alignment.specs.Alignment.{vectorAlignment}
+use Rattle.type_alignment.specs.declared.TypeLayout.{TypeLayout}
+use Rattle.flags.specs.Flags.{startingFlags, pointerFlags, arrayFlags, runtimeArrayFlags}
+use Rattle.width.specs.Width.{checkWidth, immediatesWord}
+use Rattle.type_flags.specs.TypeFlags.{withWidth, leafFlags, imageFlags, pointerTo, accelerationFlags, bindingArrayOf, isArrayBase}
+use Rattle.type_info.specs.declared.Verdict.{Verdict}
+use Rattle.type_info.specs.declared.Row.{Row}
+use Rattle.type_info.specs.Verdict.{minUniform, minStorage, okVerdict, arrayVerdict, spanVerdict}
+use Rattle.rows.specs.Rows.{withRow}
+use Rattle.type_info.specs.TypeInfo.{wordsOf}
+use Rattle.member_rules.specs.declared.Bounds.{Bounds}
+use Rattle.validate_type.specs.declared.PlainRow.{PlainRow}
+use Rattle.validate_type.specs.declared.PlainRow.the-variants as plain
+use Rattle.validate_type.specs.declared.Judged.{Judged}
+use Rattle.validate_type.specs.declared.Judged.the-variants as judged
+use Rattle.validate_type.specs.declared.Judged.the-variants.{Made}
+use Rattle.member_rules.specs.MemberRules.{boundsAfter, uniformAfter, storageAfter, immediatesAfter}
+
+-- ---- flags of what is no data
+unfoldable pub nonDataFlags : (c : ℕ) (inner : ℕ → TypeInner) (rows : ℕ → Row) → NonData → Result ℕ
+nonDataFlags c inner rows (Pointer base space) = pointerTo (rows base .flags) space
+nonDataFlags c inner rows (ValuePointer kind width space) = withWidth (checkWidth c kind width) (pointerFlags space (startingFlags valuePointerKind))
+nonDataFlags c inner rows (Image dim arrayed class) = imageFlags c dim arrayed class
+nonDataFlags c inner rows Sampler = ok (startingFlags samplerKind)
+nonDataFlags c inner rows (AccelerationStructure vertexReturn) = accelerationFlags c vertexReturn
+nonDataFlags c inner rows (BindingArray base form count) = bindingArrayOf (inner base) (rows base .flags) form
+
+-- ---- the flags of type i, or its refusal
+unfoldable pub flagsOf : (c : ℕ) (inner : ℕ → TypeInner) (rows : ℕ → Row) → TypeInner → (members : List ℕ) → Result ℕ
+flagsOf c inner rows (Plain leaf) members = leafFlags c leaf
+flagsOf c inner rows (Array base count stride) members = require (isArrayBase (rows base .flags)) 15 0 0 (ok (arrayFlags (rows base .flags)))
+flagsOf c inner rows (RuntimeArray base stride) members =
+    require (isArrayBase (rows base .flags)) 15 0 0 (ok (runtimeArrayFlags (rows base .flags)))
+flagsOf c inner rows (Struct count span) members =
+    require (ltb 0 count) 16 0 0 (andThen (boundsAfter inner rows count span members count) (λ b. ok (b .flags)))
+flagsOf c inner rows (Other o) members = nonDataFlags c inner rows o
+
+-- ---- verdicts
+-- the alignment in both verdicts of a leaf; a cooperative matrix has that of its width
+abbrev pub leafVerdictAlignment : Leaf → ℕ
+leafVerdictAlignment (Scalar kind width) = width
+leafVerdictAlignment (Vector size kind width) = vectorAlignment size * width
+leafVerdictAlignment (Matrix columns rows kind width) = vectorAlignment rows * width
+leafVerdictAlignment (CooperativeMatrix columns rows kind width role) = width
+leafVerdictAlignment (Atomic kind width) = width
+leafVerdictAlignment (RayQuery vertexReturn) = 1
+
+abbrev pub leafImmediates : Leaf → ℕ
+leafImmediates (Scalar kind width) = immediatesWord kind width
+leafImmediates (Vector size kind width) = immediatesWord kind width
+leafImmediates (Matrix columns rows kind width) = immediatesWord kind width
+leafImmediates (CooperativeMatrix columns rows kind width role) = 0
+leafImmediates (Atomic kind width) = 0
+leafImmediates (RayQuery vertexReturn) = 0
+
+-- alignment: the layout alignment of type i
+unfoldable pub uniformOf : (least : ℕ) (inner : ℕ → TypeInner) (rows : ℕ → Row) (i alignment : ℕ) → TypeInner → (members : List ℕ) → Verdict
+uniformOf least inner rows i alignment (Plain leaf) members = okVerdict (leafVerdictAlignment leaf)
+uniformOf least inner rows i alignment (Array base count stride) members =
+    arrayVerdict least i stride (rows base .alignment) (rows base .uniform)
+uniformOf least inner rows i alignment (RuntimeArray base stride) members =
+    arrayVerdict least i stride (rows base .alignment) (rows base .uniform)
+uniformOf least inner rows i alignment (Struct count span) members =
+    spanVerdict i span alignment (uniformAfter least inner rows i members count)
+uniformOf least inner rows i alignment (Other o) members = okVerdict 1
+
+unfoldable pub storageOf : (rows : ℕ → Row) (i alignment : ℕ) → TypeInner → (members : List ℕ) → Verdict
+storageOf rows i alignment (Plain leaf) members = okVerdict (leafVerdictAlignment leaf)
+storageOf rows i alignment (Array base count stride) members =
+    arrayVerdict minStorage i stride (rows base .alignment) (rows base .storage)
+storageOf rows i alignment (RuntimeArray base stride) members =
+    arrayVerdict minStorage i stride (rows base .alignment) (rows base .storage)
+storageOf rows i alignment (Struct count span) members = spanVerdict i span alignment (storageAfter rows i members count)
+storageOf rows i alignment (Other o) members = okVerdict 1
+
+unfoldable pub immediatesOf : (rows : ℕ → Row) → TypeInner → (members : List ℕ) → ℕ
+immediatesOf rows (Plain leaf) members = leafImmediates leaf
+immediatesOf rows (Array base count stride) members = rows base .immediates
+immediatesOf rows (RuntimeArray base stride) members = rows base .immediates
+immediatesOf rows (Struct count span) members = immediatesAfter rows members count
+immediatesOf rows (Other o) members = 0
+
+-- ---- the row
+-- of an accepted type with these flags
+unfoldable pub rowOf : (least : ℕ) (inner : ℕ → TypeInner) (rows : ℕ → Row) (i : ℕ) → TypeLayout → TypeInner → (members : List ℕ) → (flags : ℕ) → Row
+rowOf least inner rows i layout this members flags =
+    record {
+      size = layout .size;
+      alignment = layout .alignment;
+      flags = flags;
+      uniform = uniformOf least inner rows i (layout .alignment) this members;
+      storage = storageOf rows i (layout .alignment) this members;
+      immediates = immediatesOf rows this members;
+    }
+
+unfoldable pub judge : (c : ℕ) (inner : ℕ → TypeInner) (rows : ℕ → Row) (i : ℕ) → TypeLayout → TypeInner → (members : List ℕ) → Result Row
+judge c inner rows i layout this members =
+    andThen (flagsOf c inner rows this members) (λ flags. ok (rowOf minUniform inner rows i layout this members flags))
+
+-- ---- what the code answers
+-- what the code has of a type that is neither array nor struct
+pub record PlainParts : Type 0 where
+  pub flags : ℕ
+  pub alignment : ℕ
+  pub immediates : ℕ
+
+-- with one alignment in both verdicts
+abbrev pub plainBy : (alignment immediates : ℕ) → Result ℕ → Result PlainParts
+plainBy alignment immediates flags = andThen flags (λ f. ok (record { flags = f; alignment = alignment; immediates = immediates }))
+
+abbrev pub plainResult : PlainRow → Result PlainParts
+plainResult (plain.Made flags alignment immediates) = ok (record { flags = flags; alignment = alignment; immediates = immediates })
+plainResult (plain.Refused number member detail) = err number member detail
+
+-- the row that it makes with a layout
+abbrev pub plainRow : TypeLayout → PlainParts → Row
+plainRow layout p =
+    record {
+      size = layout .size;
+      alignment = layout .alignment;
+      flags = p .flags;
+      uniform = okVerdict (p .alignment);
+      storage = okVerdict (p .alignment);
+      immediates = p .immediates;
+    }
+
+abbrev pub plainJudged : TypeLayout → Result PlainParts → Result Row
+plainJudged layout o = andThen o (λ p. ok (plainRow layout p))
+
+-- the row of an array over a base, with the flags that its form leaves
+abbrev pub arrayRow : (i stride : ℕ) → (base : Row) → TypeLayout → (flags : ℕ) → Row
+arrayRow i stride base layout flags =
+    record {
+      size = layout .size;
+      alignment = layout .alignment;
+      flags = flags;
+      uniform = arrayVerdict minUniform i stride (base .alignment) (base .uniform);
+      storage = arrayVerdict minStorage i stride (base .alignment) (base .storage);
+      immediates = base .immediates;
+    }
+
+-- by the array's form: 0 for one of a count, else a runtime array
+abbrev pub arrayOf : (form i stride : ℕ) → (base : Row) → TypeLayout → Result Row
+arrayOf form i stride base layout =
+    require (isArrayBase (base .flags)) 15 0 0 (ok (arrayRow i stride base layout (pick (eqb form 0) (arrayFlags (base .flags)) (runtimeArrayFlags (base .flags)))))
+
+-- the code's answer and what it makes of the lent words, by one type's judgement, whose row is to be written from `at` on
+abbrev pub Settled : Judged → (at : ℕ) (before after : List ℕ) → Result Row → Type 0
+Settled r at before after (ok row) = (r ≡ Made) × (after ≡ withRow before at (wordsOf row))
+Settled r at before after (err number member detail) = (r ≡ judged.Refused number member detail) × (after ≡ before)
+
+-- the members of struct i are of earlier types
+abbrev pub MembersEarlier : (ℕ → Decoded) → ℕ → Type 0
+MembersEarlier types i = (count span j : ℕ) → types i .inner ≡ Struct count span → j < count → memberType (types i .members) j < i
