@@ -34,10 +34,6 @@ layout types = valueAt noLayout (layoutStep types)
 unfoldable pub layoutOutcome : (ts ms : List ℕ) → Outcome
 layoutOutcome ts ms = also (firstRefusal (recordAt ts ms) (typeCount ts)) (firstRefusal (layoutAt (decoded ts ms)) (typeCount ts))
 
--- numbers 2 to 7 of type i in one, as the code finds them
-abbrev pub recordThenLayout : (ts ms : List ℕ) → ℕ → Result TypeLayout
-recordThenLayout ts ms i = andThen (recordAt ts ms i) (λ _. layoutAt (decoded ts ms) i)
-
 unfoldable pub layoutAnswer : (ts ms rows : List ℕ) → Outcome
 layoutAnswer ts ms rows = pick (tablesFit (length ts) (length ms) (length rows)) (layoutOutcome ts ms) (Refused 1 0 0 0)
 
@@ -59,6 +55,11 @@ layoutWords ts ms rows =
     pick (tablesFit (length ts) (length ms) (length rows))
     (rowsAfter (layoutOutcome ts ms) (layoutRows ts ms (typeCount ts)) (typeCount ts) rows)
     rows
+
+-- ---- what the code answers
+-- numbers 2 to 7 of type i in one, in the order of one type
+abbrev pub recordThenLayout : (ts ms : List ℕ) → ℕ → Result TypeLayout
+recordThenLayout ts ms i = andThen (recordAt ts ms i) (λ _. layoutAt (decoded ts ms) i)
 
 -- what the layout of one type, to be written from `at` on, makes of the lent words
 abbrev pub wordsAfter : Laid → (at : ℕ) → List ℕ → List ℕ
