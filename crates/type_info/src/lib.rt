@@ -65,6 +65,21 @@ fn empty_row() -> Row
     }
 }
 
+// The verdict in words w to w + 4 of row k, which stands there.
+fn verdict_at(rows: &[u32], k: u32, w: usize) -> Verdict
+    requires { ⌜ k * 14 + (w + 4) < length (now rows) ⌝ }
+    ensures { λ r. ⌜ r ≡ verdictIn (now (rows .entry)) k w ⌝ }
+{
+    let at = (k as usize) * records::ROW_WORDS;
+    Verdict {
+        code: rows[at + w],
+        ty: rows[at + (w + 1)],
+        index: rows[at + (w + 2)],
+        value: rows[at + (w + 3)],
+        bound: rows[at + (w + 4)],
+    }
+}
+
 // Row k of whole rows; zeros past them.
 pub fn row_at(rows: &[u32], k: u32) -> Row
     requires { ⌜ length (now rows) % 14 ≡ 0 ⌝ }
@@ -72,20 +87,8 @@ pub fn row_at(rows: &[u32], k: u32) -> Row
 {
     let at = (k as usize) * records::ROW_WORDS;
     if at + records::ROW_WORDS <= rows.len() {
-        let uniform = Verdict {
-            code: rows[at + 3],
-            ty: rows[at + 4],
-            index: rows[at + 5],
-            value: rows[at + 6],
-            bound: rows[at + 7],
-        };
-        let storage = Verdict {
-            code: rows[at + 8],
-            ty: rows[at + 9],
-            index: rows[at + 10],
-            value: rows[at + 11],
-            bound: rows[at + 12],
-        };
+        let uniform = verdict_at(rows, k, 3);
+        let storage = verdict_at(rows, k, 8);
         return Row {
             size: rows[at],
             alignment: rows[at + 1],
@@ -232,17 +235,10 @@ pub fn member_verdict_at(
         return so_far;
     }
     let at = (k as usize) * records::ROW_WORDS;
-    let member_code = rows[at + w];
-    let alignment = rows[at + (w + 1)];
-    if member_code != 0 {
-        return Verdict {
-            code: member_code,
-            ty: alignment,
-            index: rows[at + (w + 2)],
-            value: rows[at + (w + 3)],
-            bound: rows[at + (w + 4)],
-        };
+    if rows[at + w] != 0 {
+        return verdict_at(rows, k, w);
     }
+    let alignment = rows[at + (w + 1)];
     offset_verdict(i, j, offset, so_far.ty, alignment)
 }
 

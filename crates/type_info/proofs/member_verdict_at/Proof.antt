@@ -7,15 +7,15 @@ use Rattle.type_info.proofs.member_verdict_at.Tie as tie
 
 returns : tie.Need-returns
 unfolding memberVerdict
-returns c = rw (ne-eqb _ 0 (c .if1 .taken))
+returns c = rw (ne-eqb _ 0 (c .if1 .taken)) refl
 
 returns-2 : tie.Need-returns-2
 unfolding memberVerdict
-returns-2 c = rw (c .before .before .before .before .before .before .if1 .left, ne-eqb _ 0 (c .before .before .before .if2 .taken)) refl
+returns-2 c = rw (c .before .before .before .if1 .left, ne-eqb _ 0 (c .before .if2 .taken)) (c .verdict-at .ensures)
 
 returns-3 : tie.Need-returns-3
 unfolding memberVerdict
-returns-3 c = rw (c .before .before .before .before .if1 .left, c .before .if2 .left) (c .offset-verdict .ensures)
+returns-3 c = rw (c .before .before .before .before .if1 .left, c .before .before .if2 .left) (c .offset-verdict .ensures)
 
 pub member-verdict-at-spec : {M : Type 1} → statement M
 member-verdict-at-spec =
@@ -26,22 +26,11 @@ member-verdict-at-spec =
     (λ c. search needs)
     (λ c. search needs)
     (λ c. search needs)
-    (λ c. search needs)
-    (λ c. search needs)
-    (λ c. search needs)
-    (λ c. search needs)
-    (λ c. search needs)
-    (λ c. search needs)
-    (λ c. search needs)
-    (λ c. search needs)
-    (λ c. search needs)
-    (λ c. search needs)
-    (λ c. search needs)
-    (λ c. search needs)
-    (λ c. search needs)
-    (λ c. search needs)
-    (λ c. search needs)
-    (λ c. search needs)
+    (λ c κs. search needs)
     returns-2
+    (λ c. search needs)
+    (λ c. search needs)
+    (λ c. search needs)
+    (λ c. search needs)
     (λ c κs. search needs)
     returns-3)
