@@ -27,7 +27,7 @@ use Rattle.steps.specs.declared.Step.the-variants.{To}
 use Rattle.steps.specs.Steps.{stepOf}
 use Rattle.place.specs.Place.{stepIn}
 use Rattle.place.proofs.WalkLaws.{plain-step, array-step, runtime-array-step, struct-step, other-step}
-use Rattle.place.proofs.StepLaws.{stepped}
+use Rattle.place.proofs.DescentLaws.{descent}
 
 -- the product of two 32-bit words fits 64 bits
 -- type t is SIZED
@@ -98,14 +98,14 @@ module _ (c : ℕ) (types : ℕ → Decoded) (n : ℕ) (acc : AcceptedTypes c ty
     where
       go : Added c types t ty bytes → Sized c types t ⊎ (byte ≤ (n - suc t) * 2 ^ 32) → Standing c types n ty (byte + bytes)
       go (inl x) (inl y) =
-          let k = stepped c types n acc t (a .within) s ty bytes q in
+          let k = descent c types n acc t (a .within) s ty bytes q in
           record { within = omega (arith, k .earlier); once = inl (k .sized y); bound = omega (arith, k .earlier) }
       go (inl x) (inr y) =
-          let k = stepped c types n acc t (a .within) s ty bytes q in
+          let k = descent c types n acc t (a .within) s ty bytes q in
           record { within = omega (arith, k .earlier); once = inr (omega (arith, k .earlier)); bound = omega (arith, k .earlier) }
       go (inr x) (inl y) = absurd (x .0 y)
       go (inr x) (inr y) =
-          let k = stepped c types n acc t (a .within) s ty bytes q in
+          let k = descent c types n acc t (a .within) s ty bytes q in
           record { within = omega (arith, k .earlier); once = inl (x .1); bound = omega (arith, k .earlier, x .2) }
 
 -- there are at most 1,024 types, so the byte place fits 64 bits

@@ -1,9 +1,4 @@
 pub mod WalkLaws
-pub mod BufferLaws
-pub mod StepLaws
-pub mod KeptLaws
-pub mod Term3Proof
-pub mod Instance
+pub mod DescentLaws
 pub mod ByteLaws
 pub mod LookupLaws
-pub mod StridesMatter

@@ -22,8 +22,8 @@ use Rattle.valid.proofs.ArenaLaws.{arena-parts, accepted-types}
 use Rattle.steps.specs.declared.Step.the-variants.{To, NoStep}
 use Rattle.place.specs.declared.Place.the-variants.{At, NoPlace}
 use Rattle.place.specs.Place.{follow, stepIn, leafIn, placeIn, placeOf}
+use Rattle.place.proofs.WalkLaws.{place-from}
 use Rattle.place.proofs.ByteLaws.{Standing, standing-start, standing-step, standing-fits}
-use Rattle.place.proofs.Term3Proof.{place-from}
 
 -- ---- an arena that is accepted with the lent rows is accepted
 -- a test that holds is true

@@ -7,8 +7,9 @@ use Prim.Native.Nat.{ℕ, _+_, _*_, _^_, _≤_, _<_}
 use native.Mathlib.Nat.{le-refl}
 use native.Mathlib.Omega.{arith}
 use lib.Dec.{T, ltb, ltb→lt}
+use borrow.Author.Tests.{lt-ltb}
 use Rattle.records.specs.Result.{pick}
-use Rattle.records.specs.Record.{memberType, memberOffset}
+use Rattle.records.specs.Record.{decoded, typeCount, memberType, memberOffset}
 use Rattle.records.specs.declared.NonData.{NonData}
 use Rattle.records.specs.declared.TypeInner.{TypeInner}
 use Rattle.records.specs.declared.TypeInner.the-variants.{Plain, Array, RuntimeArray, Struct, Other}
@@ -17,7 +18,7 @@ use Rattle.steps.specs.declared.Step.the-variants.{To, NoStep}
 use Rattle.place.specs.declared.Place.{Place}
 use Rattle.place.specs.declared.Place.the-variants.{At, NoPlace}
 use Rattle.steps.specs.Steps.{isLeaf, stepOf}
-use Rattle.place.specs.Place.{follow, walk}
+use Rattle.place.specs.Place.{follow, walk, placeIn, placeOf}
 
 -- a step that is followed to a place is a step
 pub followed : (o : Step) (rest : ℕ → ℕ → Place) (byte leaf : ℕ) → follow o rest ≡ At byte leaf
@@ -26,7 +27,7 @@ followed (To ty bytes) rest byte leaf e = (ty, bytes, refl, e)
 followed NoStep rest byte leaf e = let z : _≡_ {A = ℕ} 0 1 = cc in absurd (omega arith)
 
 -- a place that hangs on a test
-pub place-picked : (b : Bool) (o : Place) (byte leaf : ℕ) → pick b o NoPlace ≡ At byte leaf → T b × (o ≡ At byte leaf)
+place-picked : (b : Bool) (o : Place) (byte leaf : ℕ) → pick b o NoPlace ≡ At byte leaf → T b × (o ≡ At byte leaf)
 place-picked true o byte leaf e = (tt, e)
 place-picked false o byte leaf e = let z : _≡_ {A = ℕ} 0 1 = cc in absurd (omega arith)
 
@@ -47,6 +48,17 @@ module _ (step : ℕ → ℕ → Step) (isEnd : ℕ → Bool) where
   -- a leaf stands at or past the place where the walk starts
   pub after-start : (steps : List ℕ) (t p byte leaf : ℕ) → walk step isEnd t p steps ≡ At byte leaf → p ≤ byte
   after-start steps t p byte leaf e = along (λ (u q : ℕ). p ≤ q) (λ u q s ty bytes o i. omega arith) steps t p byte leaf e (le-refl p)
+
+-- ---- the whole walk
+-- a place is one in the decoded records, and its start is a type of the arena
+pub place-found : (ts ms : List ℕ) (t : ℕ) (steps : List ℕ) (byte leaf : ℕ) → placeOf ts ms t steps ≡ At byte leaf → placeIn (decoded ts ms) t 0 steps ≡ At byte leaf
+unfolding placeOf
+place-found ts ms t steps byte leaf e = place-picked (ltb t (typeCount ts)) (placeIn (decoded ts ms) t 0 steps) byte leaf e .1
+
+-- from a type of the arena the place is the one in the decoded records
+pub place-from : (ts ms : List ℕ) (t : ℕ) → t < typeCount ts → (steps : List ℕ) → placeOf ts ms t steps ≡ placeIn (decoded ts ms) t 0 steps
+unfolding placeOf
+place-from ts ms t h steps = rw (lt-ltb t (typeCount ts) h) refl
 
 -- ---- one step
 -- no step is no step to anywhere

@@ -24,11 +24,12 @@ use Rattle.valid.specs.Arena.{row}
 use Rattle.valid.proofs.AcceptedLaws.{AcceptedTypes, ArrayRow, base-sized, array-row, runtime-array-row, member-earlier, struct-row, struct-member, row-power}
 use Rattle.steps.specs.declared.Step.{Step}
 use Rattle.steps.specs.declared.Step.the-variants.{To, NoStep}
 use Rattle.place.specs.declared.Place.the-variants.{At}
 use Rattle.steps.specs.Steps.{stepOf}
 use Rattle.place.specs.Place.{stepIn, leafIn, placeIn}
-use Rattle.place.specs.Term3.{itself, element, runtimeElement, member, strideCovers, StridesCover, firstElement, after, FirstElements}
+use Rattle.term3.specs.Term3.{itself, element, runtimeElement, member, strideCovers, StridesCover, firstElement, after, FirstElements}
+use Rattle.place.proofs.DescentLaws.{descent}
 use Rattle.place.proofs.WalkLaws.{followed, at-leaf, along, after-start, plain-step, array-step, runtime-array-step, struct-step, other-step}
 
 -- the first, where the second is not so
 unless {ℓ κ} : {A : Type ℓ} {B : Type κ} → A ⊎ B → ¬ B → A
@@ -37,9 +38,7 @@ unless (inr b) f = absurd (f b)
 
 -- what a step from type t to type ty, some bytes on, says
 pub record Stepped (c : ℕ) (types : ℕ → Decoded) (t ty bytes : ℕ) : Type 0 where
-  pub earlier : ty < t
   pub hostShareable : T (bit (row c types t .flags) hostShareableBit) → T (bit (row c types ty .flags) hostShareableBit)
-  pub sized : T (bit (row c types t .flags) sizedBit) → T (bit (row c types ty .flags) sizedBit)
   pub aligned : T (isOk (row c types t .storage))
       → T (isOk (row c types ty .storage))
       × (alignmentIn (row c types ty .storage) ∣ bytes)
@@ -58,9 +57,7 @@ module _ (c : ℕ) (types : ℕ → Decoded) (n : ℕ) (acc : AcceptedTypes c ty
       → (StridesCover (row c types) types t → StridesCover (row c types) types base) → Stepped c types t base (s * stride)
   from-array t base bytes stride mask s l b a w =
       record {
-        earlier = b;
         hostShareable = λ h. bit-and (row c types base .flags) mask hostShareableBit (rw (a .flags) at h) .0;
-        sized = λ h. base-sized a;
         aligned = λ k.
             let q : ArrayOk minStorage stride (row c types base .alignment) (row c types base .storage) (row c types t .storage) =
             subst (λ (v : Verdict). ArrayOk minStorage stride (row c types base .alignment) (row c types base .storage) v) (sym (a .storage))
@@ -82,9 +79,7 @@ module _ (c : ℕ) (types : ℕ → Decoded) (n : ℕ) (acc : AcceptedTypes c ty
       let b = member-earlier c types n acc t l count span e j lj in
       let sto = storageAfter (row c types) t members count in
       record {
-        earlier = b;
         hostShareable = λ h. m .flag hostShareableBit (rw (s .flags) at h);
-        sized = λ h. m .flag sizedBit (rw (s .flags) at h);
         aligned = λ k.
             let k₁ = subst (λ (v : Verdict). T (isOk v)) (s .storage) k in
             let q = s .storage ∙ span-ok t span (layout types t .alignment) sto k₁ in
@@ -126,10 +121,11 @@ module _ (c : ℕ) (types : ℕ → Decoded) (n : ℕ) (acc : AcceptedTypes c ty
   -- a step keeps that
   held-step : (t p s ty bytes : ℕ) → stepIn types t s ≡ To ty bytes → Held t p → Held ty (p + bytes)
   held-step t p s ty bytes q i =
+      let d = descent c types n acc t (i .0) s ty bytes q in
       let k = stepped t (i .0) s ty bytes q in
       let v = k .aligned (i .1) in
       let x = alignmentIn (row c types ty .storage) in
-      (omega (arith, k .earlier, i .0), v .0, dvd-add x (dvd-trans x (v .2) (i .2)) (v .1))
+      (omega (arith, d .earlier, i .0), v .0, dvd-add x (dvd-trans x (v .2) (i .2)) (v .1))
 
   -- so a leaf stands at a multiple of its own alignment
   pub place-aligned : (t : ℕ) → t < n → T (isOk (row c types t .storage)) → (steps : List ℕ) (byte leaf : ℕ) → placeIn types t 0 steps ≡ At byte leaf
@@ -175,7 +171,7 @@ module _ (c : ℕ) (types : ℕ → Decoded) (n : ℕ) (acc : AcceptedTypes c ty
       go : (o : Step) → stepIn types t s ≡ o → ((u : ℕ) → u < n → T (bit (row c types u .flags) sizedBit) → FirstElements types u steps)
           → after o (λ next. FirstElements types next steps)
       go NoStep e ih = tt
-      go (To ty bytes) e ih = let k = stepped t l s ty bytes e in ih ty (omega (arith, k .earlier)) (k .sized z)
+      go (To ty bytes) e ih = let d = descent c types n acc t l s ty bytes e in ih ty (omega (arith, d .earlier)) (d .sized z)
 
   -- a leaf that is reached by first elements ends within the type
   pub contained : (steps : List ℕ) (t p byte leaf : ℕ) → t < n → StridesCover (row c types) types t → FirstElements types t steps
@@ -183,9 +179,10 @@ module _ (c : ℕ) (types : ℕ → Decoded) (n : ℕ) (acc : AcceptedTypes c ty
   contained [] t p byte leaf l v f e = let g = at-leaf (leafIn types t) p t byte leaf e in rw (← g .1, ← g .2) (le-refl _)
   contained (s ∷ steps) t p byte leaf l v f e =
       let g = followed (stepIn types t s) (λ next bytes. placeIn types next (p + bytes) steps) byte leaf e in
+      let d = descent c types n acc t l s (g .0) (g .1) (g .2) in
       let k = stepped t l s (g .0) (g .1) (g .2) in
       let i = within-of t l (types t .inner) refl (v t itself) s (g .0) (g .1) (g .2) (f .0) in
-      let r = contained steps (g .0) (p + g .1) byte leaf (omega (arith, k .earlier)) (k .covers v) (rw (g .2) at (f .1)) (g .3) in
+      let r = contained steps (g .0) (p + g .1) byte leaf (omega (arith, d .earlier)) (k .covers v) (rw (g .2) at (f .1)) (g .3) in
       omega arith
 
   -- ---- order
@@ -226,7 +223,7 @@ module _ (c : ℕ) (types : ℕ → Decoded) (n : ℕ) (acc : AcceptedTypes c ty
   lesser t p s s′ steps steps′ byte leaf byte′ leaf′ ty bytes ty′ bytes′ l o v lt q q′ e e′ =
       let b = before-of t l (types t .inner) refl o (v t itself) s s′ ty bytes ty′ bytes′ q q′ lt in
       let k = stepped t l s ty bytes q in
-      let h : ty < n = omega (arith, k .earlier) in
+      let h : ty < n = omega (arith, descent c types n acc t l s ty bytes q .earlier) in
       let i = contained steps ty (p + bytes) byte leaf h (k .covers v) (sized-firsts steps ty h (b .sized)) e in
       let j = after-start (stepIn types) (leafIn types) steps′ ty′ (p + bytes′) byte′ leaf′ e′ in
       let x = b .ends in
@@ -264,7 +261,8 @@ module _ (c : ℕ) (types : ℕ → Decoded) (n : ℕ) (acc : AcceptedTypes c ty
       go ty bytes a b ty′ bytes′ a′ b′ ih (no x) (yes lt) = inr (lesser t p s′ s steps′ steps byte′ leaf′ byte leaf ty′ bytes′ ty bytes l o v lt a′ a b′ b)
       go ty bytes a b ty′ bytes′ a′ b′ ih (no x) (no y) =
           let z : s ≡ s′ = omega arith in
+          let d = descent c types n acc t l s ty bytes a in
           let k = stepped t l s ty bytes a in
           let same-type : ty ≡ ty′ = cc in
           let same-bytes : bytes ≡ bytes′ = cc in
-          ih ty (p + bytes) (omega (arith, k .earlier)) (k .hostShareable o) (k .covers v) b (rw (same-type, same-bytes) b′) (λ r. ne (cc))
+          ih ty (p + bytes) (omega (arith, d .earlier)) (k .hostShareable o) (k .covers v) b (rw (same-type, same-bytes) b′) (λ r. ne (cc))

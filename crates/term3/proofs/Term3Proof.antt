@@ -1,33 +1,19 @@
 -- Term 3 of the terms of acceptance, proved.
 -- Assumes nothing.
-use mathlib.Core.Path.{_≡_, refl, sym, _∙_, ap}
+use mathlib.Core.Path.{sym, _∙_, ap}
 use mathlib.Core.Logic.{_⊎_, inl, inr}
-use mathlib.Core.List.{List, _++_}
+use mathlib.Core.List.{_++_}
 use Prim.Native.Nat.{ℕ, _+_, _≤_, _<_}
 use native.Mathlib.Omega.{arith}
-use lib.Dec.{ltb}
-use borrow.Author.Tests.{lt-ltb}
 use Rattle.records.specs.Record.{decoded, typeCount}
 use Rattle.type_info.specs.declared.Row.{Row}
 use Rattle.valid.proofs.AppendLaws.{types-append}
 use Rattle.valid.proofs.ArenaLaws.{accepted-types, arena-more, decoded-same, arena-row-append}
-use Rattle.place.specs.declared.Place.the-variants.{At}
-use Rattle.place.specs.Place.{placeIn, placeOf}
-use Rattle.place.specs.Term3.{rowIn, Term3}
-use Rattle.place.proofs.WalkLaws.{place-picked}
-use Rattle.place.proofs.BufferLaws.{rewrite-other}
-use Rattle.place.proofs.StepLaws.{place-aligned, contained, disjoint}
-use Rattle.place.proofs.KeptLaws.{same-place}
-
--- a place is one in the decoded records, and its start is a type of the arena
-pub place-found : (ts ms : List ℕ) (t : ℕ) (steps : List ℕ) (byte leaf : ℕ) → placeOf ts ms t steps ≡ At byte leaf → placeIn (decoded ts ms) t 0 steps ≡ At byte leaf
-unfolding placeOf
-place-found ts ms t steps byte leaf e = place-picked (ltb t (typeCount ts)) (placeIn (decoded ts ms) t 0 steps) byte leaf e .1
-
--- from a type of the arena the place is the one in the decoded records
-pub place-from : (ts ms : List ℕ) (t : ℕ) → t < typeCount ts → (steps : List ℕ) → placeOf ts ms t steps ≡ placeIn (decoded ts ms) t 0 steps
-unfolding placeOf
-place-from ts ms t h steps = rw (lt-ltb t (typeCount ts) h) refl
+use Rattle.term3.specs.Term3.{rowIn, Term3}
+use Rattle.place.proofs.WalkLaws.{place-found, place-from}
+use Rattle.term3.proofs.BufferLaws.{rewrite-other}
+use Rattle.term3.proofs.StepLaws.{place-aligned, contained, disjoint}
+use Rattle.term3.proofs.KeptLaws.{same-place}
 
 -- a byte of one run lies outside another that is apart
 outside : (x m y k j : ℕ) → (x + m ≤ y) ⊎ (y + k ≤ x) → y ≤ j → j < y + k → (j < x) ⊎ (x + m ≤ j)

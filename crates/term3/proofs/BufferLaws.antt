@@ -7,7 +7,7 @@ use Prim.Native.Nat.{ℕ, zero, suc, _+_, _≤_, _<_}
 use native.Mathlib.Omega.{arith}
 use lib.ListN.{length, take, set, getElem?, length-take}
 use lib.Seq.{sets}
-use Rattle.place.specs.Term3.{rewrite}
+use Rattle.term3.specs.Term3.{rewrite}
 
 -- one byte set: the others stay
 byte-set : (l : List ℕ) (i k v : ℕ) → k ≢ i → getElem? (set l i v) k ≡ getElem? l k

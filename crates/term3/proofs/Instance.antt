@@ -23,11 +23,11 @@ use Rattle.validate_type.specs.ValidateType.{flagsOf, uniformOf, storageOf, imm
 use Rattle.valid.specs.Arena.{row, judgeOutcome, arenaOutcome, arena}
 use Rattle.valid.proofs.AcceptedLaws.{AcceptedTypes, array-row, runtime-array-row, member-earlier}
 use Rattle.valid.proofs.ArenaLaws.{accepted-types}
 use Rattle.place.specs.declared.Place.the-variants.{At}
 use Rattle.steps.specs.Steps.{stepOf}
 use Rattle.place.specs.Place.{placeOf}
-use Rattle.place.specs.Term3.{rowIn, HostShareableData, Reached, itself, element, runtimeElement, member, strideCovers, StridesCover, rewrite}
-use Rattle.place.proofs.Term3Proof.{term3}
+use Rattle.term3.specs.Term3.{rowIn, HostShareableData, Reached, itself, element, runtimeElement, member, strideCovers, StridesCover, rewrite}
+use Rattle.term3.proofs.Term3Proof.{term3}
 
 -- ---- what is reached from an accepted type is an accepted type
 pub reached-within : (c : ℕ) (types : ℕ → Decoded) (n : ℕ) → AcceptedTypes c types n → {t a : ℕ} → Reached types t a → t < n → a < n

@@ -9,10 +9,10 @@ use Rattle.records.specs.Record.{Decoded}
 use Rattle.valid.proofs.AcceptedLaws.{AcceptedTypes}
 use Rattle.steps.specs.declared.Step.{Step}
 use Rattle.steps.specs.declared.Step.the-variants.{To, NoStep}
 use Rattle.place.specs.declared.Place.the-variants.{At, NoPlace}
 use Rattle.steps.specs.Steps.{isLeaf, stepOf}
 use Rattle.place.specs.Place.{stepIn, placeIn}
-use Rattle.place.proofs.StepLaws.{stepped}
+use Rattle.place.proofs.DescentLaws.{descent}
 
 -- two arenas whose records below n are the same, the first accepted
 module _ (c : ℕ) (types types′ : ℕ → Decoded) (n : ℕ) (acc : AcceptedTypes c types n) (same : (k : ℕ) → k < n → types k ≡ types′ k) where
@@ -28,4 +28,4 @@ module _ (c : ℕ) (types types′ : ℕ → Decoded) (n : ℕ) (acc : AcceptedT
       go : (o : Step) → stepIn types t s ≡ o → ((u q : ℕ) → u < n → placeIn types u q steps ≡ placeIn types′ u q steps)
           → placeIn types t p (s ∷ steps) ≡ placeIn types′ t p (s ∷ steps)
       go NoStep e ih = rw (← same-step t s h, e) refl
-      go (To ty bytes) e ih = let k = stepped c types n acc t h s ty bytes e in rw (← same-step t s h, e) (ih ty (p + bytes) (omega (arith, k .earlier)))
+      go (To ty bytes) e ih = let d = descent c types n acc t h s ty bytes e in rw (← same-step t s h, e) (ih ty (p + bytes) (omega (arith, d .earlier)))

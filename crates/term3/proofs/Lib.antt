@@ -1,0 +1,6 @@
+pub mod BufferLaws
+pub mod StepLaws
+pub mod KeptLaws
+pub mod Term3Proof
+pub mod Instance
+pub mod StridesMatter
