@@ -16,7 +16,7 @@ returns c = rw (c .before .before .before .before .verdict-at2 .ensures, c .befo
 
 returns-2 : tie.Need-returns-2
 unfolding rowsIn
-returns-2 c = 
+returns-2 c =
     let a = c .before .before .before .args in
     let past : (j : ℕ) → rowWord (now (a .rows)) (a .k) j ≡ 0 = λ j. List·getD-eq-default (now (a .rows)) 0 (omega (arith, c .before .if1 .left, c .before .before .before .pre)) in
     rw (c .empty-row .ensures, past 0, past 1, past 2, past 3, past 4, past 5, past 6, past 7, past 8, past 9, past 10, past 11, past 12, past 13) refl
