@@ -9,8 +9,6 @@ ghost use Prim.Native.Nat.{ℕ, _+_, _*_, _≤_, _<_};
 ghost use lib.ListN.{length};
 ghost use Rattle.records.specs.Record.{memberType, typeInner};
 ghost use Rattle.records.specs.Result.{ok};
-ghost use Rattle.rows.specs.Rows.{rowWord};
-ghost use Rattle.flags.specs.Flags.{bit, hostShareableBit};
 ghost use Rattle.type_info.specs.TypeInfo.{rowsIn, verdictIn};
 ghost use Rattle.type_info.specs.Verdict.{okVerdict, shareVerdict, memberVerdict};
 ghost use Rattle.member_rules.specs.MemberRules.{structAt, isArray, previousOf};
@@ -136,15 +134,15 @@ fn verdict_after(
     rows: &[u32],
     t: u32,
     w: usize,
+    shareable: bool,
     i: u32,
     j: u32,
     offset: u32,
     so_far: Verdict,
 ) -> Verdict
     requires { ⌜ t * 14 + (w + 4) < length (now rows) ⌝ }
-    ensures { λ r. ⌜ r ≡ memberVerdict i j offset (shareVerdict (bit (rowWord (now (rows .entry)) t 2) hostShareableBit) t «so_far») (verdictIn (now (rows .entry)) t w) ⌝ }
+    ensures { λ r. ⌜ r ≡ memberVerdict i j offset (shareVerdict shareable t «so_far») (verdictIn (now (rows .entry)) t w) ⌝ }
 {
-    let shareable = flags::is_host_shareable(rows::row_word(rows, t, 2));
     type_info::member_verdict_at(
         rows,
         t,
@@ -196,10 +194,11 @@ fn ordered_member(
         end,
         flags: flags::both(so_far.flags, flags),
     };
+    let shareable = flags::is_host_shareable(flags);
     Ordered::Took(State {
         bounds,
-        uniform: verdict_after(rows, t, 3, i, j, offset, uniform),
-        storage: verdict_after(rows, t, 8, i, j, offset, storage),
+        uniform: verdict_after(rows, t, 3, shareable, i, j, offset, uniform),
+        storage: verdict_after(rows, t, 8, shareable, i, j, offset, storage),
         immediates: member_rules::immediates_of(own, state.immediates),
         previous: member_rules::struct_at(types, t, offset),
     })
