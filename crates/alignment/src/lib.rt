@@ -26,7 +26,7 @@ pub fn vector_alignment(n: u32) -> u32
 pub fn larger(a: u32, b: u32) -> u32
     ensures { λ r. ⌜ r ≡ max a b ⌝ }
 {
-    if a < b { b } else { a }
+    if b <= a { a } else { b }
 }
 
 // Whether n is a multiple of the alignment; of 0 only 0 is.
