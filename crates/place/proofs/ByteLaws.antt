@@ -29,7 +29,6 @@ use Rattle.place.specs.Place.{stepIn}
 use Rattle.place.proofs.WalkLaws.{plain-step, array-step, runtime-array-step, struct-step, other-step}
 use Rattle.place.proofs.DescentLaws.{descent}
 
--- the product of two 32-bit words fits 64 bits
 -- type t is SIZED
 abbrev Sized : (c : ℕ) (types : ℕ → Decoded) → ℕ → Type 0
 Sized c types t = T (bit (row c types t .flags) sizedBit)

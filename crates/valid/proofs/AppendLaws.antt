@@ -1,31 +1,17 @@
 -- Records read the same where types and member rows are appended.
 -- Assumes nothing.
 use mathlib.Core.Path.{_≡_, sym, _∙_, ap}
-use mathlib.Core.Bool.{_&&_}
 use mathlib.Core.List.{List, _++_}
 use Prim.Native.Nat.{ℕ, _+_, _*_, _≤_, _<_}
 use native.Mathlib.Decide.{ℕ-discrete}
 use native.Mathlib.Omega.{arith}
-use lib.Dec.{eqb, leb→le}
 use lib.ListN.{take, drop, length-append, length-drop, List·getD-append}
 use lib.Seq.{take-append-le, drop-append-le}
-use Rattle.records.specs.Result.{ok, require}
+use Rattle.records.specs.Result.{ok}
 use Rattle.records.specs.Record.{structKind, typeWords, typeCount, typeWord, memberWords, memberCount, typeInner, structMembers, decoded}
-use Rattle.records.specs.Fields.{membersWithin, fieldsOk, baseWithin, recordAt}
-use Rattle.records.proofs.ResultLaws.{required, and-left}
+use Rattle.records.specs.Fields.{recordAt}
 use Rattle.records.proofs.RecordLaws.{members-no-struct, members-part}
-
--- the member rows of a struct in order are rows of the member table
-pub struct-within : (ts ms : List ℕ) (i : ℕ) → recordAt ts ms i ≡ ok tt → typeWord ts i 0 ≡ structKind → typeWord ts i 1 + typeWord ts i 2 ≤ memberCount ms
-unfolding recordAt fieldsOk
-struct-within ts ms i e k =
-    let f =
-    required
-    (fieldsOk (memberCount ms) (typeWord ts i 0) (typeWord ts i 1) (typeWord ts i 2) (typeWord ts i 3) (typeWord ts i 4) (typeWord ts i 5))
-    2 0 0 (require (baseWithin (typeCount ts) (typeWord ts i 0) (typeWord ts i 1)) 3 0 0 (ok tt)) tt e .0 in
-    let w = membersWithin (memberCount ms) (typeWord ts i 1) (typeWord ts i 2) in
-    let g = and-left w (eqb (typeWord ts i 4) 0) (and-left (w && eqb (typeWord ts i 4) 0) (eqb (typeWord ts i 5) 0) (rw k at f)) in
-    leb→le (typeWord ts i 1 + typeWord ts i 2) (memberCount ms) g
+use Rattle.validate_type.proofs.OwnMembers.{struct-within}
 
 module _ (ts ms ts′ ms′ : List ℕ) where
   -- an appended table has no fewer types, and no fewer member rows

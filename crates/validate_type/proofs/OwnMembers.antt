@@ -2,44 +2,28 @@
 -- layouts are accepted.
 -- Assumes nothing.
 use mathlib.Core.Path.{_≡_, refl}
-use mathlib.Core.Bool.{_&&_}
 use mathlib.Core.List.{List}
-use Prim.Native.Nat.{ℕ, zero, suc, _+_, _*_, _≤_, _<_}
-use native.Mathlib.Nat.{not-suc-le-zero}
-use native.Mathlib.Decide.{ℕ-discrete}
-use native.Mathlib.Omega.{arith}
-use lib.Dec.{T, eqb, leb→le}
-use lib.ListN.{length, take, drop, length-drop}
-use lib.Seq.{length-take-le}
+use Prim.Native.Nat.{ℕ, _+_, _*_, _≤_, _<_}
+use lib.Dec.{T, eqb}
+use lib.ListN.{length, take, drop}
 use Rattle.records.specs.Result.{ok, pick, require}
 use Rattle.records.specs.Record.{Decoded, decoded, memberType, memberCount, typeCount, typeWord, arrayKind, structKind, innerOf, typeInner, structMembers}
-use Rattle.records.specs.Fields.{fieldsOk, baseWithin, membersWithin, recordAt}
+use Rattle.records.specs.Fields.{fieldsOk, baseWithin, recordAt}
 use Rattle.records.specs.Table.{table, firstRefusal}
 use Rattle.records.specs.declared.Outcome.the-variants.{Accepted}
 use Rattle.records.specs.declared.TypeInner.the-variants.{Array, RuntimeArray, Struct}
-use Rattle.records.proofs.ResultLaws.{required, and-left}
+use Rattle.records.proofs.ResultLaws.{required, T-true}
 use Rattle.records.proofs.RecordLaws.{members-part}
-use Rattle.type_alignment.specs.TypeAlignment.{membersAlignment}
 use Rattle.layouter.specs.Layouter.{noLayout, layoutStep, layoutAt}
-use Rattle.layouter.proofs.LayoutAccepted.{struct-layout, member-layout}
+use Rattle.type_alignment.proofs.AcceptedAlignment as alignment
+use Rattle.type_layout.proofs.TypeLayoutLaws.{members-within, part-length}
+use Rattle.layouter.proofs.LayoutAccepted.{struct-layout}
 use Rattle.validate_type.specs.ValidateType.{MembersEarlier}
 
--- the alignment of k members was made from layouts of earlier types
-earlier-below : (types : ℕ → Decoded) (t : ℕ) (members : List ℕ) (j k a : ℕ)
-    → membersAlignment (table noLayout (layoutStep types) t) t members k ≡ ok a → j < k → memberType members j < t
-earlier-below types t members j zero a e l = absurd (not-suc-le-zero l)
-earlier-below types t members j (suc k) a e l =
-    let m = member-layout types t members k a e in
-    go (λ h. earlier-below types t members j k (m .0) (m .1) h) (m .2) (ℕ-discrete j k)
-  where
-    go : (j < k → memberType members j < t) → memberType members k < t → Dec (j ≡ k) → memberType members j < t
-    go ih own (yes q) = rw q own
-    go ih own (no q) = ih (omega arith)
-
--- so a struct's members are of earlier types
+-- where the layouts are accepted, a struct's members are of earlier types
 pub members-earlier : (types : ℕ → Decoded) (n : ℕ) → firstRefusal (layoutAt types) n ≡ Accepted → (t : ℕ) → t < n → MembersEarlier types t
 members-earlier types n e t h count span j says l =
-    earlier-below types t (types t .members) j count _ (struct-layout types n e t h count span says .1) l
+    alignment.members-earlier (table noLayout (layoutStep types) t) t (types t .members) count _ (struct-layout types n e t h count span says .1) j l
 
 -- what the record of an array says
 pub array-says : (ts : List ℕ) (i : ℕ) → typeWord ts i 0 ≡ arrayKind
@@ -62,19 +46,16 @@ module _ (ts ms : List ℕ) (i : ℕ) (in-order : recordAt ts ms i ≡ ok tt) (k
 
   -- the table has its member rows
   pub struct-within : typeWord ts i 1 + typeWord ts i 2 ≤ memberCount ms
-  unfolding fieldsOk
   struct-within =
-      let within = membersWithin (memberCount ms) (typeWord ts i 1) (typeWord ts i 2) in
-      let all : T (within && eqb (typeWord ts i 4) 0 && eqb (typeWord ts i 5) 0) = rw kind at fields-in-sets in
-      leb→le _ _ (and-left within (eqb (typeWord ts i 4) 0) (and-left (within && eqb (typeWord ts i 4) 0) (eqb (typeWord ts i 5) 0) all))
+      members-within (memberCount ms) (typeWord ts i 1) (typeWord ts i 2) (typeWord ts i 3) (typeWord ts i 4) (typeWord ts i 5)
+      (T-true _ (rw kind at fields-in-sets))
 
   pub struct-says : typeInner ts i ≡ Struct (typeWord ts i 2) (typeWord ts i 3)
   unfolding typeInner innerOf
   struct-says = rw kind refl
 
   pub own-length : length (take (typeWord ts i 2 * 2) (drop (typeWord ts i 1 * 2) ms)) ≡ typeWord ts i 2 * 2
-  own-length =
-      length-take-le (typeWord ts i 2 * 2) (drop (typeWord ts i 1 * 2) ms) (rw (length-drop (typeWord ts i 1 * 2) ms) (omega (arith, struct-within)))
+  own-length = part-length ms (typeWord ts i 1) (typeWord ts i 2) struct-within
 
   module _ (below : i < typeCount ts) where
     pub own-part : structMembers ts ms i ≡ take (typeWord ts i 2 * 2) (drop (typeWord ts i 1 * 2) ms)
