@@ -12,7 +12,7 @@ ghost use lib.ListN.{length, drop};
 ghost use Rattle.layouter.specs.Layouter.{layoutAnswer, layoutWords};
 ghost use Rattle.valid.specs.Arena.{arenaAnswer, arenaWords};
 ghost use Rattle.slots.specs.Slots.{rangeSlots, partAnswer};
-ghost use Rattle.immediates.specs.Walk.{slotsAnswer};
+ghost use Rattle.immediates.specs.Immediates.{slotsAnswer};
 ghost use Rattle.place.specs.Place.{lookupAnswer};
 ghost use Rattle.doors.specs.Doors.{slotsOutcome, placeOutcome, maskOf, byteOf, leafOf, partStart, partLength, withAnswer, withOne, withTwo};
 

@@ -13,7 +13,7 @@ use Rattle.valid.specs.Arena.{arenaFits, arenaAnswer, arenaWords}
 use Rattle.place.specs.Place.{lookupAnswer}
 use Rattle.place.specs.declared.PlaceAnswer.the-variants as place
 use Rattle.slots.specs.declared.SlotsAnswer.the-variants as slots
-use Rattle.immediates.specs.Walk.{slotsAnswer}
+use Rattle.immediates.specs.Immediates.{slotsAnswer}
 
 not-both : (a : Bool) → (a && false) ≡ false
 not-both true = refl

@@ -8,7 +8,7 @@ ghost use Prim.Native.Nat.{_*_, _≤_};
 ghost use lib.ListN.{take};
 ghost use Rattle.valid.specs.Arena.{arenaAnswer, arenaWords};
 ghost use Rattle.place.specs.Place.{lookupAnswer};
-ghost use Rattle.immediates.specs.Walk.{slotsAnswer};
+ghost use Rattle.immediates.specs.Immediates.{slotsAnswer};
 ghost use Rattle.member_words.specs.Flat.{flat};
 
 // The arena check on the words of n records.

@@ -1,42 +1,29 @@
--- Laws of the call: the types of an accepted arena measure within 32 bits, and the answer by what the arena check says.
+-- Laws of the call: the types of an accepted arena measure within 32 bits, the answer by what the arena check says, and the meaning of
+-- the mask slot by slot.
 -- Assumes nothing.
-use mathlib.Core.Path.{_≡_, refl, sym, _∙_}
-use mathlib.Core.Bool.{Bool, true, false, _&&_}
+use mathlib.Core.Path.{_≡_, refl}
+use mathlib.Core.Bool.{Bool, true, false}
 use mathlib.Core.List.{List}
-use Prim.Native.Nat.{ℕ, _*_, _<_, _≤_}
+use Prim.Native.Nat.{ℕ, _<_, _≤_}
 use native.Mathlib.Omega.{arith}
-use lib.Dec.{leb, ltb}
+use lib.Dec.{T, ltb}
 use borrow.Author.Tests.{lt-ltb, le-ltb}
-use Rattle.records.specs.Result.{ok, pick}
+use Rattle.records.specs.Result.{pick}
 use Rattle.records.specs.Record.{decoded, typeCount, typeInner}
-use Rattle.records.specs.Fields.{recordAt}
-use Rattle.records.specs.Table.{table, resultAt, firstRefusal}
 use Rattle.records.specs.declared.Outcome.{Outcome}
 use Rattle.records.specs.declared.Outcome.the-variants.{Accepted, Refused}
-use Rattle.records.specs.declared.TypeInner.{TypeInner}
-use Rattle.records.specs.declared.TypeInner.the-variants.{Plain, Array, RuntimeArray, Struct, Other}
-use Rattle.records.proofs.ResultLaws.{required}
-use Rattle.records.proofs.TableLaws.{also-accepted, all-ok}
-use Rattle.records.proofs.RecordLaws.{record-bounds}
-use Rattle.type_methods.specs.TypeMethods.{mostSize, sizeOf, trySize}
-use Rattle.layouter.specs.Layouter.{noLayout, layoutStep, layoutAt, layoutOutcome}
-use Rattle.type_layout.proofs.AcceptedParts.{layout-parts}
+use Rattle.records.proofs.TableLaws.{also-accepted}
+use Rattle.layouter.specs.Layouter.{layoutOutcome}
+use Rattle.flags.specs.Flags.{bit}
 use Rattle.valid.specs.Arena.{judgeOutcome, arenaFits, arenaOutcome, arenaAnswer}
 use Rattle.slots.specs.declared.Slots.{Slots}
 use Rattle.slots.specs.declared.Slots.the-variants.{Mask, Past}
 use Rattle.slots.specs.declared.SlotsAnswer.the-variants as answer
-use Rattle.slots.specs.Slots.{partAnswer}
-use Rattle.immediates.specs.Walk.{Measured, slotsAt, typeAnswer, slotsAnswer}
-
--- a size that is accepted is the measure
-measured : (inner : TypeInner) (size : ℕ) → trySize inner ≡ ok size → trySize inner ≡ ok (sizeOf inner)
-unfolding trySize
-measured (Plain leaf) size e = refl
-measured (Array base count stride) size e =
-    e ∙ sym (required (leb count mostSize && leb (count * stride) mostSize) 4 0 0 (ok (count * stride)) size e .1)
-measured (RuntimeArray base stride) size e = e ∙ sym (required (leb stride mostSize) 4 0 0 (ok stride) size e .1)
-measured (Struct count span) size e = refl
-measured (Other o) size e = refl
+use Rattle.slots.specs.Slots.{slotCount, partAnswer}
+use Rattle.type_slots.specs.Walk.{Measured, CoveredBy, slotsAt}
+use Rattle.type_slots.proofs.MeasuredLaws.{layout-measured}
+use Rattle.type_slots.proofs.SlotLaws.{walk-slot}
+use Rattle.immediates.specs.Immediates.{typeAnswer, slotsAnswer}
 
 -- an outcome behind a test that is accepted
 behind : (b : Bool) (o : Outcome) → pick b o (Refused 1 0 0 0) ≡ Accepted → o ≡ Accepted
@@ -44,23 +31,14 @@ behind true o e = e
 behind false o e = let z : _≡_ {A = ℕ} 0 1 = cc in absurd (omega arith)
 
 module _ (c : ℕ) (ts ms rows : List ℕ) (accepted : arenaAnswer c ts ms rows ≡ Accepted) where
-  -- the records and the layouts of an accepted arena are accepted
-  accepted-layouts : (firstRefusal (recordAt ts ms) (typeCount ts) ≡ Accepted) × (firstRefusal (layoutAt (decoded ts ms)) (typeCount ts) ≡ Accepted)
-  unfolding arenaAnswer arenaOutcome layoutOutcome
-  accepted-layouts =
-      let arena = also-accepted (layoutOutcome ts ms) (judgeOutcome c ts ms) (behind (arenaFits c ts ms rows) (arenaOutcome c ts ms) accepted) in
-      also-accepted (firstRefusal (recordAt ts ms) (typeCount ts)) (firstRefusal (layoutAt (decoded ts ms)) (typeCount ts)) (arena .0)
+  -- the layouter accepts an accepted arena
+  accepted-layouts : layoutOutcome ts ms ≡ Accepted
+  unfolding arenaAnswer arenaOutcome
+  accepted-layouts = also-accepted (layoutOutcome ts ms) (judgeOutcome c ts ms) (behind (arenaFits c ts ms rows) (arenaOutcome c ts ms) accepted) .0
 
   -- each of its types has a measure
   pub accepted-measured : (i : ℕ) → i < typeCount ts → Measured (typeInner ts i)
-  unfolding resultAt
-  accepted-measured i h =
-      let made = all-ok (layoutAt (decoded ts ms)) (typeCount ts) (accepted-layouts .1) i h in
-      let parts = layout-parts (table noLayout (layoutStep (decoded ts ms)) i) i (typeInner ts i) (decoded ts ms i .members) (made .0) (made .1) in
-      record {
-        bounds = record-bounds ts ms i (all-ok (recordAt ts ms) (typeCount ts) (accepted-layouts .0) i h .1);
-        size = measured (typeInner ts i) (made .0 .size) (parts .0);
-      }
+  accepted-measured = layout-measured ts ms accepted-layouts
 
   module _ (ty offset : ℕ) where
     -- a type of the arena is walked
@@ -100,3 +78,8 @@ pub answer-mask : (c : ℕ) (ts ms rows : List ℕ) (ty offset m : ℕ) → slot
     → slotsAt (decoded ts ms) ty offset ≡ Mask m
 unfolding slotsAnswer
 answer-mask c ts ms rows ty offset m e = type-mask ts ms ty offset (arenaAnswer c ts ms rows) m e
+
+-- slot k of the mask that the call answers is set exactly where a non-struct part of the type covers it
+pub call-slot : (c : ℕ) (ts ms rows : List ℕ) (ty offset m : ℕ) → slotsAnswer c ts ms rows ty offset ≡ answer.Slots m → (k : ℕ) → k < slotCount
+    → (T (bit m k) → CoveredBy (decoded ts ms) ty offset k) × (CoveredBy (decoded ts ms) ty offset k → T (bit m k))
+call-slot c ts ms rows ty offset m e k h = walk-slot (decoded ts ms) k h ty offset m (answer-mask c ts ms rows ty offset m e)

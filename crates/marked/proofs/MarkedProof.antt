@@ -27,7 +27,8 @@ use Rattle.slots.specs.declared.SlotsAnswer.{SlotsAnswer}
 use Rattle.slots.specs.declared.SlotsAnswer.the-variants as slots
 use Rattle.slots.specs.declared.SlotsAnswer.the-variants.{Slots}
 use Rattle.slots.specs.Slots.{covers, maskOf, rangeSlots, partAnswer}
-use Rattle.immediates.specs.Walk.{membersSlots, slotsOf, slotsAnswer}
+use Rattle.type_slots.specs.Walk.{membersSlots, slotsOf}
+use Rattle.immediates.specs.Immediates.{slotsAnswer}
 use Rattle.marked.specs.Marked.{Words, Example, lent, made, left, AllLeft, Holds, Case, arenaCase, slotsCase, rangeCase, CaseHolds, marked}
 
 -- ---- the test

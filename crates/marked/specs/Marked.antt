@@ -15,7 +15,7 @@ use Rattle.slots.specs.declared.SlotsAnswer.{SlotsAnswer}
 use Rattle.slots.specs.declared.SlotsAnswer.the-variants as slots
 use Rattle.slots.specs.declared.SlotsAnswer.the-variants.{Slots}
 use Rattle.slots.specs.Slots.{rangeSlots, partAnswer}
-use Rattle.immediates.specs.Walk.{slotsAnswer}
+use Rattle.immediates.specs.Immediates.{slotsAnswer}
 
 -- ---- the records that the examples are made of
 -- E stands for f32, V3 for 01's V, vec3 of f32, S for a struct

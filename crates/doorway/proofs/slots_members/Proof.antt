@@ -40,7 +40,7 @@ use denote.Triple.Walked.{says, Stays, stay-none, stay-none-slice, gave-slice, w
 use denote.Exit.{yes}
 use Rattle.member_words.specs.Flat.{flat}
 use Rattle.valid.specs.Arena.{arenaWords}
-use Rattle.immediates.specs.Walk.{slotsAnswer}
+use Rattle.immediates.specs.Immediates.{slotsAnswer}
 use Rattle.member_words.specs.declared.Member.{Member}
 use Rattle.slots.specs.declared.SlotsAnswer.{SlotsAnswer as Answer}
 use Rattle.slots.specs.declared.SlotsAnswer.the-variants.{Refused}

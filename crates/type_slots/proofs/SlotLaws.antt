@@ -10,7 +10,7 @@ use native.Mathlib.Decide.{ℕ-discrete, decLe}
 use native.Mathlib.Omega.{arith}
 use lib.Dec.{T, leb}
 use Rattle.records.specs.Result.{pick}
-use Rattle.records.specs.Record.{Decoded, decoded, memberType, memberOffset}
+use Rattle.records.specs.Record.{Decoded, memberType, memberOffset}
 use Rattle.records.specs.Table.{table}
 use Rattle.records.specs.declared.TypeInner.{TypeInner}
 use Rattle.records.specs.declared.TypeInner.the-variants.{Plain, Array, RuntimeArray, Struct, Other}
@@ -21,13 +21,11 @@ use Rattle.type_methods.specs.TypeMethods.{sizeOf}
 use Rattle.type_flags.specs.TypeFlags.{isStruct}
 use Rattle.slots.specs.declared.Slots.{Slots}
 use Rattle.slots.specs.declared.Slots.the-variants.{Mask, Past}
-use Rattle.slots.specs.declared.SlotsAnswer.the-variants as answer
 use Rattle.slots.specs.Slots.{slotCount, covers, rangeSlots, union, join}
-use Rattle.immediates.specs.Walk.{CoveredBy, by-whole, by-member, noSlots, slotsStep, slotsOf, slotsAt, membersSlots, slotsAnswer}
+use Rattle.type_slots.specs.Walk.{CoveredBy, by-whole, by-member, noSlots, slotsStep, slotsOf, slotsAt, membersSlots}
 use Rattle.slots.proofs.RangeLaws.{or-left, or-right}
 use Rattle.slots.proofs.SlotBits.{union-slot, zero-bit, mask-inj, range-slot}
-use Rattle.immediates.proofs.CallLaws.{answer-mask}
-use Rattle.immediates.proofs.WalkLaws.{earlier-slots, later-slots, slots-by-record}
+use Rattle.type_slots.proofs.WalkLaws.{earlier-slots, later-slots, slots-by-record}
 
 -- ---- the parts of a struct
 -- the two masks that are joined
@@ -149,8 +147,3 @@ module _ (types : ℕ → Decoded) where
     pub walk-slot : (ty offset m : ℕ) → slotsAt types ty offset ≡ Mask m
         → (T (bit m k) → CoveredBy types ty offset k) × (CoveredBy types ty offset k → T (bit m k))
     walk-slot ty offset m e = (covered (suc ty) ty offset m (omega arith) e, λ c. set c m e)
-
--- ---- the call: slot k of the mask that it answers is set exactly where a non-struct part of the type covers it
-pub call-slot : (c : ℕ) (ts ms rows : List ℕ) (ty offset m : ℕ) → slotsAnswer c ts ms rows ty offset ≡ answer.Slots m → (k : ℕ) → k < slotCount
-    → (T (bit m k) → CoveredBy (decoded ts ms) ty offset k) × (CoveredBy (decoded ts ms) ty offset k → T (bit m k))
-call-slot c ts ms rows ty offset m e k h = walk-slot (decoded ts ms) k h ty offset m (answer-mask c ts ms rows ty offset m e)

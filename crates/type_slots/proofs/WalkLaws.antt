@@ -15,7 +15,7 @@ use Rattle.alignment.specs.Alignment.{most}
 use Rattle.slots.specs.declared.Slots.{Slots}
 use Rattle.slots.specs.declared.Slots.the-variants.{Mask, Past}
 use Rattle.slots.specs.Slots.{join}
-use Rattle.immediates.specs.Walk.{noSlots, slotsStep, slotsOf, slotsAt, membersSlots}
+use Rattle.type_slots.specs.Walk.{noSlots, slotsStep, slotsOf, slotsAt, membersSlots}
 
 -- a part that is refused refuses both
 join-past : (a : Slots) → join a Past ≡ Past

@@ -4,24 +4,19 @@ use mathlib.Core.Path.{_≡_}
 use mathlib.Core.Bool.{false}
 use mathlib.Core.List.{List}
 use Prim.Native.Nat.{ℕ, zero, suc, _+_, _<_}
-use lib.Dec.{T, leb, ltb}
+use lib.Dec.{T, leb}
 use Rattle.records.specs.Result.{Result, ok, pick}
-use Rattle.records.specs.Record.{Decoded, decoded, typeCount, memberType, memberOffset}
+use Rattle.records.specs.Record.{Decoded, memberType, memberOffset}
 use Rattle.records.specs.Table.{valueAt}
-use Rattle.records.specs.declared.Outcome.{Outcome}
-use Rattle.records.specs.declared.Outcome.the-variants as outcome
 use Rattle.records.specs.declared.TypeInner.{TypeInner}
 use Rattle.records.specs.declared.TypeInner.the-variants.{Plain, Array, RuntimeArray, Struct, Other}
 use Rattle.alignment.specs.Alignment.{most}
 use Rattle.records.specs.Fields.{InnerBounds}
 use Rattle.type_methods.specs.TypeMethods.{sizeOf, trySize}
 use Rattle.type_flags.specs.TypeFlags.{isStruct}
-use Rattle.valid.specs.Arena.{arenaAnswer}
 use Rattle.slots.specs.declared.Slots.{Slots}
 use Rattle.slots.specs.declared.Slots.the-variants.{Mask, Past}
-use Rattle.slots.specs.declared.SlotsAnswer.{SlotsAnswer}
-use Rattle.slots.specs.declared.SlotsAnswer.the-variants as answer
-use Rattle.slots.specs.Slots.{covers, rangeSlots, join, partAnswer}
+use Rattle.slots.specs.Slots.{covers, rangeSlots, join}
 
 -- the first j members of a struct that stands at `offset`; number 25 where an offset sum leaves 32 bits.
 -- earlier: the slots of the types before it, each at an offset
@@ -62,13 +57,3 @@ pub data CoveredBy (types : ℕ → Decoded) : (ty offset k : ℕ) → Type 0 wh
   by-member : {ty offset k : ℕ} (count span j : ℕ) → types ty .inner ≡ Struct count span → j < count
       → CoveredBy types (memberType (types ty .members) j) (offset + memberOffset (types ty .members) j) k
       → CoveredBy types ty offset k
-
--- ---- the call: the arena's refusal is passed on; 26 for a type outside the arena; then 25. Both carry zeros only
-abbrev pub typeAnswer : (ts ms : List ℕ) (ty offset : ℕ) → Outcome → SlotsAnswer
-typeAnswer ts ms ty offset outcome.Accepted =
-    pick (ltb ty (typeCount ts)) (partAnswer (slotsAt (decoded ts ms) ty offset)) (answer.Refused 26 0 0 0)
-typeAnswer ts ms ty offset (outcome.Refused number t member detail) = answer.Refused number t member detail
-
--- the arena is judged first
-unfoldable pub slotsAnswer : (c : ℕ) (ts ms rows : List ℕ) (ty offset : ℕ) → SlotsAnswer
-slotsAnswer c ts ms rows ty offset = typeAnswer ts ms ty offset (arenaAnswer c ts ms rows)

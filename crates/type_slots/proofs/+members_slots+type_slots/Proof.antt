@@ -1,4 +1,4 @@
--- `immediates::type_slots` and `immediates::members_slots`, which call each other, meet their contracts. The measure is twice the type number,
+-- `type_slots::type_slots` and `type_slots::members_slots`, which call each other, meet their contracts. The measure is twice the type number,
 -- and one more for the type itself: a struct asks for its members, and a member is of an earlier type.
 -- The invariant: slots is what the definition has after j members. Assumes nothing.
 use mathlib.Core.Path.{_≡_, refl, sym, _∙_}
@@ -10,24 +10,24 @@ use denote.Ref.{now}
 use borrow.Author.Needs.{needs}
 use Rattle.records.specs.Record.{decoded, structMembers, memberType, memberOffset}
 use Rattle.records.specs.Table.{table}
-use Rattle.immediates.specs.Walk.{noSlots, slotsStep, slotsOf, membersSlots}
-use Rattle.immediates.proofs.WalkLaws.{members-sum-past, members-part-past, members-more, earlier-slots, later-slots, slots-by-record}
+use Rattle.type_slots.specs.Walk.{noSlots, slotsStep, slotsOf, membersSlots}
+use Rattle.type_slots.proofs.WalkLaws.{members-sum-past, members-part-past, members-more, earlier-slots, later-slots, slots-by-record}
 use borrow.Fn.Kinds.{In}
 use borrow.Fn.PlainCycle.{Measures, is, falls, and}
-use Rattle.immediates.proofs.members_slots.Reads as members-slots
-use Rattle.immediates.proofs.members_slots.Kinds as members-slots-kinds
-use Rattle.immediates.proofs.+members_slots+type_slots.Lts-members_slots as members-slots-lts
-use Rattle.immediates.proofs.type_slots.Reads as type-slots
-use Rattle.immediates.proofs.type_slots.Kinds as type-slots-kinds
-use Rattle.immediates.proofs.+members_slots+type_slots.Lts-type_slots as type-slots-lts
+use Rattle.type_slots.proofs.members_slots.Reads as members-slots
+use Rattle.type_slots.proofs.members_slots.Kinds as members-slots-kinds
+use Rattle.type_slots.proofs.+members_slots+type_slots.Lts-members_slots as members-slots-lts
+use Rattle.type_slots.proofs.type_slots.Reads as type-slots
+use Rattle.type_slots.proofs.type_slots.Kinds as type-slots-kinds
+use Rattle.type_slots.proofs.+members_slots+type_slots.Lts-type_slots as type-slots-lts
 use Rattle.slots.proofs.join_parts.Reads as join-parts-reads
-use Rattle.immediates.proofs.measure_slots.Reads as measure-slots-reads
+use Rattle.type_slots.proofs.measure_slots.Reads as measure-slots-reads
 use Rattle.records.proofs.member_offset.Reads as member-offset-reads
 use Rattle.records.proofs.member_type.Reads as member-type-reads
 use Rattle.records.proofs.struct_members.Reads as struct-members-reads
 use Rattle.records.proofs.type_inner.Reads as type-inner-reads
-use Rattle.immediates.proofs.+members_slots+type_slots.{statement}
-use Rattle.immediates.proofs.+members_slots+type_slots.Tie.{close}
+use Rattle.type_slots.proofs.+members_slots+type_slots.{statement}
+use Rattle.type_slots.proofs.+members_slots+type_slots.Tie.{close}
 
 abbrev μ-members-slots : Measures 2 members-slots-kinds.ps ℕ
 μ-members-slots κs a = 2 * a .1 .1 .0

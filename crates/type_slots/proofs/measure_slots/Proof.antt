@@ -1,11 +1,11 @@
--- `immediates::measure_slots` meets its contract. Assumes nothing.
+-- `type_slots::measure_slots` meets its contract. Assumes nothing.
 use borrow.Author.Needs.{needs}
 use mathlib.Core.Path.{_≡_}
 use native.Mathlib.Omega.{arith}
 use Prim.Native.Nat.{ℕ}
 use Rattle.records.proofs.ResultLaws.{ok-inj}
-use Rattle.immediates.proofs.measure_slots.Statement.{statement}
-use Rattle.immediates.proofs.measure_slots.Tie as tie
+use Rattle.type_slots.proofs.measure_slots.Statement.{statement}
+use Rattle.type_slots.proofs.measure_slots.Tie as tie
 
 try-size-requires : tie.Need-try-size-requires
 try-size-requires c κs = c .pre .bounds

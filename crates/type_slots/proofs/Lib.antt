@@ -1,0 +1,3 @@
+pub mod WalkLaws
+pub mod SlotLaws
+pub mod MeasuredLaws
