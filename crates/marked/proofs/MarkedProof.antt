@@ -20,7 +20,9 @@ use Rattle.width.specs.Width.{integerWidth, floatWidth, checkWidth, integerAtom
 use Rattle.type_flags.specs.TypeFlags.{leafFlags}
 use Rattle.type_info.specs.TypeInfo.{wordsOf}
 use Rattle.type_info.specs.Verdict.{arrayVerdict, shareVerdict, memberVerdict, distanceVerdict, distanceOk, unsizedVerdict, spanVerdict}
-use Rattle.member_rules.specs.MemberRules.{previousOf, memberBounds, boundsAfter, uniformAfter, storageAfter, immediatesAfter}
+use Rattle.type_info.specs.Verdict.{previousOf}
+use Rattle.member_bounds.specs.MemberBounds.{memberBounds, boundsAfter}
+use Rattle.member_rules.specs.MemberRules.{uniformAfter, storageAfter, immediatesAfter}
 use Rattle.validate_type.specs.ValidateType.{nonDataFlags, flagsOf, uniformOf, storageOf, immediatesOf, rowOf, judge}
 use Rattle.valid.specs.Arena.{judgeOutcome, arenaOutcome, arenaAnswer, arenaRows, arenaWords}
 use Rattle.slots.specs.declared.SlotsAnswer.{SlotsAnswer}

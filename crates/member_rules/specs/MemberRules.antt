@@ -1,88 +1,20 @@
--- 01, 'The result row': a struct, member by member. Acceptance and flags on one side (`boundsAfter`), which read no verdict, and the
--- verdicts on the other. `rows` are the rows of the types before type i.
+-- 01, 'The result row': a struct, member by member: the verdicts. `rows` are the rows of the types before type i. Acceptance and flags are
+-- in member_bounds.
 -- Assumes nothing.
-use mathlib.Core.Bool.{Bool, true, false, _&&_, _||_}
+use mathlib.Core.Bool.{Bool, true, false, _&&_}
 use mathlib.Core.List.{List}
-use Prim.Native.Nat.{ℕ, zero, suc, _+_}
-use lib.Bits.{bitAnd}
-use lib.Dec.{eqb, leb}
-use Rattle.records.specs.Result.{Result, err, ok, pick, require, andThen}
-use Rattle.records.specs.Record.{memberType, memberOffset, structKind}
+use Prim.Native.Nat.{ℕ, zero, suc}
+use lib.Dec.{eqb}
+use Rattle.records.specs.Result.{pick}
+use Rattle.records.specs.Record.{memberType, memberOffset}
 use Rattle.records.specs.declared.TypeInner.{TypeInner}
-use Rattle.records.specs.declared.TypeInner.the-variants as inner
-use Rattle.records.specs.declared.TypeInner.the-variants.{Array, RuntimeArray, Struct}
-use Rattle.alignment.specs.Alignment.{most}
-use Rattle.flags.specs.Flags.{bit, dataBit, sizedBit, hostShareableBit, creationResolvedBit, startingFlags, notHostShareable}
+use Rattle.flags.specs.Flags.{bit, dataBit, sizedBit, hostShareableBit, creationResolvedBit}
 use Rattle.type_info.specs.declared.Verdict.{Verdict}
 use Rattle.type_info.specs.declared.Previous.{Previous}
-use Rattle.type_info.specs.declared.Previous.the-variants.{NoStruct, StructBefore}
 use Rattle.type_info.specs.declared.Row.{Row}
 use Rattle.type_info.specs.declared.Distance.{Distance}
 use Rattle.type_info.specs.declared.Distance.the-variants.{Enough, Short, Overflow}
-use Rattle.type_info.specs.Verdict.{okVerdict, shareVerdict, memberVerdict, distanceVerdict, distanceOk, afterDistance, unsizedVerdict, minStorage}
-use Rattle.member_rules.specs.declared.Bounds.{Bounds}
-use Rattle.member_rules.specs.declared.Bounded.{Bounded}
-use Rattle.member_rules.specs.declared.Bounded.the-variants as bounded
-use Rattle.member_rules.specs.declared.Bounded.the-variants.{Within}
-
--- the struct that a member of this type is, for the distance of the next one
-abbrev pub structAt : TypeInner → (offset : ℕ) → Previous
-structAt (inner.Plain leaf) offset = NoStruct
-structAt (Array base count stride) offset = NoStruct
-structAt (RuntimeArray base stride) offset = NoStruct
-structAt (Struct count span) offset = StructBefore span offset
-structAt (inner.Other o) offset = NoStruct
-
--- the member right before member j, where it is a struct
-unfoldable pub previousOf : (inner : ℕ → TypeInner) (members : List ℕ) → ℕ → Previous
-previousOf inner members zero = NoStruct
-previousOf inner members (suc j) = structAt (inner (memberType members j)) (memberOffset members j)
-
-abbrev pub isArray : TypeInner → Bool
-isArray (inner.Plain leaf) = false
-isArray (Array base count stride) = true
-isArray (RuntimeArray base stride) = true
-isArray (Struct count span) = false
-isArray (inner.Other o) = false
-
--- ---- acceptance and flags
--- offset 0 under the running end is no overlap, but costs HOST_SHAREABLE
-abbrev pub memberFlags : (end offset flags : ℕ) → ℕ
-memberFlags end offset flags = pick (leb end offset) flags (notHostShareable flags)
-
--- number 17: data of a size known at shader creation
-abbrev pub isMemberData : (flags : ℕ) → Bool
-isMemberData flags = bit flags dataBit && bit flags creationResolvedBit
-
--- number 18: at or past the running end, or at 0
-abbrev pub isApart : (end offset : ℕ) → Bool
-isApart end offset = leb end offset || eqb offset 0
-
--- number 20: sized, or an array that is the last member
-abbrev pub isMemberSized : (flags : ℕ) (array : Bool) (j count : ℕ) → Bool
-isMemberSized flags array j count = bit flags sizedBit || array && eqb (suc j) count
-
--- member j of `count`, of the type whose row is r; numbers 17 to 21 in the Rust's order. within: the distance from a struct before it can
--- be told. array: its type is an array
-abbrev pub boundsBy : (count span : ℕ) (within array : Bool) (offset j : ℕ) → Row → Bounds → Result Bounds
-boundsBy count span within array offset j r so-far =
-    require (isMemberData (r .flags)) 17 j 0
-    (require (isApart (so-far .end) offset) 18 j 0
-    (require (leb (offset + r .size) most) 21 j 0
-    (require (leb (offset + r .size) span) 19 j 0
-    (require within 21 j 0
-    (require (isMemberSized (r .flags) array j count) 20 j 0
-    (ok (record { end = offset + r .size; flags = memberFlags (so-far .end) offset (bitAnd (so-far .flags) (r .flags)) })))))))
-
-unfoldable pub memberBounds : (count span : ℕ) → Previous → TypeInner → (offset j : ℕ) → Row → Bounds → Result Bounds
-memberBounds count span previous inner offset j r so-far = boundsBy count span (distanceOk previous offset) (isArray inner) offset j r so-far
-
--- the running end and the flags after j members
-unfoldable pub boundsAfter : (inner : ℕ → TypeInner) (rows : ℕ → Row) (count span : ℕ) (members : List ℕ) → ℕ → Result Bounds
-boundsAfter inner rows count span members zero = ok (record { end = 0; flags = startingFlags structKind })
-boundsAfter inner rows count span members (suc j) =
-    andThen (boundsAfter inner rows count span members j)
-    (memberBounds count span (previousOf inner members j) (inner (memberType members j)) (memberOffset members j) j (rows (memberType members j)))
+use Rattle.type_info.specs.Verdict.{okVerdict, shareVerdict, memberVerdict, previousOf, distanceVerdict, afterDistance, unsizedVerdict, minStorage}
 
 -- ---- verdicts: what member j, of type t with row r, makes of those so far
 abbrev pub memberUniform : (least i j t offset : ℕ) → Previous → Row → Verdict → Verdict
@@ -120,10 +52,6 @@ abbrev pub uniformBy : Distance → (i j t offset : ℕ) → Row → Verdict →
 uniformBy d i j t offset r so-far =
     unsizedVerdict (bit (r .flags) sizedBit) i j
     (afterDistance d i j offset (memberVerdict i j offset (shareVerdict (bit (r .flags) hostShareableBit) t so-far) (r .uniform)))
-
-abbrev pub boundedResult : (j : ℕ) → Bounded → Result Bounds
-boundedResult j (Within b) = ok b
-boundedResult j (bounded.Refused number) = err number j 0
 
 -- the flags of a plain member
 abbrev pub isPlain : (flags : ℕ) → Bool

@@ -16,11 +16,13 @@ use Rattle.type_info.specs.declared.Row.{Row}
 use Rattle.type_info.specs.declared.Verdict.{Verdict}
 use Rattle.type_info.specs.declared.Previous.{Previous}
 use Rattle.type_info.specs.Verdict.{minUniform, distanceOk, distanceVerdict, shareVerdict, memberVerdict, unsizedVerdict}
-use Rattle.member_rules.specs.declared.Bounds.{Bounds}
+use Rattle.member_bounds.specs.declared.Bounds.{Bounds}
 use Rattle.members.specs.declared.State.{State}
 use Rattle.records.proofs.ResultLaws.{true-T, T-true, and-left, and-right}
 use Rattle.flags.specs.Flags.{bit, dataBit, sizedBit, hostShareableBit, creationResolvedBit}
-use Rattle.member_rules.specs.MemberRules.{isArray, structAt, memberBounds, boundsAfter, uniformAfter, storageAfter, immediatesAfter, previousOf, memberImmediates, isInOrder}
+use Rattle.type_info.specs.Verdict.{structAt, previousOf}
+use Rattle.member_bounds.specs.MemberBounds.{isArray, memberBounds, boundsAfter}
+use Rattle.member_rules.specs.MemberRules.{uniformAfter, storageAfter, immediatesAfter, memberImmediates, isInOrder}
 use Rattle.members.specs.Members.{stateAfter, memberStep}
 
 module _ (inner : ℕ → TypeInner) (rows : ℕ → Row) (i count span : ℕ) (part : List ℕ) where

@@ -10,7 +10,9 @@ use Rattle.records.specs.declared.TypeInner.{TypeInner}
 use Rattle.type_info.specs.declared.Previous.{Previous}
 use Rattle.type_info.specs.declared.Row.{Row}
 use Rattle.type_info.specs.Verdict.{distanceOk, minUniform}
-use Rattle.member_rules.specs.MemberRules.{previousOf, boundsBy, boundsAfter, memberUniform, memberStorage, memberImmediates, uniformAfter, storageAfter, immediatesAfter}
+use Rattle.type_info.specs.Verdict.{previousOf}
+use Rattle.member_bounds.specs.MemberBounds.{boundsBy, boundsAfter}
+use Rattle.member_rules.specs.MemberRules.{memberUniform, memberStorage, memberImmediates, uniformAfter, storageAfter, immediatesAfter}
 use Rattle.members.specs.declared.State.{State}
 use Rattle.members.specs.declared.Stepped.{Stepped}
 use Rattle.members.specs.declared.Stepped.the-variants as stepped

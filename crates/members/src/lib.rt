@@ -1,6 +1,6 @@
 // The members of a struct, one after the other: the member loop of validate_type in naga's valid/type.rs.
-use member_rules::Bounded;
-use member_rules::Bounds;
+use member_bounds::Bounded;
+use member_bounds::Bounds;
 use type_info::Previous;
 use type_info::Row;
 use type_info::Verdict;
@@ -11,7 +11,8 @@ ghost use Rattle.records.specs.Record.{memberType, typeInner};
 ghost use Rattle.records.specs.Result.{ok};
 ghost use Rattle.type_info.specs.TypeInfo.{rowsIn, verdictIn};
 ghost use Rattle.type_info.specs.Verdict.{okVerdict, shareVerdict, memberVerdict};
-ghost use Rattle.member_rules.specs.MemberRules.{structAt, isArray, previousOf};
+ghost use Rattle.type_info.specs.Verdict.{structAt, previousOf};
+ghost use Rattle.member_bounds.specs.MemberBounds.{isArray};
 ghost use Rattle.members.specs.Members.{memberStep, stateAfter, steppedResult, membersResult, orderedStep};
 
 // What is known after some members.
@@ -66,10 +67,10 @@ fn member(
     let storage_so_far = state.storage;
     let immediates_so_far = state.immediates;
     let d = type_info::distance_to(previous, offset);
-    match member_rules::member_bounds(
+    match member_bounds::member_bounds(
         count,
         span,
-        member_rules::is_within(d),
+        member_bounds::is_within(d),
         array,
         offset,
         j,
@@ -265,7 +266,7 @@ pub fn members_of(
     while j < count {
         let ty = records::member_type(part, j);
         let offset = records::member_offset(part, j);
-        let array = member_rules::is_array(types, ty);
+        let array = member_bounds::is_array(types, ty);
         let next = member_rules::struct_at(types, ty, offset);
         let row = type_info::row_at(rows, ty);
         match member(i, count, span, j, ty, offset, array, next, row, state) {

@@ -19,7 +19,8 @@ use Rattle.type_info.specs.declared.Row.{Row}
 use Rattle.type_info.specs.declared.Previous.{Previous}
 use Rattle.type_info.specs.declared.Previous.the-variants.{NoStruct, StructBefore}
 use Rattle.type_info.specs.Verdict.{minUniform, okVerdict, isOk, alignmentIn, distanceOk, distanceVerdict, shareVerdict, memberVerdict, unsizedVerdict}
-use Rattle.member_rules.specs.MemberRules.{isPlain, memberBounds, memberUniform, memberStorage}
+use Rattle.member_bounds.specs.MemberBounds.{memberBounds}
+use Rattle.member_rules.specs.MemberRules.{isPlain, memberUniform, memberStorage}
 use Rattle.plain_members.specs.declared.PlainState.{PlainState}
 use Rattle.plain_members.specs.PlainMembers.{leastOf, keepsVerdicts, plainBounds}
 

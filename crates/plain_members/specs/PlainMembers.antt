@@ -13,8 +13,10 @@ use Rattle.type_info.specs.declared.Previous.{Previous}
 use Rattle.type_info.specs.declared.Previous.the-variants.{NoStruct, StructBefore}
 use Rattle.type_info.specs.declared.Row.{Row}
 use Rattle.type_info.specs.Verdict.{minUniform, okVerdict, isOk, alignmentIn}
-use Rattle.member_rules.specs.declared.Bounds.{Bounds}
-use Rattle.member_rules.specs.MemberRules.{structAt, memberBounds, boundsAfter, memberUniform, memberStorage, uniformAfter, storageAfter, immediatesAfter}
+use Rattle.member_bounds.specs.declared.Bounds.{Bounds}
+use Rattle.type_info.specs.Verdict.{structAt}
+use Rattle.member_bounds.specs.MemberBounds.{memberBounds, boundsAfter}
+use Rattle.member_rules.specs.MemberRules.{memberUniform, memberStorage, uniformAfter, storageAfter, immediatesAfter}
 use Rattle.plain_members.specs.declared.PlainState.{PlainState}
 use Rattle.plain_members.specs.declared.Plain.{Plain}
 use Rattle.plain_members.specs.declared.Plain.the-variants.{Took, Other}

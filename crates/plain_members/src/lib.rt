@@ -8,7 +8,7 @@ ghost use Rattle.flags.specs.Flags.{startingFlags};
 ghost use Rattle.type_info.specs.declared.Previous as previous;
 ghost use Rattle.type_info.specs.TypeInfo.{rowsIn};
 ghost use Rattle.type_info.specs.Verdict.{minUniform, minStorage};
-ghost use Rattle.member_rules.specs.MemberRules.{structAt};
+ghost use Rattle.type_info.specs.Verdict.{structAt};
 ghost use Rattle.plain_members.specs.PlainMembers.{leastOf, keepsVerdicts, Stepped, PlainAfter};
 
 // What is known after them: the running end, the flags, the alignment in each verdict, both of them Ok,

@@ -158,21 +158,26 @@ fn inner_of(kind: u32, a: u32, b: u32, c: u32, d: u32, e: u32) -> TypeInner
     }
 }
 
-// The six words of record i, with one test of the table's length where the record is whole.
-pub fn record_words(types: &[u32], i: u32) -> Words
+// The six words of record i, which the table has.
+pub fn own_record(types: &[u32], i: u32) -> Words
+    requires { ⌜ i * 6 + 6 ≤ length (now types) ⌝ }
     ensures { λ r. ⌜ r ≡ recordWords (now (types .entry)) i ⌝ }
 {
     let at = (i as usize) * TYPE_WORDS;
-    if at + TYPE_WORDS <= types.len() {
-        return Words {
-            kind: types[at],
-            a: types[at + 1],
-            b: types[at + 2],
-            c: types[at + 3],
-            d: types[at + 4],
-            e: types[at + 5],
-        };
+    Words {
+        kind: types[at],
+        a: types[at + 1],
+        b: types[at + 2],
+        c: types[at + 3],
+        d: types[at + 4],
+        e: types[at + 5],
     }
+}
+
+// The same of a record that the table may end within or before; 0 past it.
+fn cut_record(types: &[u32], i: u32) -> Words
+    ensures { λ r. ⌜ r ≡ recordWords (now (types .entry)) i ⌝ }
+{
     let kind = type_word(types, i, 0);
     let a = type_word(types, i, 1);
     let b = type_word(types, i, 2);
@@ -189,19 +194,14 @@ pub fn record_words(types: &[u32], i: u32) -> Words
     }
 }
 
-// The same of a record that the table has.
-pub fn own_record(types: &[u32], i: u32) -> Words
-    requires { ⌜ i * 6 + 6 ≤ length (now types) ⌝ }
+// The same of any record, with one test of the table's length where the record is whole.
+pub fn record_words(types: &[u32], i: u32) -> Words
     ensures { λ r. ⌜ r ≡ recordWords (now (types .entry)) i ⌝ }
 {
-    let at = (i as usize) * TYPE_WORDS;
-    Words {
-        kind: types[at],
-        a: types[at + 1],
-        b: types[at + 2],
-        c: types[at + 3],
-        d: types[at + 4],
-        e: types[at + 5],
+    if (i as usize) * TYPE_WORDS + TYPE_WORDS <= types.len() {
+        own_record(types, i)
+    } else {
+        cut_record(types, i)
     }
 }
 

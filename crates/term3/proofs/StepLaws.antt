@@ -18,7 +18,8 @@ use Rattle.flags.proofs.BitLaws.{bit-and}
 use Rattle.type_info.specs.declared.Verdict.{Verdict}
 use Rattle.type_info.specs.Verdict.{minStorage, isOk, alignmentIn}
 use Rattle.type_info.proofs.VerdictLaws.{ArrayOk, array-ok, span-ok}
-use Rattle.member_rules.specs.MemberRules.{isArray, storageAfter}
+use Rattle.member_bounds.specs.MemberBounds.{isArray}
+use Rattle.member_rules.specs.MemberRules.{storageAfter}
 use Rattle.member_rules.proofs.MemberLaws.{storage-members}
 use Rattle.valid.specs.Arena.{row}
 use Rattle.valid.proofs.AcceptedLaws.{AcceptedTypes, ArrayRow, base-sized, array-row, runtime-array-row, member-earlier, struct-row, struct-member, row-power}

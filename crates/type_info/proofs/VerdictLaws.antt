@@ -2,15 +2,19 @@
 -- Assumes nothing.
 use mathlib.Core.Path.{_≡_, refl, sym, _∙_, ap, subst}
 use mathlib.Core.Bool.{Bool, true, false}
-use Prim.Native.Nat.{ℕ, _-_, _∣_, max}
+use mathlib.Core.List.{List}
+use Prim.Native.Nat.{ℕ, zero, suc, _-_, _<_, _∣_, max}
+use native.Mathlib.Nat.{le-refl}
 use lib.Dec.{T, leb}
 use Rattle.records.specs.Result.{pick}
+use Rattle.records.specs.Record.{memberType, memberOffset}
+use Rattle.records.specs.declared.TypeInner.{TypeInner}
 use Rattle.alignment.specs.Alignment.{Power, isAligned, roundUp}
 use Rattle.alignment.proofs.PowerLaws.{aligned-divides, power-max}
 use Rattle.type_info.specs.declared.Verdict.{Verdict}
 use Rattle.type_info.specs.declared.Previous.{Previous}
 use Rattle.type_info.specs.declared.Previous.the-variants.{NoStruct, StructBefore}
-use Rattle.type_info.specs.Verdict.{okVerdict, nonHostShareable, unsizedMember, isOk, alignmentIn, unlessOk, strideVerdict, arrayVerdict, shareVerdict, offsetVerdict, memberVerdict, distanceVerdict, unsizedVerdict, spanVerdict}
+use Rattle.type_info.specs.Verdict.{okVerdict, nonHostShareable, unsizedMember, isOk, alignmentIn, unlessOk, strideVerdict, arrayVerdict, shareVerdict, offsetVerdict, memberVerdict, structAt, previousOf, distanceVerdict, unsizedVerdict, spanVerdict}
 
 -- the alignment is a power of two, where the verdict is Ok
 abbrev pub OkPower : Verdict → Type 0
@@ -115,3 +119,11 @@ member-power i j offset so-far member ps pm t =
 -- a rule that leaves an Ok verdict as it was keeps the power of two
 pub same-power : (v w : Verdict) → (T (isOk w) → w ≡ v) → OkPower v → OkPower w
 same-power v w same p t = let e = same t in subst (λ (x : Verdict). OkPower x) (sym e) p t
+
+-- ---- the struct right before a member
+-- two readings of the records that agree on the members before it give the same
+pub previous-inner : (inner inner′ : ℕ → TypeInner) (members : List ℕ) (j : ℕ)
+    → ((m : ℕ) → m < j → inner (memberType members m) ≡ inner′ (memberType members m)) → previousOf inner members j ≡ previousOf inner′ members j
+unfolding previousOf
+previous-inner inner inner′ members zero same = refl
+previous-inner inner inner′ members (suc j) same = ap (λ (x : TypeInner). structAt x (memberOffset members j)) (same j (le-refl (suc j)))

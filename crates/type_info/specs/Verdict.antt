@@ -2,9 +2,13 @@
 -- i is the type that is judged; `least` is the minimum alignment of the address space: 16 for uniform, 1 for storage.
 -- Assumes nothing.
 use mathlib.Core.Bool.{Bool, true, false, _&&_, _||_}
-use Prim.Native.Nat.{ℕ, _+_, _-_, max}
+use mathlib.Core.List.{List}
+use Prim.Native.Nat.{ℕ, zero, suc, _+_, _-_, max}
 use lib.Dec.{eqb, leb}
 use Rattle.records.specs.Result.{pick}
+use Rattle.records.specs.Record.{memberType, memberOffset}
+use Rattle.records.specs.declared.TypeInner.{TypeInner}
+use Rattle.records.specs.declared.TypeInner.the-variants.{Plain, Array, RuntimeArray, Struct, Other}
 use Rattle.alignment.specs.Alignment.{isAligned, roundUp, most}
 use Rattle.type_info.specs.declared.Verdict.{Verdict}
 use Rattle.type_info.specs.declared.Distance.{Distance}
@@ -71,6 +75,19 @@ offsetVerdict i j offset so-far alignment =
 unfoldable pub memberVerdict : (i j offset : ℕ) → (so-far member : Verdict) → Verdict
 memberVerdict i j offset so-far member =
     unlessOk so-far (unlessOk member (offsetVerdict i j offset (alignmentIn so-far) (alignmentIn member)))
+
+-- the struct that a member of this type is, for the distance of the next one
+abbrev pub structAt : TypeInner → (offset : ℕ) → Previous
+structAt (Plain leaf) offset = NoStruct
+structAt (Array base count stride) offset = NoStruct
+structAt (RuntimeArray base stride) offset = NoStruct
+structAt (Struct count span) offset = StructBefore span offset
+structAt (Other o) offset = NoStruct
+
+-- the member right before member j, where it is a struct
+unfoldable pub previousOf : (inner : ℕ → TypeInner) (members : List ℕ) → ℕ → Previous
+previousOf inner members zero = NoStruct
+previousOf inner members (suc j) = structAt (inner (memberType members j)) (memberOffset members j)
 
 -- the distance rule: from the start of a struct to the start of the member right after it at least its span rounded up; it overwrites
 unfoldable pub distanceVerdict : (least i j offset : ℕ) → Previous → Verdict → Verdict

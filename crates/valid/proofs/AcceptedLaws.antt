@@ -38,10 +38,13 @@ use Rattle.type_info.specs.declared.Row.{Row}
 use Rattle.type_info.specs.TypeInfo.{emptyRow}
 use Rattle.type_info.specs.Verdict.{minUniform, minStorage, okVerdict, arrayVerdict, spanVerdict}
 use Rattle.type_info.proofs.VerdictLaws.{OkPower, ok-power, array-power, span-ok, same-power}
-use Rattle.member_rules.specs.declared.Bounds.{Bounds}
-use Rattle.member_rules.specs.MemberRules.{isArray, boundsAfter, uniformAfter, storageAfter, immediatesAfter}
-use Rattle.member_rules.proofs.MemberLaws.{MemberIn, members-in, storage-power-after, uniform-power-after}
-use Rattle.member_rules.proofs.MemberSame.{bounds-rows, uniform-rows, storage-rows, immediates-rows}
+use Rattle.member_bounds.specs.declared.Bounds.{Bounds}
+use Rattle.member_bounds.specs.MemberBounds.{isArray, boundsAfter}
+use Rattle.member_rules.specs.MemberRules.{uniformAfter, storageAfter, immediatesAfter}
+use Rattle.member_bounds.proofs.BoundsLaws.{MemberIn, members-in}
+use Rattle.member_rules.proofs.MemberLaws.{storage-power-after, uniform-power-after}
+use Rattle.member_bounds.proofs.BoundsSame.{bounds-rows}
+use Rattle.member_rules.proofs.MemberSame.{uniform-rows, storage-rows, immediates-rows}
 use Rattle.validate_type.specs.ValidateType.{flagsOf, leafVerdictAlignment, leafImmediates, uniformOf, storageOf, immediatesOf, rowOf, judge}
 use Rattle.valid.specs.Arena.{judgeStep, judgedAt, row}
 use Rattle.validate_type.proofs.CapabilityLaws.{HasAll, judge-more}

@@ -23,7 +23,7 @@ use Rattle.alignment.specs.Alignment.{Power}
 use Rattle.layouter.specs.Layouter.{layoutAt, layoutOutcome}
 use Rattle.flags.specs.Flags.{bit, dataBit, sizedBit}
 use Rattle.type_info.specs.Verdict.{isOk, alignmentIn}
-use Rattle.member_rules.specs.MemberRules.{isArray}
+use Rattle.member_bounds.specs.MemberBounds.{isArray}
 use Rattle.valid.specs.Arena.{judgedAt, row, judgeOutcome, arenaOutcome, arena}
 use Rattle.validate_type.proofs.CapabilityLaws.{HasAll}
 use Rattle.validate_type.proofs.JudgeLaws.{isDataInner}

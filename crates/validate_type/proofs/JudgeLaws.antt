@@ -21,10 +21,11 @@ use Rattle.width.specs.Width.{float, cooperativeMatrix, cubeArrayTextures, text
 use Rattle.type_flags.specs.TypeFlags.{leafFlags, isStruct, isExternalImage, isArrayBase}
 use Rattle.type_info.specs.declared.Row.{Row}
 use Rattle.type_info.specs.Verdict.{minUniform, spanVerdict}
-use Rattle.member_rules.specs.declared.Bounds.{Bounds}
-use Rattle.member_rules.specs.MemberRules.{boundsAfter}
-use Rattle.member_rules.proofs.MemberLaws.{members-in, members-data}
-use Rattle.member_rules.proofs.MemberSame.{bounds-inner, uniform-inner}
+use Rattle.member_bounds.specs.declared.Bounds.{Bounds}
+use Rattle.member_bounds.specs.MemberBounds.{boundsAfter}
+use Rattle.member_bounds.proofs.BoundsLaws.{members-in, members-data}
+use Rattle.member_bounds.proofs.BoundsSame.{bounds-inner}
+use Rattle.member_rules.proofs.MemberSame.{uniform-inner}
 use Rattle.validate_type.specs.ValidateType.{nonDataFlags, flagsOf, uniformOf, rowOf, judge}
 
 -- ---- parts: the flags, and the row made with them

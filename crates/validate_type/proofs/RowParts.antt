@@ -18,9 +18,11 @@ use Rattle.flags.specs.Flags.{arrayFlags, runtimeArrayFlags}
 use Rattle.type_flags.specs.TypeFlags.{leafFlags, isArrayBase}
 use Rattle.type_info.specs.declared.Row.{Row}
 use Rattle.type_info.specs.Verdict.{okVerdict}
-use Rattle.member_rules.specs.declared.Bounds.{Bounds}
+use Rattle.member_bounds.specs.declared.Bounds.{Bounds}
 use Rattle.members.specs.declared.State.{State}
-use Rattle.member_rules.specs.MemberRules.{boundsAfter, uniformAfter, storageAfter, immediatesAfter, previousOf}
+use Rattle.type_info.specs.Verdict.{previousOf}
+use Rattle.member_bounds.specs.MemberBounds.{boundsAfter}
+use Rattle.member_rules.specs.MemberRules.{uniformAfter, storageAfter, immediatesAfter}
 use Rattle.members.specs.Members.{stateAfter}
 use Rattle.plain_members.specs.declared.PlainState.{PlainState}
 use Rattle.plain_members.specs.PlainMembers.{plainBounds, PlainAfter}

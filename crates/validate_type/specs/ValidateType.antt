@@ -23,13 +23,14 @@ use Rattle.type_info.specs.declared.Row.{Row}
 use Rattle.type_info.specs.Verdict.{minUniform, minStorage, okVerdict, arrayVerdict, spanVerdict}
 use Rattle.rows.specs.Rows.{withRow}
 use Rattle.type_info.specs.TypeInfo.{wordsOf}
-use Rattle.member_rules.specs.declared.Bounds.{Bounds}
+use Rattle.member_bounds.specs.declared.Bounds.{Bounds}
 use Rattle.validate_type.specs.declared.PlainRow.{PlainRow}
 use Rattle.validate_type.specs.declared.PlainRow.the-variants as plain
 use Rattle.validate_type.specs.declared.Judged.{Judged}
 use Rattle.validate_type.specs.declared.Judged.the-variants as judged
 use Rattle.validate_type.specs.declared.Judged.the-variants.{Made}
-use Rattle.member_rules.specs.MemberRules.{boundsAfter, uniformAfter, storageAfter, immediatesAfter}
+use Rattle.member_bounds.specs.MemberBounds.{boundsAfter}
+use Rattle.member_rules.specs.MemberRules.{uniformAfter, storageAfter, immediatesAfter}
 
 -- ---- flags of what is no data
 unfoldable pub nonDataFlags : (c : ℕ) (inner : ℕ → TypeInner) (rows : ℕ → Row) → NonData → Result ℕ

@@ -19,8 +19,9 @@ use Rattle.flags.specs.Flags.{bit, dataBit, sizedBit, hostShareableBit, creatio
 use Rattle.flags.proofs.BitLaws.{bit-and, bit-and-both}
 use Rattle.type_info.specs.declared.Row.{Row}
 use Rattle.type_info.specs.Verdict.{distanceOk}
-use Rattle.member_rules.specs.declared.Bounds.{Bounds}
-use Rattle.member_rules.specs.MemberRules.{previousOf, isArray, memberFlags, memberBounds, boundsAfter}
+use Rattle.member_bounds.specs.declared.Bounds.{Bounds}
+use Rattle.type_info.specs.Verdict.{previousOf}
+use Rattle.member_bounds.specs.MemberBounds.{isArray, memberFlags, memberBounds, boundsAfter}
 
 -- ---- one member
 -- a flag that is still set after a member was set before it, and in the member's type

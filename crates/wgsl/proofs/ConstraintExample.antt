@@ -22,7 +22,9 @@ use Rattle.flags.specs.Flags.{bit, hostShareableBit}
 use Rattle.width.specs.Width.{integerWidth, floatWidth, checkWidth}
 use Rattle.type_flags.specs.TypeFlags.{leafFlags}
 use Rattle.type_info.specs.Verdict.{okVerdict, arrayStride, memberOffsetAfterStruct, unsizedMember, isOk, alignmentIn, arrayVerdict, shareVerdict, memberVerdict, distanceVerdict, distanceOk, unsizedVerdict, spanVerdict}
-use Rattle.member_rules.specs.MemberRules.{previousOf, memberBounds, boundsAfter, uniformAfter, storageAfter, immediatesAfter}
+use Rattle.type_info.specs.Verdict.{previousOf}
+use Rattle.member_bounds.specs.MemberBounds.{memberBounds, boundsAfter}
+use Rattle.member_rules.specs.MemberRules.{uniformAfter, storageAfter, immediatesAfter}
 use Rattle.validate_type.specs.ValidateType.{flagsOf, uniformOf, storageOf, immediatesOf, rowOf, judge}
 use Rattle.valid.specs.Arena.{row, judgeOutcome, arenaOutcome, arena}
 use Rattle.wgsl.specs.Wgsl.{f32, float, bool, three, four, WgslType, scalar, vector, array, runtimeArray, struct, Members, last, member, lastMember, roundUp, maxOver, offsetBy, alignOf, sizeOf, offsetOfMember, HostShareable, IsType, IsMember}

@@ -13,7 +13,8 @@ use Rattle.records.specs.declared.TypeInner.{TypeInner}
 use Rattle.flags.specs.Flags.{bit, sizedBit, hostShareableBit}
 use Rattle.type_info.specs.declared.Row.{Row}
 use Rattle.type_info.specs.Verdict.{minUniform, shareVerdict, memberVerdict}
-use Rattle.member_rules.specs.MemberRules.{structAt, previousOf, uniformAfter, storageAfter}
+use Rattle.type_info.specs.Verdict.{structAt, previousOf}
+use Rattle.member_rules.specs.MemberRules.{uniformAfter, storageAfter}
 use Rattle.wgsl.specs.Wgsl.{WgslType, scalar, vector, matrix, atomic, array, runtimeArray, struct, Members, lastMember, memberTotal, maxOver, alignOf, alignOfMember, sizeOf, offsetOfMember, IsType}
 use Rattle.wgsl.specs.Constraints.{Space, storage, uniform, requiredAlignOf, typeOfMember, StructDistance, FixedSize, Constraints}
 use Rattle.wgsl.proofs.RoundLaws.{round-up-same}

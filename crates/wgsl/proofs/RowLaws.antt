@@ -20,8 +20,9 @@ use Rattle.type_info.specs.declared.Verdict.{Verdict}
 use Rattle.type_info.specs.declared.Row.{Row}
 use Rattle.type_info.specs.TypeInfo.{emptyRow}
 use Rattle.type_info.specs.Verdict.{minUniform, okVerdict, arrayVerdict, spanVerdict}
-use Rattle.member_rules.specs.declared.Bounds.{Bounds}
-use Rattle.member_rules.specs.MemberRules.{boundsAfter, uniformAfter, storageAfter}
+use Rattle.member_bounds.specs.declared.Bounds.{Bounds}
+use Rattle.member_bounds.specs.MemberBounds.{boundsAfter}
+use Rattle.member_rules.specs.MemberRules.{uniformAfter, storageAfter}
 use Rattle.validate_type.specs.ValidateType.{flagsOf, leafVerdictAlignment, uniformOf, storageOf, rowOf, judge}
 use Rattle.valid.specs.Arena.{judgeStep, judgedAt, row}
 use Rattle.wgsl.specs.Constraints.{Space, storage, uniform}

@@ -28,7 +28,8 @@ use Rattle.type_flags.specs.TypeFlags.{leafFlags, isArrayBase}
 use Rattle.type_info.specs.declared.Verdict.{Verdict}
 use Rattle.type_info.specs.declared.Row.{Row}
 use Rattle.type_info.specs.Verdict.{minUniform, arrayVerdict}
-use Rattle.member_rules.specs.MemberRules.{isArray, previousOf}
+use Rattle.type_info.specs.Verdict.{previousOf}
+use Rattle.member_bounds.specs.MemberBounds.{isArray}
 use Rattle.validate_type.specs.ValidateType.{leafVerdictAlignment}
 use Rattle.valid.specs.Arena.{judgedAt, row}
 use Rattle.wgsl.specs.Wgsl.{Scalar, bool, Integer, integer, Float, float, i32, u32, Dimension, WgslType, scalar, vector, matrix, atomic, array, runtimeArray, struct, Members, memberTotal, number, alignOf, sizeOf, strideOf, offsetOfMember, kindOf, widthOf, Numeric, HostShareable, AllHostShareable, IsType}

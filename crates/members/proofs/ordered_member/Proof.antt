@@ -7,7 +7,8 @@ use denote.Ref.{now}
 use borrow.Author.Tests.{not-false}
 use Rattle.records.specs.Record.{typeInner}
 use Rattle.type_info.specs.TypeInfo.{rowsIn}
-use Rattle.member_rules.specs.MemberRules.{isArray, structAt}
+use Rattle.type_info.specs.Verdict.{structAt}
+use Rattle.member_bounds.specs.MemberBounds.{isArray}
 use Rattle.member_rules.proofs.KindLaws.{enough}
 use Rattle.members.proofs.StateLaws.{ordered-step}
 use Rattle.members.proofs.ordered_member.Statement.{statement}

@@ -4,7 +4,7 @@ use Prim.Native.Nat.{suc, _-_}
 use native.Mathlib.Omega.{arith}
 use denote.Ref.{now}
 use Rattle.records.specs.Record.{typeInner}
-use Rattle.member_rules.specs.MemberRules.{previousOf}
+use Rattle.type_info.specs.Verdict.{previousOf}
 use Rattle.members.proofs.previous_of.Statement.{statement}
 use Rattle.members.proofs.previous_of.Tie as tie
 

@@ -9,7 +9,9 @@ use native.Mathlib.Omega.{arith}
 use denote.Ref.{now}
 use Rattle.records.specs.Record.{typeInner}
 use Rattle.type_info.specs.TypeInfo.{rowsIn}
-use Rattle.member_rules.specs.MemberRules.{boundsAfter, uniformAfter, storageAfter, immediatesAfter, previousOf}
+use Rattle.type_info.specs.Verdict.{previousOf}
+use Rattle.member_bounds.specs.MemberBounds.{boundsAfter}
+use Rattle.member_rules.specs.MemberRules.{uniformAfter, storageAfter, immediatesAfter}
 use Rattle.plain_members.specs.PlainMembers.{leastOf, PlainAfter}
 use Rattle.plain_members.proofs.plain_members.Statement.{statement}
 use Rattle.plain_members.proofs.plain_members.Tie as tie

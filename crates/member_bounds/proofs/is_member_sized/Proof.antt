@@ -1,8 +1,8 @@
 use borrow.Author.Needs.{needs}
 use mathlib.Core.Path.{refl}
 use native.Mathlib.Numerals.{add-one}
-use Rattle.member_rules.proofs.is_member_sized.Statement.{statement}
-use Rattle.member_rules.proofs.is_member_sized.Tie as tie
+use Rattle.member_bounds.proofs.is_member_sized.Statement.{statement}
+use Rattle.member_bounds.proofs.is_member_sized.Tie as tie
 
 returns : tie.Need-returns
 returns c = rw (c .is-sized .ensures, add-one (c .before .args .j)) refl

@@ -1,7 +1,7 @@
 use borrow.Author.Needs.{needs}
 use borrow.Author.Tests.{le-leb, lt-leb}
-use Rattle.member_rules.proofs.member_flags.Statement.{statement}
-use Rattle.member_rules.proofs.member_flags.Tie as tie
+use Rattle.member_bounds.proofs.member_flags.Statement.{statement}
+use Rattle.member_bounds.proofs.member_flags.Tie as tie
 
 returns : tie.Need-returns
 returns c = rw (le-leb _ _ (c .if1 .taken))

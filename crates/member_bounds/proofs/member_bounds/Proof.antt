@@ -1,9 +1,9 @@
--- `member_rules::member_bounds` meets its contract: each answer follows from the tests on the way, in the order of the definition. Assumes nothing.
+-- `member_bounds::member_bounds` meets its contract: each answer follows from the tests on the way, in the order of the definition. Assumes nothing.
 use borrow.Author.Needs.{needs}
 use mathlib.Core.Path.{refl, sym, _∙_}
 use borrow.Author.Tests.{le-leb, lt-leb, not-true, not-false}
-use Rattle.member_rules.proofs.member_bounds.Statement.{statement}
-use Rattle.member_rules.proofs.member_bounds.Tie as tie
+use Rattle.member_bounds.proofs.member_bounds.Statement.{statement}
+use Rattle.member_bounds.proofs.member_bounds.Tie as tie
 
 returns : tie.Need-returns
 returns c = rw (sym (c .before .is-member-data .ensures) ∙ not-true _ (c .if1 .taken))

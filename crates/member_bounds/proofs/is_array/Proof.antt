@@ -1,8 +1,8 @@
 use borrow.Author.Needs.{needs}
 use Rattle.records.specs.Record.{typeInner}
-use Rattle.member_rules.proofs.KindLaws.{array-by-kind}
-use Rattle.member_rules.proofs.is_array.Statement.{statement}
-use Rattle.member_rules.proofs.is_array.Tie as tie
+use Rattle.member_bounds.proofs.KindLaws.{array-by-kind}
+use Rattle.member_bounds.proofs.is_array.Statement.{statement}
+use Rattle.member_bounds.proofs.is_array.Tie as tie
 
 returns : tie.Need-returns
 unfolding typeInner

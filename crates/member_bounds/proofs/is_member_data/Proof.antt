@@ -1,6 +1,6 @@
 use borrow.Author.Needs.{needs}
-use Rattle.member_rules.proofs.is_member_data.Statement.{statement}
-use Rattle.member_rules.proofs.is_member_data.Tie as tie
+use Rattle.member_bounds.proofs.is_member_data.Statement.{statement}
+use Rattle.member_bounds.proofs.is_member_data.Tie as tie
 
 returns : tie.Need-returns
 returns c = rw (c .is-creation-resolved .ensures, c .before .is-data .ensures)

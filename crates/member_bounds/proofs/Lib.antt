@@ -1,0 +1,3 @@
+pub mod BoundsLaws
+pub mod BoundsSame
+pub mod KindLaws
