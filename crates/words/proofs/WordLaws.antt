@@ -9,7 +9,6 @@ use native.Mathlib.Omega.{arith}
 use lib.Dec.{eqb}
 use lib.ListN.{length, getD, take, drop, length-drop, drop-of-length-le}
 use lib.Seq.{drop-cons, drop-drop}
-use Rattle.records.specs.Result.{pick}
 use Rattle.words.specs.Words.{isBlank, isIn, runOf, onFirst, pieces, nonEmpty, words, part}
 use Rattle.words.specs.declared.Class.the-variants.{Blank, Word}
 

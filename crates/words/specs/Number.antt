@@ -1,11 +1,10 @@
 -- The number that a word is: decimal, at most 4294967295.
 -- Assumes nothing.
-use mathlib.Core.Bool.{Bool, true, _&&_}
+use mathlib.Core.Bool.{Bool, true, cond, _&&_}
 use mathlib.Core.List.{List, [], _∷_}
 use Prim.Native.Nat.{ℕ, _+_, _-_, _*_}
 use lib.Dec.{leb, ltb}
 use lib.ListN.{length}
-use Rattle.records.specs.Result.{pick}
 use Rattle.words.specs.declared.Number.{Number}
 use Rattle.words.specs.declared.Number.the-variants.{Value, NotANumber, TooLarge}
 
@@ -26,6 +25,6 @@ largest = 4294967295
 
 unfoldable pub numberOf : List ℕ → Number
 numberOf w =
-    pick (ltb 0 (length w) && allDigits w)
-    (pick (leb (decimal 0 w) largest) (Value (decimal 0 w)) TooLarge)
+    cond (ltb 0 (length w) && allDigits w)
+    (cond (leb (decimal 0 w) largest) (Value (decimal 0 w)) TooLarge)
     NotANumber

@@ -1,12 +1,11 @@
 -- The words of a line: what stands before its comment, split at blanks.
 -- Assumes nothing.
 use mathlib.Core.Path.{_≡_}
-use mathlib.Core.Bool.{Bool, true, false, not, _||_}
+use mathlib.Core.Bool.{Bool, true, false, cond, not, _||_}
 use mathlib.Core.List.{List, [], _∷_}
 use Prim.Native.Nat.{ℕ, zero, suc, _-_, _≤_, _<_}
 use lib.Dec.{eqb}
 use lib.ListN.{length, getD, take, drop}
-use Rattle.records.specs.Result.{pick}
 use Rattle.words.specs.declared.Class.{Class}
 use Rattle.words.specs.declared.Class.the-variants.{Blank, Word, Text, Line}
 use Rattle.words.specs.declared.Word as Next
@@ -25,14 +24,14 @@ isIn Line b = not (eqb b 10)
 -- how many bytes at the start pass the test
 unfoldable pub runOf : (ℕ → Bool) → List ℕ → ℕ
 runOf p [] = zero
-runOf p (b ∷ s) = pick (p b) (suc (runOf p s)) zero
+runOf p (b ∷ s) = cond (p b) (suc (runOf p s)) zero
 
 unfoldable pub beforeComment : List ℕ → List ℕ
 beforeComment s = take (runOf (isIn Text) s) s
 
 -- a carriage return at the end is dropped
 unfoldable pub withoutReturn : List ℕ → List ℕ
-withoutReturn s = pick (eqb (getD s (length s - 1) 0) 13) (take (length s - 1) s) s
+withoutReturn s = cond (eqb (getD s (length s - 1) 0) 13) (take (length s - 1) s) s
 
 abbrev pub textOf : List ℕ → List ℕ
 textOf s = beforeComment (withoutReturn s)
@@ -45,7 +44,7 @@ onFirst b (w ∷ ws) = (b ∷ w) ∷ ws
 -- what stands between blanks, empty pieces too
 unfoldable pub pieces : List ℕ → List (List ℕ)
 pieces [] = [] ∷ []
-pieces (b ∷ s) = pick (isBlank b) ([] ∷ pieces s) (onFirst b (pieces s))
+pieces (b ∷ s) = cond (isBlank b) ([] ∷ pieces s) (onFirst b (pieces s))
 
 abbrev pub nonEmpty : List (List ℕ) → List (List ℕ)
 nonEmpty [] = []
