@@ -11,7 +11,7 @@ use Rattle.records.specs.Result.{ok}
 use Rattle.records.specs.Record.{structKind, typeWords, typeCount, typeWord, memberWords, memberCount, typeInner, structMembers, decoded}
 use Rattle.records.specs.Fields.{recordAt}
 use Rattle.records.proofs.RecordLaws.{members-no-struct, members-part}
-use Rattle.validate_type.proofs.OwnMembers.{struct-within}
+use Rattle.validate_struct.proofs.OwnMembers.{struct-within}
 
 module _ (ts ms ts′ ms′ : List ℕ) where
   -- an appended table has no fewer types, and no fewer member rows

@@ -23,7 +23,7 @@ fn judge_all(capabilities: u32, types: &[u32], members: &[u32], rows: &mut [u32]
 {
     let mut i: u32 = 0;
     while i < n {
-        match validate_type::judge_at(capabilities, types, members, rows, i) {
+        match validate_struct::judge_at(capabilities, types, members, rows, i) {
             Judged::Made => {}
             Judged::Refused {
                 number,

@@ -1,4 +1,3 @@
 pub mod RowParts
-pub mod OwnMembers
 pub mod CapabilityLaws
 pub mod JudgeLaws

@@ -1,5 +1,4 @@
-// validate_type of naga's valid/type.rs: the row of one type.
-use members::Members;
+// validate_type of naga's valid/type.rs: the row of one type that is no struct.
 use records::Words;
 use type_flags::Flagged;
 use type_flags::acceleration_flags;
@@ -16,23 +15,17 @@ ghost use mathlib.Core.List.{List};
 ghost use Prim.Native.Nat.{ℕ, _+_, _*_, _≤_, _<_};
 ghost use lib.Dec.{eqb};
 ghost use lib.ListN.{length, take};
-ghost use Rattle.records.specs.Result.{ok, pick};
-ghost use Rattle.records.specs.Record.{arrayKind, structKind, decoded, innerIn, typeInner, structMembers, memberType};
-ghost use Rattle.records.specs.Fields.{recordAt, InnerBounds};
+ghost use Rattle.records.specs.Result.{pick};
+ghost use Rattle.records.specs.Record.{arrayKind, structKind, innerIn, typeInner};
+ghost use Rattle.records.specs.Fields.{InnerBounds};
 ghost use Rattle.alignment.specs.Alignment.{vectorAlignment};
 ghost use Rattle.flags.specs.Flags.{startingFlags, scalarFlags, arrayFlags, runtimeArrayFlags};
-ghost use Rattle.records.specs.declared.TypeInner.the-variants.{Struct};
 ghost use Rattle.type_alignment.specs.declared.TypeLayout as layout;
 ghost use Rattle.type_alignment.specs.TypeAlignment.{layoutsIn};
 ghost use Rattle.width.specs.Width.{checkWidth, immediatesWord};
 ghost use Rattle.type_info.specs.TypeInfo.{rowsIn};
 ghost use Rattle.type_flags.specs.TypeFlags.{withWidth, matrixFlags, bindingArrayOf, flaggedResult};
-ghost use Rattle.members.specs.Members.{stateAfter, membersResult};
-ghost use Rattle.validate_type.specs.ValidateType.{arrayOf, judge, plainBy, plainResult, plainJudged, Settled, MembersEarlier};
-
-const ARRAY_KIND: u32 = 7;
-
-const STRUCT_KIND: u32 = 8;
+ghost use Rattle.validate_type.specs.ValidateType.{arrayOf, judge, plainBy, plainResult, plainJudged, Settled};
 
 // A type that is neither array nor struct: its flags, the alignment in both verdicts and the immediates word; or its refusal.
 pub enum PlainRow {
@@ -156,7 +149,8 @@ fn judge_plain(capabilities: u32, types: &[u32], rows: &[u32], w: Words) -> Plai
     }
 }
 
-fn plain_at(capabilities: u32, types: &[u32], rows: &mut [u32], i: u32, w: Words) -> Judged
+// Of a type that is neither array nor struct: its row, written over its layout where there is one.
+pub fn plain_at(capabilities: u32, types: &[u32], rows: &mut [u32], i: u32, w: Words) -> Judged
     requires { ⌜ i * 14 + 14 ≤ length (now rows) ⌝ }
     requires { ⌜ InnerBounds (innerIn w) ⌝ }
     requires { ⌜ (w .kind ≡ arrayKind → ⊥) ⌝ }
@@ -204,7 +198,8 @@ fn flags_by_form(form: u32, base: u32) -> u32
     flags::runtime_array_flags(base)
 }
 
-fn array_at(rows: &mut [u32], i: u32, base: u32, form: u32, stride: u32) -> Judged
+// The same of an array over a base.
+pub fn array_at(rows: &mut [u32], i: u32, base: u32, form: u32, stride: u32) -> Judged
     requires { ⌜ i * 14 + 14 ≤ length (now rows) ⌝ }
     ensures { λ r. ⌜ Settled r (i * 14) (now (rows .entry)) (now (rows .exit)) (arrayOf form i stride (rowsIn (take (i * 14) (now (rows .entry))) base) (layoutsIn (now (rows .entry)) i)) ⌝ }
 {
@@ -239,91 +234,4 @@ fn array_at(rows: &mut [u32], i: u32, base: u32, form: u32, stride: u32) -> Judg
     };
     type_info::put(rows, at, row);
     Judged::Made
-}
-
-// All members of struct i.
-fn members_of(types: &[u32], rows: &[u32], i: u32, part: &[u32], count: u32, span: u32) -> Members
-    requires { ⌜ length (now rows) ≡ i * 14 ⌝ }
-    requires { ⌜ i * 6 ≤ length (now types) ⌝ }
-    requires { ⌜ length (now part) ≡ count * 2 ⌝ }
-    requires { ⌜ ((j : ℕ) → j < count → memberType (now part) j < i) ⌝ }
-    ensures { λ r. ⌜ membersResult r ≡ stateAfter (typeInner (now (types .entry))) (rowsIn (now (rows .entry))) i count span (now (part .entry)) count ⌝ }
-{
-    let reached = plain_members::plain_members(types, rows, i, part, count, span);
-    let taken = reached.taken;
-    let plain = reached.state;
-    let state = members::carried(
-        types,
-        part,
-        taken,
-        plain.end,
-        plain.flags,
-        plain.uniform,
-        plain.storage,
-    );
-    members::members_of(types, rows, i, part, count, span, taken, state)
-}
-
-fn struct_at(types: &[u32], part: &[u32], rows: &mut [u32], i: u32, count: u32, span: u32) -> Judged
-    requires { ⌜ i * 14 + 14 ≤ length (now rows) ⌝ }
-    requires { ⌜ i * 6 ≤ length (now types) ⌝ }
-    requires { ⌜ length (now part) ≡ count * 2 ⌝ }
-    requires { ⌜ ((j : ℕ) → j < count → memberType (now part) j < i) ⌝ }
-    ensures { λ r. ⌜ ((c : ℕ) → Settled r (i * 14) (now (rows .entry)) (now (rows .exit)) (judge c (typeInner (now (types .entry))) (rowsIn (take (i * 14) (now (rows .entry)))) i (layoutsIn (now (rows .entry)) i) (Struct count span) (now (part .entry)))) ⌝ }
-{
-    if count == 0 {
-        return Judged::Refused {
-            number: 16,
-            member: 0,
-            detail: 0,
-        };
-    }
-    let at = (i as usize) * records::ROW_WORDS;
-    match members_of(types, &rows[..at], i, part, count, span) {
-        Members::Taken(state) => {
-            let bounds = state.bounds;
-            let alignment = rows[at + 1];
-            let row = Row {
-                size: rows[at],
-                alignment,
-                flags: bounds.flags,
-                uniform: type_info::span_verdict(i, span, alignment, state.uniform),
-                storage: type_info::span_verdict(i, span, alignment, state.storage),
-                immediates: state.immediates,
-            };
-            type_info::put(rows, at, row);
-            Judged::Made
-        }
-        Members::Refused { number, member } => Judged::Refused {
-            number,
-            member,
-            detail: 0,
-        },
-    }
-}
-
-// The row of type i, written over its layout where there is one.
-pub fn judge_at(
-    capabilities: u32,
-    types: &[u32],
-    members: &[u32],
-    rows: &mut [u32],
-    i: u32,
-) -> Judged
-    requires { ⌜ i * 14 + 14 ≤ length (now rows) ⌝ }
-    requires { ⌜ i * 6 + 6 ≤ length (now types) ⌝ }
-    requires { ⌜ recordAt (now types) (now members) i ≡ ok tt ⌝ }
-    requires { ⌜ MembersEarlier (decoded (now types) (now members)) i ⌝ }
-    ensures { λ r. ⌜ Settled r (i * 14) (now (rows .entry)) (now (rows .exit)) (judge capabilities (typeInner (now (types .entry))) (rowsIn (take (i * 14) (now (rows .entry)))) i (layoutsIn (now (rows .entry)) i) (typeInner (now (types .entry)) i) (structMembers (now (types .entry)) (now (members .entry)) i)) ⌝ }
-{
-    let w = records::own_record(types, i);
-    let kind = w.kind;
-    if kind == STRUCT_KIND {
-        let part = records::member_part(members, w.a, w.b);
-        return struct_at(types, part, rows, i, w.b, w.c);
-    }
-    if kind == ARRAY_KIND {
-        return array_at(rows, i, w.a, w.b, w.d);
-    }
-    plain_at(capabilities, types, rows, i, w)
 }

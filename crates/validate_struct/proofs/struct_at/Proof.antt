@@ -9,10 +9,10 @@ use denote.Ref.{now}
 use borrow.Author.Tests.{lt-ltb}
 use Rattle.records.specs.Record.{typeInner}
 use Rattle.type_info.specs.TypeInfo.{rowsIn}
 use Rattle.validate_type.specs.ValidateType.{judge, flagsOf, rowOf, uniformOf, storageOf, immediatesOf}
-use Rattle.validate_type.proofs.RowParts.{state-parts, state-error}
-use Rattle.validate_type.proofs.struct_at.Statement.{statement}
-use Rattle.validate_type.proofs.struct_at.Tie as tie
+use Rattle.validate_struct.proofs.StateParts.{state-parts, state-error}
+use Rattle.validate_struct.proofs.struct_at.Statement.{statement}
+use Rattle.validate_struct.proofs.struct_at.Tie as tie
 
 returns : tie.Need-returns
 unfolding judge flagsOf

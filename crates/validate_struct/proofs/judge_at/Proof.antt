@@ -7,10 +7,10 @@ use Rattle.records.specs.Record.{typeCount, typeWord, typeInner, structMembers}
 use Rattle.records.proofs.RecordLaws.{record-bounds}
 use Rattle.type_alignment.specs.TypeAlignment.{layoutsIn}
 use Rattle.type_info.specs.TypeInfo.{rowsIn}
 use Rattle.validate_type.proofs.RowParts.{array-judged}
-use Rattle.validate_type.proofs.OwnMembers.{array-says, struct-within, struct-says, own-length, own-part, own-earlier}
-use Rattle.validate_type.proofs.judge_at.Statement.{statement}
-use Rattle.validate_type.proofs.judge_at.Tie as tie
+use Rattle.validate_struct.proofs.OwnMembers.{array-says, struct-within, struct-says, own-length, own-part, own-earlier}
+use Rattle.validate_struct.proofs.judge_at.Statement.{statement}
+use Rattle.validate_struct.proofs.judge_at.Tie as tie
 
 member-part-requires : tie.Need-member-part-requires
 member-part-requires c κs =

@@ -2,9 +2,9 @@ use borrow.Author.Needs.{needs}
 use denote.Ref.{now}
 use Rattle.records.specs.Record.{typeInner}
 use Rattle.type_info.specs.TypeInfo.{rowsIn}
-use Rattle.validate_type.proofs.RowParts.{plain-state}
-use Rattle.validate_type.proofs.members_of.Statement.{statement}
-use Rattle.validate_type.proofs.members_of.Tie as tie
+use Rattle.validate_struct.proofs.StateParts.{plain-state}
+use Rattle.validate_struct.proofs.members_of.Statement.{statement}
+use Rattle.validate_struct.proofs.members_of.Tie as tie
 
 members-of-requires : tie.Need-members-of-requires
 members-of-requires c κs =

@@ -1,0 +1,2 @@
+pub mod StateParts
+pub mod OwnMembers
