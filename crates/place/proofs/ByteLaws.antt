@@ -1,13 +1,13 @@
--- A byte place fits 64 bits, wherever a walk in accepted types stands.
+-- Accepted types descend: a byte place fits 64 bits, wherever a walk in them stands.
 -- Assumes nothing.
 use mathlib.Core.Path.{_≡_, refl}
-use mathlib.Core.Bool.{_&&_}
+use mathlib.Core.Bool.{Bool, true, false, _&&_}
 use mathlib.Core.Logic.{_⊎_, inl, inr}
-use Prim.Native.Nat.{ℕ, suc, _+_, _-_, _*_, _^_, _≤_, _<_}
+use Prim.Native.Nat.{ℕ, _+_, _*_, _^_, _≤_, _<_}
 use native.Mathlib.Nat.{mul-le-mul-right}
 use native.Mathlib.Omega.{arith}
 use lib.Dec.{T, leb, leb→le}
-use Rattle.records.specs.Result.{ok}
+use Rattle.records.specs.Result.{ok, pick}
 use Rattle.records.specs.Record.{Decoded}
 use Rattle.records.specs.Fields.{mostTypes}
 use Rattle.records.specs.Table.{table}
@@ -25,24 +25,37 @@ use Rattle.valid.specs.Arena.{row}
 use Rattle.valid.proofs.AcceptedLaws.{AcceptedTypes, base-sized, runtime-array-row, struct-member}
 use Rattle.steps.specs.declared.Step.the-variants.{To}
 use Rattle.steps.specs.Steps.{stepOf}
-use Rattle.place.specs.Place.{stepIn}
-use Rattle.place.proofs.WalkLaws.{plain-step, array-step, runtime-array-step, struct-step, other-step}
+use Rattle.descent.specs.Place.{stepIn, Descends}
+use Rattle.descent.proofs.WalkLaws.{plain-step, array-step, runtime-array-step, struct-step, other-step}
 use Rattle.place.proofs.DescentLaws.{descent}
 
--- type t is SIZED
-abbrev Sized : (c : ℕ) (types : ℕ → Decoded) → ℕ → Type 0
-Sized c types t = T (bit (row c types t .flags) sizedBit)
+-- whether type t is SIZED
+abbrev isSized : (c : ℕ) (types : ℕ → Decoded) → ℕ → Bool
+isSized c types t = bit (row c types t .flags) sizedBit
 
 -- what a step adds: a 32-bit number, or less than 2 ^ 63 from a runtime array, which is not SIZED, to its base, which is
-abbrev Added : (c : ℕ) (types : ℕ → Decoded) → (t ty bytes : ℕ) → Type 0
-Added c types t ty bytes = (bytes < 2 ^ 32) ⊎ (¬ Sized c types t × Sized c types ty × (bytes < 2 ^ 63))
+abbrev Added : (sized sized′ : Bool) (bytes : ℕ) → Type 0
+Added sized sized′ bytes = (bytes < 2 ^ 32) ⊎ (¬ T sized × T sized′ × (bytes < 2 ^ 63))
 
--- where a walk stands, at type t and a byte place: until it has gone into a runtime array, after which types are SIZED, each type
--- number that it has left behind accounts for a 32-bit number
-pub record Standing (c : ℕ) (types : ℕ → Decoded) (n t byte : ℕ) : Type 0 where
-  pub within : t < n
-  pub once : Sized c types t ⊎ (byte ≤ (n - suc t) * 2 ^ 32)
-  pub bound : byte ≤ 2 ^ 63 + (n - suc t) * 2 ^ 32
+-- what steps from type t add at most: a 32-bit number for each type number below, and, where t is not SIZED, the bytes of one runtime
+-- array, after which types are SIZED
+abbrev mostFrom : (sized : Bool) → ℕ → ℕ
+mostFrom sized t = pick sized 0 (2 ^ 63) + t * 2 ^ 32
+
+-- one step is within that, by whether the two types are SIZED
+step-within : (sized sized′ : Bool) (t ty bytes : ℕ) → ty < t → (T sized → T sized′) → Added sized sized′ bytes → bytes + mostFrom sized′ ty ≤ mostFrom sized t
+step-within true true t ty bytes l z (inl x) = omega arith
+step-within true true t ty bytes l z (inr x) = absurd (x .0 tt)
+step-within true false t ty bytes l z a = absurd (z tt)
+step-within false true t ty bytes l z (inl x) = omega arith
+step-within false true t ty bytes l z (inr x) = omega (arith, x .2)
+step-within false false t ty bytes l z (inl x) = omega arith
+step-within false false t ty bytes l z (inr x) = absurd (x .1)
+
+-- there are at most 1,024 types, so it fits 64 bits
+most-fits : (sized : Bool) (t : ℕ) → t < mostTypes → mostFrom sized t < 2 ^ 64
+most-fits true t l = omega arith
+most-fits false t l = omega arith
 
 module _ (c : ℕ) (types : ℕ → Decoded) (n : ℕ) (acc : AcceptedTypes c types n) where
   -- the size of an accepted type is the one that was tried
@@ -67,7 +80,7 @@ module _ (c : ℕ) (types : ℕ → Decoded) (n : ℕ) (acc : AcceptedTypes c ty
       leb→le stride mostSize (s .0)
 
   -- what a step adds, by what the record says
-  added-of : (t : ℕ) → t < n → (this : TypeInner) → types t .inner ≡ this → (s ty bytes : ℕ) → stepOf this (types t .members) s ≡ To ty bytes → Added c types t ty bytes
+  added-of : (t : ℕ) → t < n → (this : TypeInner) → types t .inner ≡ this → (s ty bytes : ℕ) → stepOf this (types t .members) s ≡ To ty bytes → Added (isSized c types t) (isSized c types ty) bytes
   added-of t l (Plain leaf) e s ty bytes q = plain-step (Plain leaf) (types t .members) s ty bytes tt q
   added-of t l (Array base count stride) e s ty bytes q =
       let g = array-step base count stride (types t .members) s ty bytes q in
@@ -87,26 +100,14 @@ module _ (c : ℕ) (types : ℕ → Decoded) (n : ℕ) (acc : AcceptedTypes c ty
       inl (rw (← g .2) (omega arith))
   added-of t l (Other o) e s ty bytes q = other-step o (types t .members) s ty bytes q
 
-  -- a walk starts at byte 0
-  pub standing-start : (t : ℕ) → t < n → Standing c types n t 0
-  standing-start t l = record { within = l; once = inr (omega arith); bound = omega arith }
-
-  -- and goes on from where it stands
-  pub standing-step : (t byte s ty bytes : ℕ) → stepIn types t s ≡ To ty bytes → Standing c types n t byte → Standing c types n ty (byte + bytes)
-  standing-step t byte s ty bytes q a = go (added-of t (a .within) (types t .inner) refl s ty bytes q) (a .once)
-    where
-      go : Added c types t ty bytes → Sized c types t ⊎ (byte ≤ (n - suc t) * 2 ^ 32) → Standing c types n ty (byte + bytes)
-      go (inl x) (inl y) =
-          let k = descent c types n acc t (a .within) s ty bytes q in
-          record { within = omega (arith, k .earlier); once = inl (k .sized y); bound = omega (arith, k .earlier) }
-      go (inl x) (inr y) =
-          let k = descent c types n acc t (a .within) s ty bytes q in
-          record { within = omega (arith, k .earlier); once = inr (omega (arith, k .earlier)); bound = omega (arith, k .earlier) }
-      go (inr x) (inl y) = absurd (x .0 y)
-      go (inr x) (inr y) =
-          let k = descent c types n acc t (a .within) s ty bytes q in
-          record { within = omega (arith, k .earlier); once = inl (x .1); bound = omega (arith, k .earlier, x .2) }
-
--- there are at most 1,024 types, so the byte place fits 64 bits
-pub standing-fits : (c : ℕ) (types : ℕ → Decoded) (n : ℕ) → n ≤ mostTypes → (t byte : ℕ) → Standing c types n t byte → byte < 2 ^ 64
-standing-fits c types n few t byte a = omega (arith, a .bound)
+  -- accepted types descend
+  pub accepted-descends : n ≤ mostTypes → Descends types n
+  accepted-descends few =
+      record {
+        most = λ t. mostFrom (isSized c types t) t;
+        fits = λ t l. most-fits (isSized c types t) t (omega arith);
+        step = λ t s ty bytes l q.
+            let k = descent c types n acc t l s ty bytes q in
+            let a = added-of t l (types t .inner) refl s ty bytes q in
+            (omega (arith, k .earlier), step-within (isSized c types t) (isSized c types ty) t ty bytes (k .earlier) (k .sized) a);
+      }

@@ -11,8 +11,8 @@ use Rattle.valid.specs.Arena.{row}
 use Rattle.valid.proofs.AcceptedLaws.{AcceptedTypes, base-sized, array-row, runtime-array-row, member-earlier, struct-row, struct-member}
 use Rattle.steps.specs.declared.Step.the-variants.{To}
 use Rattle.steps.specs.Steps.{stepOf}
-use Rattle.place.specs.Place.{stepIn}
-use Rattle.place.proofs.WalkLaws.{plain-step, array-step, runtime-array-step, struct-step, other-step}
+use Rattle.descent.specs.Place.{stepIn}
+use Rattle.descent.proofs.WalkLaws.{plain-step, array-step, runtime-array-step, struct-step, other-step}
 
 -- what a step from type t to type ty says of their numbers and sizes
 pub record Descent (c : ℕ) (types : ℕ → Decoded) (t ty : ℕ) : Type 0 where

@@ -1,4 +1,3 @@
-pub mod WalkLaws
 pub mod DescentLaws
 pub mod ByteLaws
 pub mod LookupLaws

@@ -25,9 +25,9 @@ use Rattle.validate_type.specs.ValidateType.{flagsOf, uniformOf, storageOf, imm
 use Rattle.valid.specs.Arena.{row, judgeOutcome, arenaOutcome, arena}
 use Rattle.valid.proofs.AcceptedLaws.{AcceptedTypes, array-row, runtime-array-row, member-earlier}
 use Rattle.valid.proofs.ArenaLaws.{accepted-types}
-use Rattle.place.specs.declared.Place.the-variants.{At}
+use Rattle.descent.specs.declared.Place.the-variants.{At}
 use Rattle.steps.specs.Steps.{stepOf}
-use Rattle.place.specs.Place.{placeOf}
+use Rattle.descent.specs.Place.{placeOf}
 use Rattle.term3.specs.Term3.{rowIn, HostShareableData, Reached, itself, element, runtimeElement, member, strideCovers, StridesCover, rewrite}
 use Rattle.term3.proofs.Term3Proof.{term3}
 

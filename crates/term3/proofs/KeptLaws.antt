@@ -9,9 +9,9 @@ use Rattle.records.specs.Record.{Decoded}
 use Rattle.valid.proofs.AcceptedLaws.{AcceptedTypes}
 use Rattle.steps.specs.declared.Step.{Step}
 use Rattle.steps.specs.declared.Step.the-variants.{To, NoStep}
-use Rattle.place.specs.declared.Place.the-variants.{At, NoPlace}
+use Rattle.descent.specs.declared.Place.the-variants.{At, NoPlace}
 use Rattle.steps.specs.Steps.{isLeaf, stepOf}
-use Rattle.place.specs.Place.{stepIn, placeIn}
+use Rattle.descent.specs.Place.{stepIn, placeIn}
 use Rattle.place.proofs.DescentLaws.{descent}
 
 -- two arenas whose records below n are the same, the first accepted

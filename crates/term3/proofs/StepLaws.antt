@@ -25,12 +25,12 @@ use Rattle.valid.specs.Arena.{row}
 use Rattle.valid.proofs.AcceptedLaws.{AcceptedTypes, ArrayRow, base-sized, array-row, runtime-array-row, member-earlier, struct-row, struct-member, row-power}
 use Rattle.steps.specs.declared.Step.{Step}
 use Rattle.steps.specs.declared.Step.the-variants.{To, NoStep}
-use Rattle.place.specs.declared.Place.the-variants.{At}
+use Rattle.descent.specs.declared.Place.the-variants.{At}
 use Rattle.steps.specs.Steps.{stepOf}
-use Rattle.place.specs.Place.{stepIn, leafIn, placeIn}
+use Rattle.descent.specs.Place.{stepIn, leafIn, placeIn}
 use Rattle.term3.specs.Term3.{itself, element, runtimeElement, member, strideCovers, StridesCover, firstElement, after, FirstElements}
 use Rattle.place.proofs.DescentLaws.{descent}
-use Rattle.place.proofs.WalkLaws.{followed, at-leaf, along, after-start, plain-step, array-step, runtime-array-step, struct-step, other-step}
+use Rattle.descent.proofs.WalkLaws.{followed, at-leaf, along, after-start, plain-step, array-step, runtime-array-step, struct-step, other-step}
 
 -- the first, where the second is not so
 unless {ℓ κ} : {A : Type ℓ} {B : Type κ} → A ⊎ B → ¬ B → A

@@ -24,9 +24,9 @@ use Rattle.member_bounds.specs.MemberBounds.{memberBounds, boundsAfter}
 use Rattle.member_rules.specs.MemberRules.{uniformAfter, storageAfter, immediatesAfter}
 use Rattle.validate_type.specs.ValidateType.{flagsOf, uniformOf, storageOf, immediatesOf, rowOf, judge}
 use Rattle.valid.specs.Arena.{row, judgeOutcome, arenaOutcome, arena}
-use Rattle.place.specs.declared.Place.the-variants.{At}
+use Rattle.descent.specs.declared.Place.the-variants.{At}
 use Rattle.steps.specs.Steps.{stepOf}
-use Rattle.place.specs.Place.{placeOf}
+use Rattle.descent.specs.Place.{placeOf}
 use Rattle.term3.specs.Term3.{rowIn, HostShareableData, rewrite, leafMeasure}
 
 abbrev types : List ℕ

@@ -10,7 +10,7 @@ use Rattle.type_info.specs.declared.Row.{Row}
 use Rattle.valid.proofs.AppendLaws.{types-append}
 use Rattle.valid.proofs.ArenaLaws.{accepted-types, arena-more, decoded-same, arena-row-append}
 use Rattle.term3.specs.Term3.{rowIn, Term3}
-use Rattle.place.proofs.WalkLaws.{place-found, place-from}
+use Rattle.descent.proofs.WalkLaws.{place-found, place-from}
 use Rattle.term3.proofs.BufferLaws.{rewrite-other}
 use Rattle.term3.proofs.StepLaws.{place-aligned, contained, disjoint}
 use Rattle.term3.proofs.KeptLaws.{same-place}

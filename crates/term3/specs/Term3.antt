@@ -19,8 +19,8 @@ use Rattle.type_info.specs.Verdict.{isOk, alignmentIn}
 use Rattle.valid.specs.Arena.{arena, row}
 use Rattle.steps.specs.declared.Step.{Step}
 use Rattle.steps.specs.declared.Step.the-variants.{To, NoStep}
-use Rattle.place.specs.declared.Place.the-variants.{At}
-use Rattle.place.specs.Place.{stepIn, placeOf}
+use Rattle.descent.specs.declared.Place.the-variants.{At}
+use Rattle.descent.specs.Place.{stepIn, placeOf}
 
 -- flags, sizes and storage verdicts are what the arena check's definitions make of the records
 abbrev pub rowIn : (c : ℕ) (ts ms : List ℕ) → ℕ → Row

@@ -1,13 +1,13 @@
--- `place::lookup` meets its contract: the check answers first, and what it accepts is an accepted arena. Assumes nothing.
+-- `place::lookup` meets its contract: the check answers first, and an arena that it accepts descends. Assumes nothing.
 use borrow.Author.Needs.{needs}
 use mathlib.Core.Path.{refl, sym, _∙_}
 use Rattle.place.specs.Place.{lookupAnswer}
-use Rattle.place.proofs.LookupLaws.{answer-accepted}
+use Rattle.place.proofs.LookupLaws.{answer-accepted, arena-descends}
 use Rattle.place.proofs.lookup.Statement.{statement}
 use Rattle.place.proofs.lookup.Tie as tie
 
 place-of-requires : tie.Need-place-of-requires
-place-of-requires c κs = (c .before .before .before .before .before .before .before .before .before .before .args .capabilities, answer-accepted _ _ _ _ (sym (c .before .before .before .before .check .ensures .0) ∙ c .enum-told .given .1))
+place-of-requires c κs = arena-descends _ _ _ (answer-accepted _ _ _ _ (sym (c .before .before .before .before .check .ensures .0) ∙ c .enum-told .given .1))
 
 returns : tie.Need-returns
 unfolding lookupAnswer

@@ -1,12 +1,12 @@
--- `place::place_of` meets its contract. The invariant: the rest of the steps from here lead where all of them lead from the start. Assumes nothing.
+-- `descent::place_of` meets its contract. The invariant: the rest of the steps from here lead where all of them lead from the start. Assumes nothing.
 use borrow.Author.Needs.{needs}
 use mathlib.Core.Path.{refl, sym, _∙_}
 use Prim.Native.Nat.{_-_}
 use native.Mathlib.Omega.{arith}
 use lib.ListN.{length}
-use Rattle.place.proofs.LookupLaws.{Looking, no-start, looking-start, looking-fits, looking-ends, looking-step, looking-at, looking-done}
-use Rattle.place.proofs.place_of.Statement.{statement}
-use Rattle.place.proofs.place_of.Tie as tie
+use Rattle.descent.proofs.LoopLaws.{Looking, no-start, looking-start, looking-fits, looking-ends, looking-step, looking-at, looking-done}
+use Rattle.descent.proofs.place_of.Statement.{statement}
+use Rattle.descent.proofs.place_of.Tie as tie
 
 abbrev Inv-loop : tie.InvT-loop
 Inv-loop types members start steps ty₀ byte₀ i₀ ty byte i = Looking types members start steps i ty byte
@@ -18,7 +18,7 @@ returns : tie.Need-returns Inv-loop μ-loop
 returns c = no-start _ _ _ _ (rw (c .before .type-count .ensures) at (c .if1 .taken))
 
 loop-holds : tie.Need-loop-holds Inv-loop μ-loop
-loop-holds c = looking-start _ _ _ _ (c .before .before .before .before .before .pre .0) (c .before .before .before .before .before .pre .1) (rw (c .before .type-count .ensures) at (c .if1 .left))
+loop-holds c = looking-start _ _ _ _ (c .before .before .before .before .before .pre) (rw (c .before .type-count .ensures) at (c .if1 .left))
 
 add-byte : tie.Need-add-byte Inv-loop μ-loop
 add-byte c = record { fits = omega (arith, looking-fits (looking-step (c .before .before .before .before .before .before .before .before .loop .inv) (c .before .before .before .before .before .before .before .loop-test .taken) (sym (c .before .next .given .1) ∙ (rw (c .before .before .before .before .before .struct-members .ensures, c .before .before .before .before .before .before .type-inner .ensures) at (c .before .before .before .step-of .ensures))))) }

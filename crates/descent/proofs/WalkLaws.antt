@@ -15,10 +15,10 @@ use Rattle.records.specs.declared.TypeInner.{TypeInner}
 use Rattle.records.specs.declared.TypeInner.the-variants.{Plain, Array, RuntimeArray, Struct, Other}
 use Rattle.steps.specs.declared.Step.{Step}
 use Rattle.steps.specs.declared.Step.the-variants.{To, NoStep}
-use Rattle.place.specs.declared.Place.{Place}
-use Rattle.place.specs.declared.Place.the-variants.{At, NoPlace}
+use Rattle.descent.specs.declared.Place.{Place}
+use Rattle.descent.specs.declared.Place.the-variants.{At, NoPlace}
 use Rattle.steps.specs.Steps.{isLeaf, stepOf}
-use Rattle.place.specs.Place.{follow, walk, placeIn, placeOf}
+use Rattle.descent.specs.Place.{follow, walk, placeIn, placeOf}
 
 -- a step that is followed to a place is a step
 pub followed : (o : Step) (rest : ℕ → ℕ → Place) (byte leaf : ℕ) → follow o rest ≡ At byte leaf
