@@ -170,6 +170,7 @@ pub fn show_slots(session: Session, out: &mut Buffer, answer: SlotsAnswer) -> Se
 pub fn flushed(session: Session, out: &Buffer) -> Session {
     let mut s = session;
     if !output::flush(out, s.waiting) {
+        output::tell_failed_write();
         s.stopped = true;
     }
     s.waiting = 0;

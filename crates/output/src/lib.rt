@@ -1,18 +1,27 @@
 // The answers wait in a buffer, which is written out when it is full and before the program reads again.
-// `at` is how many bytes wait; each function answers how many do after it.
+// `at` is how many bytes wait, or one more than the buffer has once a write has failed; each function answers how many do after it.
 
 // A reference to an array of a known length is proved sooner than one to a slice.
 pub type Buffer = [u8; 65536];
 
 const STDOUT: i32 = 1;
 
-// Writes out what waits; false where that fails.
+const STDERR: i32 = 2;
+
+const FAILED: usize = 65537;
+
+// Writes out what waits; false where that fails or has failed before.
 pub fn flush(out: &[u8], at: usize) -> bool {
     if at <= out.len() {
         io::write_all(STDOUT, &out[..at])
     } else {
-        io::write_all(STDOUT, out)
+        false
     }
+}
+
+// A program has no exit status, so a failed write is told where the answers do not go.
+pub fn tell_failed_write() {
+    io::write_all(STDERR, b"the answers cannot be written\n");
 }
 
 fn put_byte(out: &mut Buffer, at: usize, b: u8) -> usize {
@@ -20,9 +29,11 @@ fn put_byte(out: &mut Buffer, at: usize, b: u8) -> usize {
         out[at] = b;
         return at + 1;
     }
-    flush(out, at);
-    out[0] = b;
-    1
+    if flush(out, at) {
+        out[0] = b;
+        return 1;
+    }
+    FAILED
 }
 
 fn put_text(out: &mut Buffer, at: usize, text: &[u8]) -> usize {

@@ -14,6 +14,5 @@ flush-spec =
     (tie.spec
     slice-aggregate-write-all
     (λ c κs. search needs)
-    (λ c κs. search needs)
     (λ c. search needs)
     (λ c. search needs))
