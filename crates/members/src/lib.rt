@@ -144,7 +144,7 @@ fn verdict_after(
     requires { ⌜ t * 14 + (w + 4) < length (now rows) ⌝ }
     ensures { λ r. ⌜ r ≡ memberVerdict i j offset (shareVerdict shareable t «so_far») (verdictIn (now (rows .entry)) t w) ⌝ }
 {
-    type_info::member_verdict_at(
+    type_rows::member_verdict_at(
         rows,
         t,
         w,
@@ -268,7 +268,7 @@ pub fn members_of(
         let offset = records::member_offset(part, j);
         let array = member_bounds::is_array(types, ty);
         let next = member_rules::struct_at(types, ty, offset);
-        let row = type_info::row_at(rows, ty);
+        let row = type_rows::row_at(rows, ty);
         match member(i, count, span, j, ty, offset, array, next, row, state) {
             Stepped::Took(after) => {
                 state = after;

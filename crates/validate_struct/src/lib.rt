@@ -68,7 +68,7 @@ fn struct_at(types: &[u32], part: &[u32], rows: &mut [u32], i: u32, count: u32, 
                 storage: type_info::span_verdict(i, span, alignment, state.storage),
                 immediates: state.immediates,
             };
-            type_info::put(rows, at, row);
+            type_rows::put(rows, at, row);
             Judged::Made
         }
         Members::Refused { number, member } => Judged::Refused {

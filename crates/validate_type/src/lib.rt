@@ -173,7 +173,7 @@ pub fn plain_at(capabilities: u32, types: &[u32], rows: &mut [u32], i: u32, w: W
                 storage: verdict,
                 immediates,
             };
-            type_info::put(rows, at, row);
+            type_rows::put(rows, at, row);
             Judged::Made
         }
         PlainRow::Refused {
@@ -204,7 +204,7 @@ pub fn array_at(rows: &mut [u32], i: u32, base: u32, form: u32, stride: u32) -> 
     ensures { λ r. ⌜ Settled r (i * 14) (now (rows .entry)) (now (rows .exit)) (arrayOf form i stride (rowsIn (take (i * 14) (now (rows .entry))) base) (layoutsIn (now (rows .entry)) i)) ⌝ }
 {
     let at = (i as usize) * records::ROW_WORDS;
-    let element = type_info::row_at(&rows[..at], base);
+    let element = type_rows::row_at(&rows[..at], base);
     if !type_flags::is_array_base(element.flags) {
         return Judged::Refused {
             number: 15,
@@ -232,6 +232,6 @@ pub fn array_at(rows: &mut [u32], i: u32, base: u32, form: u32, stride: u32) -> 
         ),
         immediates: element.immediates,
     };
-    type_info::put(rows, at, row);
+    type_rows::put(rows, at, row);
     Judged::Made
 }

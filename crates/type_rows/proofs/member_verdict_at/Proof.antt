@@ -1,9 +1,9 @@
 use borrow.Author.Needs.{needs}
 use mathlib.Core.Path.{refl}
 use borrow.Author.Tests.{ne-eqb}
 use Rattle.type_info.specs.Verdict.{memberVerdict}
-use Rattle.type_info.proofs.member_verdict_at.Statement.{statement}
-use Rattle.type_info.proofs.member_verdict_at.Tie as tie
+use Rattle.type_rows.proofs.member_verdict_at.Statement.{statement}
+use Rattle.type_rows.proofs.member_verdict_at.Tie as tie
 
 returns : tie.Need-returns
 unfolding memberVerdict

@@ -6,9 +6,9 @@ use native.Mathlib.Omega.{arith}
 use denote.Ref.{now}
 use lib.ListN.{List·getD-eq-default}
 use Rattle.rows.specs.Rows.{rowWord}
 use Rattle.type_info.specs.TypeInfo.{rowsIn}
-use Rattle.type_info.proofs.row_at.Statement.{statement}
-use Rattle.type_info.proofs.row_at.Tie as tie
+use Rattle.type_rows.proofs.row_at.Statement.{statement}
+use Rattle.type_rows.proofs.row_at.Tie as tie
 
 returns : tie.Need-returns
 unfolding rowsIn

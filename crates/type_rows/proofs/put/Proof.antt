@@ -1,7 +1,7 @@
 use borrow.Author.Needs.{needs}
 use Rattle.type_info.specs.TypeInfo.{wordsOf}
-use Rattle.type_info.proofs.put.Statement.{statement}
-use Rattle.type_info.proofs.put.Tie as tie
+use Rattle.type_rows.proofs.put.Statement.{statement}
+use Rattle.type_rows.proofs.put.Tie as tie
 
 returns : tie.Need-returns
 unfolding wordsOf
