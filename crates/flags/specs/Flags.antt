@@ -1,6 +1,6 @@
 -- 01, 'The result row' and 'The capability word': flags and capabilities are bits of a word.
 -- Assumes nothing.
-use mathlib.Core.Bool.{Bool, _||_}
+use mathlib.Core.Bool.{Bool, _&&_, _||_}
 use mathlib.Core.List.{List, [], _∷_}
 use Prim.Native.Nat.{ℕ, _/_, _%_, _^_}
 use lib.Bits.{bitAnd, bitOr}
@@ -25,6 +25,10 @@ hostShareableBit = 4
 
 abbrev pub creationResolvedBit : ℕ
 creationResolvedBit = 7
+
+-- what an array's base has to be (number 15), and a member that no rule on flags refuses
+abbrev pub isSizedData : (flags : ℕ) → Bool
+isSizedData flags = bit flags dataBit && bit flags sizedBit && bit flags creationResolvedBit
 
 -- ---- a table gives each kind its starting flags
 abbrev pub startingFlags : ℕ → ℕ

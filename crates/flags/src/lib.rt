@@ -2,7 +2,7 @@
 ghost use mathlib.Core.Path.{_≡_};
 ghost use Prim.Native.Nat.{_<_};
 ghost use lib.Bits.{bitAnd, bitOr};
-ghost use Rattle.flags.specs.Flags.{bit, dataBit, sizedBit, hostShareableBit, creationResolvedBit, startingFlags, scalarFlags, argumentFlag, pointerFlags, arrayFlags, runtimeArrayFlags, bindingArrayFlags, notHostShareable};
+ghost use Rattle.flags.specs.Flags.{bit, dataBit, sizedBit, hostShareableBit, creationResolvedBit, isSizedData, startingFlags, scalarFlags, argumentFlag, pointerFlags, arrayFlags, runtimeArrayFlags, bindingArrayFlags, notHostShareable};
 
 // 01's kinds, as indexes of the table.
 pub const SCALAR_KIND: usize = 0;
@@ -93,6 +93,13 @@ pub fn is_creation_resolved(flags: u32) -> bool
     ensures { λ r. ⌜ r ≡ bit flags creationResolvedBit ⌝ }
 {
     flags / 128 % 2 == 1
+}
+
+// Data that is sized, and resolved at shader creation.
+pub fn is_sized_data(flags: u32) -> bool
+    ensures { λ r. ⌜ r ≡ isSizedData flags ⌝ }
+{
+    is_data(flags) & is_sized(flags) & is_creation_resolved(flags)
 }
 
 pub fn starting_flags(kind: usize) -> u32

@@ -57,10 +57,6 @@ uniformBy d i j t offset r so-far =
 abbrev pub isPlain : (flags : ℕ) → Bool
 isPlain flags = bit flags dataBit && bit flags sizedBit && bit flags hostShareableBit && bit flags creationResolvedBit
 
--- the flags of a member that no rule of bounds refuses
-abbrev pub isInOrder : (flags : ℕ) → Bool
-isInOrder flags = bit flags dataBit && bit flags sizedBit && bit flags creationResolvedBit
-
 -- a distance that leaves the verdict as it is
 abbrev pub isEnough : Distance → Bool
 isEnough Enough = true

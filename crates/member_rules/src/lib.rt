@@ -8,7 +8,7 @@ ghost use Prim.Native.Nat.{_+_, _<_};
 ghost use Rattle.records.specs.Record.{typeInner};
 ghost use Rattle.type_info.specs.Verdict.{structAt};
 ghost use Rattle.type_info.specs.declared.Previous.the-variants.{NoStruct};
-ghost use Rattle.member_rules.specs.MemberRules.{memberStorage, memberImmediates, uniformBy, isPlain, isInOrder, isEnough};
+ghost use Rattle.member_rules.specs.MemberRules.{memberStorage, memberImmediates, uniformBy, isPlain, isEnough};
 
 const STRUCT_KIND: u32 = 8;
 
@@ -76,13 +76,6 @@ pub fn is_plain(flags: u32) -> bool
         & flags::is_sized(flags)
         & flags::is_host_shareable(flags)
         & flags::is_creation_resolved(flags)
-}
-
-// Whether a member with these flags breaks no rule that reads flags: data, sized, and resolved at shader creation.
-pub fn is_in_order(flags: u32) -> bool
-    ensures { λ r. ⌜ r ≡ isInOrder flags ⌝ }
-{
-    flags::is_data(flags) & flags::is_sized(flags) & flags::is_creation_resolved(flags)
 }
 
 // Wider than both, so that the sum does not wrap.

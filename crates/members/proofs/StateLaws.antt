@@ -19,10 +19,10 @@ use Rattle.type_info.specs.Verdict.{minUniform, distanceOk, distanceVerdict, sh
 use Rattle.member_bounds.specs.declared.Bounds.{Bounds}
 use Rattle.members.specs.declared.State.{State}
 use Rattle.records.proofs.ResultLaws.{true-T, T-true, and-left, and-right}
-use Rattle.flags.specs.Flags.{bit, dataBit, sizedBit, hostShareableBit, creationResolvedBit}
+use Rattle.flags.specs.Flags.{bit, dataBit, sizedBit, hostShareableBit, creationResolvedBit, isSizedData}
 use Rattle.type_info.specs.Verdict.{structAt, previousOf}
 use Rattle.member_bounds.specs.MemberBounds.{isArray, memberBounds, boundsAfter}
-use Rattle.member_rules.specs.MemberRules.{uniformAfter, storageAfter, immediatesAfter, memberImmediates, isInOrder}
+use Rattle.member_rules.specs.MemberRules.{uniformAfter, storageAfter, immediatesAfter, memberImmediates}
 use Rattle.members.specs.Members.{stateAfter, memberStep}
 
 module _ (inner : ℕ → TypeInner) (rows : ℕ → Row) (i count span : ℕ) (part : List ℕ) where
@@ -63,7 +63,7 @@ module _ (inner : ℕ → TypeInner) (rows : ℕ → Row) (i count span : ℕ) (
 
 -- the step of a member in order: all tests hold, and each verdict is that of the offset
 pub ordered-step : (i count span j t offset : ℕ) (array : Bool) (next : Previous) (r : Row) (s : State)
-    → isInOrder (r .flags) ≡ true → s .bounds .end ≤ offset → offset + r .size ≤ span → span ≤ most
+    → isSizedData (r .flags) ≡ true → s .bounds .end ≤ offset → offset + r .size ≤ span → span ≤ most
     → distanceOk (s .previous) offset ≡ true → ((v : Verdict) → distanceVerdict minUniform i j offset (s .previous) v ≡ v)
     → memberStep i count span j t offset array next r s
     ≡ ok (record {

@@ -178,7 +178,7 @@ fn ordered_member(
     let flags = rows[at + 2];
     let own = rows[at + 13];
     let sum = member_rules::end_of(offset, rows[at]);
-    if !member_rules::is_in_order(flags) {
+    if !flags::is_sized_data(flags) {
         return Ordered::Other;
     }
     if offset < so_far.end {

@@ -107,10 +107,6 @@ bindingArrayOf inner base form =
     (require (not (isExternalImage inner)) 24 0 0
     (require (bit base creationResolvedBit) 17 0 0 (ok (bindingArrayFlags form base))))
 
--- ---- number 15: what an array's base has to be
-abbrev pub isArrayBase : (flags : ℕ) → Bool
-isArrayBase flags = bit flags dataBit && bit flags sizedBit && bit flags creationResolvedBit
-
 -- ---- what the code answers
 abbrev pub flaggedResult : Flagged → Result ℕ
 flaggedResult (Flags flags) = ok flags

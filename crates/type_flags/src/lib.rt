@@ -8,7 +8,7 @@ ghost use Rattle.records.specs.Record.{atomicKind, valuePointerKind, samplerKin
 ghost use Rattle.records.specs.declared.TypeInner.the-variants.{Other};
 ghost use Rattle.flags.specs.Flags.{startingFlags, pointerFlags};
 ghost use Rattle.width.specs.Width.{widthResult, checkWidth, atomicWidth};
-ghost use Rattle.type_flags.specs.TypeFlags.{withWidth, cooperativeFlags, vertexFlags, matrixFlags, rayQueryFlags, isFlat, cubeAllowed, isExternalForm, externalAllowed, imageFlags, isStruct, isExternalImage, pointerTo, accelerationFlags, isBindingBase, bindingArrayOf, isArrayBase, flaggedResult};
+ghost use Rattle.type_flags.specs.TypeFlags.{withWidth, cooperativeFlags, vertexFlags, matrixFlags, rayQueryFlags, isFlat, cubeAllowed, isExternalForm, externalAllowed, imageFlags, isStruct, isExternalImage, pointerTo, accelerationFlags, isBindingBase, bindingArrayOf, flaggedResult};
 
 // The flags of a type, or its refusal.
 pub enum Flagged {
@@ -279,11 +279,4 @@ pub fn value_pointer_flags(capabilities: u32, kind: u32, width: u32, space: u32)
         width::check_width(capabilities, kind, width),
         flags::pointer_flags(space, flags::starting_flags(flags::VALUE_POINTER_KIND)),
     )
-}
-
-// Number 15 for a base that cannot be an element.
-pub fn is_array_base(flags: u32) -> bool
-    ensures { λ r. ⌜ r ≡ isArrayBase flags ⌝ }
-{
-    flags::is_data(flags) & flags::is_sized(flags) & flags::is_creation_resolved(flags)
 }

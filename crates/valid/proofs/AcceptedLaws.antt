@@ -31,9 +31,9 @@ use Rattle.type_alignment.proofs.AlignmentPower.{power-one}
 use Rattle.layouter.specs.Layouter.{noLayout, layoutStep, layoutAt, layout}
 use Rattle.layouter.proofs.LayoutAccepted.{plain-layout, plain-width, array-layout, runtime-array-layout, struct-layout}
 use Rattle.layouter.proofs.LayoutPower.{layout-power}
-use Rattle.flags.specs.Flags.{bit, dataBit, sizedBit, creationResolvedBit}
+use Rattle.flags.specs.Flags.{bit, dataBit, sizedBit, creationResolvedBit, isSizedData}
 use Rattle.flags.proofs.BitLaws.{bit-or-left, bit-or-right}
-use Rattle.type_flags.specs.TypeFlags.{leafFlags, isArrayBase}
+use Rattle.type_flags.specs.TypeFlags.{leafFlags}
 use Rattle.type_info.specs.declared.Row.{Row}
 use Rattle.type_info.specs.TypeInfo.{emptyRow}
 use Rattle.type_info.specs.Verdict.{minUniform, minStorage, okVerdict, arrayVerdict, spanVerdict}
@@ -68,7 +68,7 @@ pub record PlainRow (c : ℕ) (leaf : Leaf) (r : Row) : Type 0 where
 
 -- the row r of array i whose base has the row `base`
 pub record ArrayRow (i bytes stride mask : ℕ) (base r : Row) : Type 0 where
-  pub isBase : T (isArrayBase (base .flags))
+  pub isBase : T (isSizedData (base .flags))
   pub flags : r .flags ≡ bitAnd (base .flags) mask
   pub size : r .size ≡ bytes
   pub uniform : r .uniform ≡ arrayVerdict minUniform i stride (base .alignment) (base .uniform)
@@ -166,7 +166,7 @@ module _ (c : ℕ) (types : ℕ → Decoded) (n : ℕ) (acc : AcceptedTypes c ty
   array-row i h base count stride e =
       let p = row-parts i h (Array base count stride) e in
       let l = array-layout types n (acc .layouts) i h base count stride e in
-      let a = required (isArrayBase (rowsBefore c types i base .flags)) 15 0 0 _ (row c types i .flags) (p .flags) in (
+      let a = required (isSizedData (rowsBefore c types i base .flags)) 15 0 0 _ (row c types i .flags) (p .flags) in (
         l .1,
         subst (λ (b : Row). ArrayRow i (count * stride) stride 247 b (row c types i)) (row-before i base (l .1))
             (record {
@@ -186,7 +186,7 @@ module _ (c : ℕ) (types : ℕ → Decoded) (n : ℕ) (acc : AcceptedTypes c ty
   runtime-array-row i h base stride e =
       let p = row-parts i h (RuntimeArray base stride) e in
       let l = runtime-array-layout types n (acc .layouts) i h base stride e in
-      let a = required (isArrayBase (rowsBefore c types i base .flags)) 15 0 0 _ (row c types i .flags) (p .flags) in (
+      let a = required (isSizedData (rowsBefore c types i base .flags)) 15 0 0 _ (row c types i .flags) (p .flags) in (
         l .1,
         subst (λ (b : Row). ArrayRow i stride stride 149 b (row c types i)) (row-before i base (l .1))
             (record {

@@ -15,10 +15,10 @@ use Rattle.records.specs.declared.TypeInner.{TypeInner}
 use Rattle.records.specs.declared.TypeInner.the-variants.{Plain, Array, RuntimeArray, Struct, Other}
 use Rattle.records.proofs.ResultLaws.{required, and-then-ok, ok-inj, T-true, and-left}
 use Rattle.type_alignment.specs.declared.TypeLayout.{TypeLayout}
-use Rattle.flags.specs.Flags.{bit, dataBit, sizedBit, creationResolvedBit, scalarFlags, bindingArrayFlags}
+use Rattle.flags.specs.Flags.{bit, dataBit, sizedBit, creationResolvedBit, scalarFlags, bindingArrayFlags, isSizedData}
 use Rattle.flags.proofs.BitLaws.{bit-and, bit-and-both}
 use Rattle.width.specs.Width.{float, cooperativeMatrix, cubeArrayTextures, textureExternal, rayQuery, rayTracingPipeline, rayHitVertexPosition, checkWidth, atomicWidth}
-use Rattle.type_flags.specs.TypeFlags.{leafFlags, isStruct, isExternalImage, isArrayBase}
+use Rattle.type_flags.specs.TypeFlags.{leafFlags, isStruct, isExternalImage}
 use Rattle.type_info.specs.declared.Row.{Row}
 use Rattle.type_info.specs.Verdict.{minUniform, spanVerdict}
 use Rattle.member_bounds.specs.declared.Bounds.{Bounds}
@@ -128,7 +128,7 @@ other-no-data c inner rows (BindingArray base form count) f e =
     rw (← ok-inj (z .1)) (false-test (bit (bindingArrayFlags form (rows base .flags)) dataBit) (binding-no-data (eqb form 0) (rows base .flags)))
 
 -- the base of an array is DATA, and a mask that keeps DATA keeps it
-array-data : (base mask : ℕ) → T (isArrayBase base) → T (bit mask dataBit) → bit (bitAnd base mask) dataBit ≡ true
+array-data : (base mask : ℕ) → T (isSizedData base) → T (bit mask dataBit) → bit (bitAnd base mask) dataBit ≡ true
 array-data base mask t u =
     let d = and-left (bit base dataBit) (bit base sizedBit) (and-left (bit base dataBit && bit base sizedBit) (bit base creationResolvedBit) t) in
     T-true (bit (bitAnd base mask) dataBit) (bit-and-both base mask dataBit d u)
@@ -139,9 +139,9 @@ pub flags-data : (c : ℕ) (inner : ℕ → TypeInner) (rows : ℕ → Row) (thi
 unfolding flagsOf
 flags-data c inner rows (Plain leaf) members f e = leaf-data c leaf f e
 flags-data c inner rows (Array base count stride) members f e =
-    let a = required (isArrayBase (rows base .flags)) 15 0 0 _ f e in rw (← ok-inj (a .1)) (array-data (rows base .flags) 247 (a .0) tt)
+    let a = required (isSizedData (rows base .flags)) 15 0 0 _ f e in rw (← ok-inj (a .1)) (array-data (rows base .flags) 247 (a .0) tt)
 flags-data c inner rows (RuntimeArray base stride) members f e =
-    let a = required (isArrayBase (rows base .flags)) 15 0 0 _ f e in rw (← ok-inj (a .1)) (array-data (rows base .flags) 149 (a .0) tt)
+    let a = required (isSizedData (rows base .flags)) 15 0 0 _ f e in rw (← ok-inj (a .1)) (array-data (rows base .flags) 149 (a .0) tt)
 flags-data c inner rows (Struct count span) members f e =
     let a = required (ltb 0 count) 16 0 0 _ f e in
     let b = and-then-ok (boundsAfter inner rows count span members count) _ f (a .1) in

@@ -13,8 +13,8 @@ use Rattle.records.specs.declared.NonData.{NonData}
 use Rattle.records.specs.declared.TypeInner.{TypeInner}
 use Rattle.type_alignment.specs.declared.TypeLayout.{TypeLayout}
 use Rattle.records.specs.declared.TypeInner.the-variants.{Plain, Array, RuntimeArray, Other}
-use Rattle.flags.specs.Flags.{arrayFlags, runtimeArrayFlags}
-use Rattle.type_flags.specs.TypeFlags.{leafFlags, isArrayBase}
+use Rattle.flags.specs.Flags.{arrayFlags, runtimeArrayFlags, isSizedData}
+use Rattle.type_flags.specs.TypeFlags.{leafFlags}
 use Rattle.type_info.specs.declared.Row.{Row}
 use Rattle.validate_type.specs.ValidateType.{nonDataFlags, flagsOf, leafVerdictAlignment, leafImmediates, uniformOf, storageOf, immediatesOf, rowOf, judge, PlainParts, plainBy, plainRow, plainJudged, arrayRow, arrayOf}
 
@@ -54,8 +54,8 @@ unfolding judge flagsOf rowOf uniformOf storageOf immediatesOf
 array-judged c inner rows i layout part this base form count stride says = rw says (go (eqb form 0))
   where
     go : (t : Bool)
-        → require (isArrayBase (rows base .flags)) 15 0 0
+        → require (isSizedData (rows base .flags)) 15 0 0
         (ok (arrayRow i stride (rows base) layout (pick t (arrayFlags (rows base .flags)) (runtimeArrayFlags (rows base .flags)))))
         ≡ judge c inner rows i layout (pick t (Array base count stride) (RuntimeArray base stride)) part
-    go true = sym (require-then (isArrayBase (rows base .flags)) 15 0 0 (arrayFlags (rows base .flags)) (λ f. ok (arrayRow i stride (rows base) layout f)))
-    go false = sym (require-then (isArrayBase (rows base .flags)) 15 0 0 (runtimeArrayFlags (rows base .flags)) (λ f. ok (arrayRow i stride (rows base) layout f)))
+    go true = sym (require-then (isSizedData (rows base .flags)) 15 0 0 (arrayFlags (rows base .flags)) (λ f. ok (arrayRow i stride (rows base) layout f)))
+    go false = sym (require-then (isSizedData (rows base .flags)) 15 0 0 (runtimeArrayFlags (rows base .flags)) (λ f. ok (arrayRow i stride (rows base) layout f)))

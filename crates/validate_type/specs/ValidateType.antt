@@ -15,9 +15,9 @@ use Rattle.records.specs.declared.TypeInner.{TypeInner}
 use Rattle.records.specs.declared.TypeInner.the-variants.{Plain, Array, RuntimeArray, Struct, Other}
 use Rattle.alignment.specs.Alignment.{vectorAlignment}
 use Rattle.type_alignment.specs.declared.TypeLayout.{TypeLayout}
-use Rattle.flags.specs.Flags.{startingFlags, pointerFlags, arrayFlags, runtimeArrayFlags}
+use Rattle.flags.specs.Flags.{startingFlags, pointerFlags, arrayFlags, runtimeArrayFlags, isSizedData}
 use Rattle.width.specs.Width.{checkWidth, immediatesWord}
-use Rattle.type_flags.specs.TypeFlags.{withWidth, leafFlags, imageFlags, pointerTo, accelerationFlags, bindingArrayOf, isArrayBase}
+use Rattle.type_flags.specs.TypeFlags.{withWidth, leafFlags, imageFlags, pointerTo, accelerationFlags, bindingArrayOf}
 use Rattle.type_info.specs.declared.Verdict.{Verdict}
 use Rattle.type_info.specs.declared.Row.{Row}
 use Rattle.type_info.specs.Verdict.{minUniform, minStorage, okVerdict, arrayVerdict, spanVerdict}
@@ -44,9 +44,9 @@ nonDataFlags c inner rows (BindingArray base form count) = bindingArrayOf (inner
 -- ---- the flags of type i, or its refusal
 unfoldable pub flagsOf : (c : ℕ) (inner : ℕ → TypeInner) (rows : ℕ → Row) → TypeInner → (members : List ℕ) → Result ℕ
 flagsOf c inner rows (Plain leaf) members = leafFlags c leaf
-flagsOf c inner rows (Array base count stride) members = require (isArrayBase (rows base .flags)) 15 0 0 (ok (arrayFlags (rows base .flags)))
+flagsOf c inner rows (Array base count stride) members = require (isSizedData (rows base .flags)) 15 0 0 (ok (arrayFlags (rows base .flags)))
 flagsOf c inner rows (RuntimeArray base stride) members =
-    require (isArrayBase (rows base .flags)) 15 0 0 (ok (runtimeArrayFlags (rows base .flags)))
+    require (isSizedData (rows base .flags)) 15 0 0 (ok (runtimeArrayFlags (rows base .flags)))
 flagsOf c inner rows (Struct count span) members =
     require (ltb 0 count) 16 0 0 (andThen (boundsAfter inner rows count span members count) (λ b. ok (b .flags)))
 flagsOf c inner rows (Other o) members = nonDataFlags c inner rows o
@@ -158,7 +158,7 @@ arrayRow i stride base layout flags =
 -- by the array's form: 0 for one of a count, else a runtime array
 abbrev pub arrayOf : (form i stride : ℕ) → (base : Row) → TypeLayout → Result Row
 arrayOf form i stride base layout =
-    require (isArrayBase (base .flags)) 15 0 0 (ok (arrayRow i stride base layout (pick (eqb form 0) (arrayFlags (base .flags)) (runtimeArrayFlags (base .flags)))))
+    require (isSizedData (base .flags)) 15 0 0 (ok (arrayRow i stride base layout (pick (eqb form 0) (arrayFlags (base .flags)) (runtimeArrayFlags (base .flags)))))
 
 -- the code's answer and what it makes of the lent words, by one type's judgement, whose row is to be written from `at` on
 abbrev pub Settled : Judged → (at : ℕ) (before after : List ℕ) → Result Row → Type 0

@@ -205,7 +205,7 @@ pub fn array_at(rows: &mut [u32], i: u32, base: u32, form: u32, stride: u32) -> 
 {
     let at = (i as usize) * records::ROW_WORDS;
     let element = type_rows::row_at(&rows[..at], base);
-    if !type_flags::is_array_base(element.flags) {
+    if !flags::is_sized_data(element.flags) {
         return Judged::Refused {
             number: 15,
             member: 0,

@@ -14,8 +14,8 @@ use Rattle.records.specs.declared.TypeInner.the-variants.{Plain, Array, Runtime
 use Rattle.records.proofs.ResultLaws.{required, and-then-ok, ok-inj}
 use Rattle.records.proofs.TableLaws.{all-ok, value-ok, table-value}
 use Rattle.layouter.specs.Layouter.{layout}
-use Rattle.flags.specs.Flags.{arrayFlags, runtimeArrayFlags}
-use Rattle.type_flags.specs.TypeFlags.{leafFlags, isArrayBase}
+use Rattle.flags.specs.Flags.{arrayFlags, runtimeArrayFlags, isSizedData}
+use Rattle.type_flags.specs.TypeFlags.{leafFlags}
 use Rattle.type_info.specs.declared.Verdict.{Verdict}
 use Rattle.type_info.specs.declared.Row.{Row}
 use Rattle.type_info.specs.TypeInfo.{emptyRow}
@@ -101,18 +101,18 @@ module _ (c : ℕ) (types : ℕ → Decoded) (n : ℕ) (accepted : firstRefusal 
 
   -- the base of an array is data, sized and resolved; the array has the base's flags of its kind
   pub array-flags : (base count stride : ℕ) → types t .inner ≡ Array base count stride → base < t
-      → T (isArrayBase (row c types base .flags)) × (row c types t .flags ≡ arrayFlags (row c types base .flags))
+      → T (isSizedData (row c types base .flags)) × (row c types t .flags ≡ arrayFlags (row c types base .flags))
   unfolding flagsOf
   array-flags base count stride e l =
-      let r = required (isArrayBase (rowsBefore base .flags)) 15 0 0 (ok (arrayFlags (rowsBefore base .flags))) (row c types t .flags) (row-parts (Array base count stride) e .0) in
+      let r = required (isSizedData (rowsBefore base .flags)) 15 0 0 (ok (arrayFlags (rowsBefore base .flags))) (row c types t .flags) (row-parts (Array base count stride) e .0) in
       (rw (earlier-row base l) at (r .0), rw (earlier-row base l) at (sym (ok-inj (r .1))))
 
   -- so it is of a runtime-sized array
   pub runtime-array-flags : (base stride : ℕ) → types t .inner ≡ RuntimeArray base stride → base < t
-      → T (isArrayBase (row c types base .flags)) × (row c types t .flags ≡ runtimeArrayFlags (row c types base .flags))
+      → T (isSizedData (row c types base .flags)) × (row c types t .flags ≡ runtimeArrayFlags (row c types base .flags))
   unfolding flagsOf
   runtime-array-flags base stride e l =
-      let r = required (isArrayBase (rowsBefore base .flags)) 15 0 0 (ok (runtimeArrayFlags (rowsBefore base .flags))) (row c types t .flags) (row-parts (RuntimeArray base stride) e .0) in
+      let r = required (isSizedData (rowsBefore base .flags)) 15 0 0 (ok (runtimeArrayFlags (rowsBefore base .flags))) (row c types t .flags) (row-parts (RuntimeArray base stride) e .0) in
       (rw (earlier-row base l) at (r .0), rw (earlier-row base l) at (sym (ok-inj (r .1))))
 
   -- the verdicts of an array, from the element's

@@ -22,9 +22,9 @@ use Rattle.records.proofs.ResultLaws.{and-then-ok, ok-inj, and-left, and-right}
 use Rattle.type_alignment.specs.TypeAlignment.{membersAlignment}
 use Rattle.layouter.specs.Layouter.{noLayout, layoutStep, layoutAt, layout}
 use Rattle.layouter.proofs.LayoutAccepted.{array-layout, runtime-array-layout, struct-layout, member-layout}
-use Rattle.flags.specs.Flags.{bit, dataBit, sizedBit, hostShareableBit, creationResolvedBit, startingFlags, scalarFlags}
+use Rattle.flags.specs.Flags.{bit, dataBit, sizedBit, hostShareableBit, creationResolvedBit, startingFlags, scalarFlags, isSizedData}
 use Rattle.width.specs.Width.{checkWidth, atomicWidth}
-use Rattle.type_flags.specs.TypeFlags.{leafFlags, isArrayBase}
+use Rattle.type_flags.specs.TypeFlags.{leafFlags}
 use Rattle.type_info.specs.declared.Verdict.{Verdict}
 use Rattle.type_info.specs.declared.Row.{Row}
 use Rattle.type_info.specs.Verdict.{minUniform, arrayVerdict}
@@ -74,7 +74,7 @@ sized-alone true final s = tt
 sized-alone false final s = s
 
 -- the base of an array is sized
-base-sized : (flags : ℕ) → T (isArrayBase flags) → T (bit flags sizedBit)
+base-sized : (flags : ℕ) → T (isSizedData flags) → T (bit flags sizedBit)
 base-sized flags b =
     and-right (bit flags dataBit) (bit flags sizedBit) (and-left (bit flags dataBit && bit flags sizedBit) (bit flags creationResolvedBit) b)
 

@@ -15,11 +15,11 @@ row-at-requires : tie.Need-row-at-requires
 row-at-requires c κs = let a = c .before .before .args in rw (length-take-le (a .i * 14) (a .rows .now) (omega (arith, c .before .before .pre))) (omega arith)
 
 returns : tie.Need-returns
-returns c = rw (← c .before .before .row-at .ensures, sym (c .before .is-array-base .ensures) ∙ not-true _ (c .if1 .taken)) (refl, refl)
+returns c = rw (← c .before .before .row-at .ensures, sym (c .before .is-sized-data .ensures) ∙ not-true _ (c .if1 .taken)) (refl, refl)
 
 returns-2 : tie.Need-returns-2
 returns-2 c =
-    rw (← c .before .before .before .before .before .before .before .before .before .before .before .row-at .ensures, sym (c .before .before .before .before .before .before .before .before .before .before .is-array-base .ensures) ∙ not-false _ (c .before .before .before .before .before .before .before .before .before .if1 .left), add-zero (c .before .before .before .before .before .before .before .before .before .before .before .before .before .before .args .i * 14))
+    rw (← c .before .before .before .before .before .before .before .before .before .before .before .row-at .ensures, sym (c .before .before .before .before .before .before .before .before .before .before .is-sized-data .ensures) ∙ not-false _ (c .before .before .before .before .before .before .before .before .before .if1 .left), add-zero (c .before .before .before .before .before .before .before .before .before .before .before .before .before .before .args .i * 14))
     (refl, rw (c .before .before .before .before .before .before .flags-by-form .ensures, c .before .before .before .before .before .array-verdict .ensures, c .before .before .before .before .array-verdict2 .ensures) at (c .before .before .put .ensures))
 
 pub array-at-spec : {M : Type 1} → statement M

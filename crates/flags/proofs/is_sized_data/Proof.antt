@@ -1,12 +1,12 @@
 use borrow.Author.Needs.{needs}
-use Rattle.type_flags.proofs.is_array_base.Statement.{statement}
-use Rattle.type_flags.proofs.is_array_base.Tie as tie
+use Rattle.flags.proofs.is_sized_data.Statement.{statement}
+use Rattle.flags.proofs.is_sized_data.Tie as tie
 
 returns : tie.Need-returns
 returns c = rw (c .is-creation-resolved .ensures, c .before .is-sized .ensures, c .before .before .is-data .ensures)
 
-pub is-array-base-spec : {M : Type 1} → statement M
-is-array-base-spec =
+pub is-sized-data-spec : {M : Type 1} → statement M
+is-sized-data-spec =
     tie.close
     (tie.spec
     (λ c κs. search needs)
