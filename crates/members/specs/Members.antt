@@ -1,16 +1,17 @@
 -- 01, 'The result row': a struct, member by member. What the code carries from member to member, by the rules of one member
 -- (member_rules: MemberRules), and what it answers. `rows` are the rows of the types before type i.
 -- Assumes nothing.
-use mathlib.Core.Bool.{Bool}
+use mathlib.Core.Bool.{Bool, true}
 use mathlib.Core.List.{List}
 use mathlib.Core.Path.{_≡_}
-use Prim.Native.Nat.{ℕ}
+use Prim.Native.Nat.{ℕ, _≤_}
 use Rattle.records.specs.Result.{Result, err, ok, andThen}
 use Rattle.records.specs.declared.TypeInner.{TypeInner}
+use Rattle.flags.specs.Flags.{isSizedData}
 use Rattle.type_info.specs.declared.Previous.{Previous}
 use Rattle.type_info.specs.declared.Row.{Row}
-use Rattle.type_info.specs.Verdict.{distanceOk, minUniform}
-use Rattle.type_info.specs.Verdict.{previousOf}
+use Rattle.type_info.specs.declared.Verdict.{Verdict}
+use Rattle.type_info.specs.Verdict.{minUniform, previousOf, distanceVerdict, distanceOk}
 use Rattle.member_bounds.specs.MemberBounds.{boundsBy, boundsAfter}
 use Rattle.member_rules.specs.MemberRules.{memberUniform, memberStorage, memberImmediates, uniformAfter, storageAfter, immediatesAfter}
 use Rattle.members.specs.declared.State.{State}
@@ -55,6 +56,14 @@ steppedResult j (stepped.Refused number) = err number j 0
 abbrev pub membersResult : Members → Result State
 membersResult (Taken s) = ok s
 membersResult (members.Refused number member) = err number member 0
+
+-- a member that breaks no rule of bounds and needs no distance: it begins at the running end or past it and ends within the span
+pub record InOrder (flags running offset end span : ℕ) (previous : Previous) : Type 0 where
+  pub sizedData : isSizedData flags ≡ true
+  pub apart : running ≤ offset
+  pub inside : end ≤ span
+  pub within : distanceOk previous offset ≡ true
+  pub enough : (i j : ℕ) (v : Verdict) → distanceVerdict minUniform i j offset previous v ≡ v
 
 -- what is taken as a member in order is the member's step; nothing is said of a member that is passed on
 abbrev pub orderedStep : Ordered → Result State → Type 0

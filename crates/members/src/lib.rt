@@ -5,15 +5,15 @@ use type_info::Previous;
 use type_info::Row;
 use type_info::Verdict;
 ghost use mathlib.Core.Path.{_≡_};
+ghost use mathlib.Core.Bool.{true};
 ghost use Prim.Native.Nat.{ℕ, _+_, _*_, _≤_, _<_};
 ghost use lib.ListN.{length};
 ghost use Rattle.records.specs.Record.{memberType, typeInner};
 ghost use Rattle.records.specs.Result.{ok};
 ghost use Rattle.type_info.specs.TypeInfo.{rowsIn, verdictIn};
-ghost use Rattle.type_info.specs.Verdict.{okVerdict, shareVerdict, memberVerdict};
-ghost use Rattle.type_info.specs.Verdict.{structAt, previousOf};
+ghost use Rattle.type_info.specs.Verdict.{okVerdict, shareVerdict, memberVerdict, structAt, previousOf};
 ghost use Rattle.member_bounds.specs.MemberBounds.{isArray};
-ghost use Rattle.members.specs.Members.{memberStep, stateAfter, steppedResult, membersResult, orderedStep};
+ghost use Rattle.members.specs.Members.{memberStep, stateAfter, steppedResult, membersResult, InOrder, orderedStep};
 
 // What is known after some members.
 pub struct State {
@@ -155,7 +155,30 @@ fn verdict_after(
     )
 }
 
-// The step of a member that breaks no rule of bounds and needs no distance, in fewer tests than `member`.
+// Whether a member breaks no rule of bounds and needs no distance.
+fn is_in_order(
+    flags: u32,
+    running: u32,
+    offset: u32,
+    end: u64,
+    span: u32,
+    previous: Previous,
+) -> bool
+    ensures { λ r. ⌜ (r ≡ true → InOrder flags running offset end span previous) ⌝ }
+{
+    if !flags::is_sized_data(flags) {
+        return false;
+    }
+    if offset < running {
+        return false;
+    }
+    if (span as u64) < end {
+        return false;
+    }
+    member_rules::is_enough(type_info::distance_to(previous, offset))
+}
+
+// The step of a member in order, in fewer tests than `member`.
 fn ordered_member(
     types: &[u32],
     rows: &[u32],
@@ -178,21 +201,11 @@ fn ordered_member(
     let flags = rows[at + 2];
     let own = rows[at + 13];
     let sum = member_rules::end_of(offset, rows[at]);
-    if !flags::is_sized_data(flags) {
+    if !is_in_order(flags, so_far.end, offset, sum, span, previous) {
         return Ordered::Other;
     }
-    if offset < so_far.end {
-        return Ordered::Other;
-    }
-    if (span as u64) < sum {
-        return Ordered::Other;
-    }
-    if !member_rules::is_enough(type_info::distance_to(previous, offset)) {
-        return Ordered::Other;
-    }
-    let end = sum as u32;
     let bounds = Bounds {
-        end,
+        end: sum as u32,
         flags: flags::both(so_far.flags, flags),
     };
     let shareable = flags::is_host_shareable(flags);
