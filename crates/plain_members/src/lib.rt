@@ -52,10 +52,12 @@ fn keeps_verdicts(rows: &[u32], t: u32, offset: u32) -> bool
     requires { ⌜ t * 14 + 14 ≤ length (now rows) ⌝ }
     ensures { λ r. ⌜ r ≡ keepsVerdicts (rowsIn (now (rows .entry)) t) offset ⌝ }
 {
-    let at = (t as usize) * records::ROW_WORDS;
-    if (rows[at + 3] == 0) & (rows[at + 8] == 0) & (rows[at + 13] == 0) {
-        return alignment::is_masked(rows[at + 4], offset)
-            & alignment::is_masked(rows[at + 9], offset);
+    if (rows::own_word(rows, t, rows::UNIFORM) == 0)
+        & (rows::own_word(rows, t, rows::STORAGE) == 0)
+        & (rows::own_word(rows, t, rows::IMMEDIATES) == 0)
+    {
+        return alignment::is_masked(rows::own_word(rows, t, rows::UNIFORM_ALIGNMENT), offset)
+            & alignment::is_masked(rows::own_word(rows, t, rows::STORAGE_ALIGNMENT), offset);
     }
     false
 }
@@ -74,9 +76,8 @@ fn plain_member(
     requires { ⌜ t * 6 + 6 ≤ length (now types) ⌝ }
     ensures { λ r. ⌜ ((count j : ℕ) (before : previous.Previous) → leastOf (state .end) before ≡ state .least → Stepped (typeInner (now (types .entry)) t) (rowsIn (now (rows .entry)) t) i count span j t offset before state r) ⌝ }
 {
-    let at = (t as usize) * records::ROW_WORDS;
-    let flags = rows[at + 2];
-    let end = member_rules::end_of(offset, rows[at]);
+    let flags = rows::own_word(rows, t, rows::FLAGS);
+    let end = member_rules::end_of(offset, rows::own_word(rows, t, rows::SIZE));
     if !member_rules::is_plain(flags) {
         return Plain::Other;
     }
@@ -92,8 +93,14 @@ fn plain_member(
     Plain::Took(PlainState {
         end: end as u32,
         flags: flags::both(state.flags, flags),
-        uniform: alignment::larger(state.uniform, rows[at + 4]),
-        storage: alignment::larger(state.storage, rows[at + 9]),
+        uniform: alignment::larger(
+            state.uniform,
+            rows::own_word(rows, t, rows::UNIFORM_ALIGNMENT),
+        ),
+        storage: alignment::larger(
+            state.storage,
+            rows::own_word(rows, t, rows::STORAGE_ALIGNMENT),
+        ),
         least: least_after(types, t, offset, end),
     })
 }
