@@ -34,13 +34,12 @@ fn verdict_at(rows: &[u32], k: u32, w: usize) -> Verdict
     requires { ⌜ k * 14 + (w + 4) < length (now rows) ⌝ }
     ensures { λ r. ⌜ r ≡ verdictIn (now (rows .entry)) k w ⌝ }
 {
-    let at = (k as usize) * records::ROW_WORDS;
     Verdict {
-        code: rows[at + w],
-        ty: rows[at + (w + 1)],
-        index: rows[at + (w + 2)],
-        value: rows[at + (w + 3)],
-        bound: rows[at + (w + 4)],
+        code: rows::own_word(rows, k, w),
+        ty: rows::own_word(rows, k, w + 1),
+        index: rows::own_word(rows, k, w + 2),
+        value: rows::own_word(rows, k, w + 3),
+        bound: rows::own_word(rows, k, w + 4),
     }
 }
 
@@ -51,15 +50,13 @@ pub fn row_at(rows: &[u32], k: u32) -> Row
 {
     let at = (k as usize) * records::ROW_WORDS;
     if at + records::ROW_WORDS <= rows.len() {
-        let uniform = verdict_at(rows, k, 3);
-        let storage = verdict_at(rows, k, 8);
         return Row {
-            size: rows[at],
-            alignment: rows[at + 1],
-            flags: rows[at + 2],
-            uniform,
-            storage,
-            immediates: rows[at + 13],
+            size: rows::own_word(rows, k, rows::SIZE),
+            alignment: rows::own_word(rows, k, rows::ALIGNMENT),
+            flags: rows::own_word(rows, k, rows::FLAGS),
+            uniform: verdict_at(rows, k, rows::UNIFORM),
+            storage: verdict_at(rows, k, rows::STORAGE),
+            immediates: rows::own_word(rows, k, rows::IMMEDIATES),
         };
     }
     empty_row()
@@ -108,10 +105,9 @@ pub fn member_verdict_at(
     if code != 0 {
         return so_far;
     }
-    let at = (k as usize) * records::ROW_WORDS;
-    if rows[at + w] != 0 {
+    if rows::own_word(rows, k, w) != 0 {
         return verdict_at(rows, k, w);
     }
-    let alignment = rows[at + (w + 1)];
+    let alignment = rows::own_word(rows, k, w + 1);
     type_info::offset_verdict(i, j, offset, so_far.ty, alignment)
 }
