@@ -74,7 +74,8 @@ fn member(
         array,
         offset,
         j,
-        row,
+        row.size,
+        row.flags,
         so_far,
     ) {
         Bounded::Within(bounds) => {
