@@ -116,9 +116,8 @@ fn matrix_row(capabilities: u32, kind: u32, width: u32, alignment: u32) -> Plain
 fn binding_array_row(types: &[u32], rows: &[u32], base: u32, form: u32) -> PlainRow
     ensures { λ r. ⌜ plainResult r ≡ plainBy 1 0 (bindingArrayOf (typeInner (now (types .entry)) base) (rowsIn (now (rows .entry)) base .flags) form) ⌝ }
 {
-    let inner = records::type_inner(types, base);
     let flags = rows::row_word(rows, base, 2);
-    plain_row(type_flags::binding_array_of(inner, flags, form), 1, 0)
+    plain_row(type_flags::binding_array_of(types, base, flags, form), 1, 0)
 }
 
 // A type whose record has the words w and is neither array nor struct.
