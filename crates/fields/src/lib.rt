@@ -20,10 +20,6 @@ const MOST_CLASS: u32 = 3;
 
 const MOST_ROLE: u32 = 2;
 
-const POINTER_KIND: u32 = 5;
-
-const BINDING_ARRAY_KIND: u32 = 13;
-
 // Number 2, by kind: the words after the kind lie in their sets, and those that it does not name are 0.
 // Those of atomics are the same.
 pub fn scalar_fields(a: u32, b: u32, c: u32, d: u32, e: u32) -> bool
@@ -134,7 +130,8 @@ fn fields_ok(rows: usize, kind: u32, a: u32, b: u32, c: u32, d: u32, e: u32) -> 
 fn base_within(types: usize, kind: u32, base: u32) -> bool
     ensures { λ r. ⌜ r ≡ baseWithin types kind base ⌝ }
 {
-    !((kind == POINTER_KIND) | (kind == BINDING_ARRAY_KIND)) | ((base as usize) < types)
+    !((kind == records::POINTER_KIND) | (kind == records::BINDING_ARRAY_KIND))
+        | ((base as usize) < types)
 }
 
 // Numbers 2 and 3 of record i, 2 first.

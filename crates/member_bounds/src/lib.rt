@@ -5,8 +5,6 @@ ghost use Rattle.records.specs.Record.{typeInner};
 ghost use Rattle.type_info.specs.Verdict.{isWithin};
 ghost use Rattle.member_bounds.specs.MemberBounds.{isArray, isMemberData, isApart, isMemberSized, memberFlags, boundsBy, boundedResult};
 
-const ARRAY_KIND: u32 = 7;
-
 // The running end and the flags after some members.
 pub struct Bounds {
     pub end: u32,
@@ -22,7 +20,7 @@ pub enum Bounded {
 pub fn is_array(types: &[u32], t: u32) -> bool
     ensures { λ r. ⌜ r ≡ isArray (typeInner (now (types .entry)) t) ⌝ }
 {
-    records::type_word(types, t, 0) == ARRAY_KIND
+    records::type_word(types, t, 0) == records::ARRAY_KIND
 }
 
 // Number 17: data of a size known at shader creation.

@@ -32,14 +32,12 @@ pub struct Reached {
     pub state: PlainState,
 }
 
-const STRUCT_KIND: u32 = 8;
-
 // Where a member after one of type t may begin: at its end, or at the distance that a struct asks for.
 fn least_after(types: &[u32], t: u32, offset: u32, end: u64) -> u64
     requires { ⌜ t * 6 + 6 ≤ length (now types) ⌝ }
     ensures { λ r. ⌜ r ≡ leastOf end (structAt (typeInner (now (types .entry)) t) offset) ⌝ }
 {
-    if records::own_word(types, t, 0) == STRUCT_KIND {
+    if records::own_word(types, t, 0) == records::STRUCT_KIND {
         let span = records::own_word(types, t, 3);
         let apart = (offset as u64) + alignment::round_up(type_info::MIN_UNIFORM, span);
         return if end < apart { apart } else { end };

@@ -68,7 +68,16 @@ const MOST_MEMBERS: usize = 4096;
 // Bits 0 to 12.
 const ALL_CAPABILITIES: u32 = 8191;
 
-const STRUCT_KIND: u32 = 8;
+// Kinds that are told apart without a choice by all of them.
+pub const POINTER_KIND: u32 = 5;
+
+pub const ARRAY_KIND: u32 = 7;
+
+pub const STRUCT_KIND: u32 = 8;
+
+pub const IMAGE_KIND: u32 = 9;
+
+pub const BINDING_ARRAY_KIND: u32 = 13;
 
 // A word of a table; 0 past it.
 pub fn word_at(words: &[u32], at: usize) -> u32

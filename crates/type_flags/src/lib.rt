@@ -17,10 +17,6 @@ pub enum Flagged {
     },
 }
 
-const STRUCT_KIND: u32 = 8;
-
-const IMAGE_KIND: u32 = 9;
-
 const STORAGE_SPACE: u32 = 4;
 
 const D2: u32 = 1;
@@ -188,7 +184,7 @@ pub fn pointer_to(base: u32, space: u32) -> Flagged
 fn is_struct(types: &[u32], t: u32) -> bool
     ensures { λ r. ⌜ r ≡ isStruct (typeInner (now (types .entry)) t) ⌝ }
 {
-    records::type_word(types, t, 0) == STRUCT_KIND
+    records::type_word(types, t, 0) == records::STRUCT_KIND
 }
 
 fn is_external_image(types: &[u32], t: u32) -> bool
@@ -196,7 +192,7 @@ fn is_external_image(types: &[u32], t: u32) -> bool
 {
     let kind = records::type_word(types, t, 0);
     let class = records::type_word(types, t, 3);
-    (kind == IMAGE_KIND) & (class == EXTERNAL)
+    (kind == records::IMAGE_KIND) & (class == EXTERNAL)
 }
 
 // Number 23: data in a binding array is a struct. base: the flags of type t.

@@ -14,10 +14,6 @@ ghost use Rattle.type_info.specs.TypeInfo.{rowsIn};
 ghost use Rattle.members.specs.Members.{stateAfter, membersResult};
 ghost use Rattle.validate_type.specs.ValidateType.{judge, Settled, MembersEarlier};
 
-const ARRAY_KIND: u32 = 7;
-
-const STRUCT_KIND: u32 = 8;
-
 // All members of struct i.
 fn members_of(types: &[u32], rows: &[u32], i: u32, part: &[u32], count: u32, span: u32) -> Members
     requires { ⌜ length (now rows) ≡ i * 14 ⌝ }
@@ -95,11 +91,11 @@ pub fn judge_at(
 {
     let w = records::own_record(types, i);
     let kind = w.kind;
-    if kind == STRUCT_KIND {
+    if kind == records::STRUCT_KIND {
         let part = records::member_part(members, w.a, w.b);
         return struct_at(types, part, rows, i, w.b, w.c);
     }
-    if kind == ARRAY_KIND {
+    if kind == records::ARRAY_KIND {
         return validate_type::array_at(rows, i, w.a, w.b, w.d);
     }
     validate_type::plain_at(capabilities, types, rows, i, w)
