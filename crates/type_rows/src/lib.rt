@@ -5,7 +5,7 @@ ghost use mathlib.Core.Path.{_≡_};
 ghost use Prim.Native.Nat.{_+_, _*_, _%_, _≤_, _<_};
 ghost use lib.ListN.{length};
 ghost use Rattle.rows.specs.Rows.{withRow};
-ghost use Rattle.type_info.specs.TypeInfo.{wordsOf, rowsIn, emptyRow, verdictIn};
+ghost use Rattle.type_info.specs.TypeInfo.{wordsOf, rowsIn, judgedRow, emptyRow, verdictIn};
 ghost use Rattle.type_info.specs.Verdict.{memberVerdict};
 
 // A row of zeros, for a type that has none yet.
@@ -62,28 +62,34 @@ pub fn row_at(rows: &[u32], k: u32) -> Row
     empty_row()
 }
 
-// Writes a row from `at` on.
-pub fn put(rows: &mut [u32], at: usize, row: Row)
-    requires { ⌜ at + 14 ≤ length (now rows) ⌝ }
-    ensures { λ _. ⌜ now (rows .exit) ≡ withRow (now (rows .entry)) at (wordsOf row) ⌝ }
+// Writes what was judged of type i over its row, whose size and alignment stay.
+pub fn put(
+    rows: &mut [u32],
+    i: u32,
+    flags: u32,
+    uniform: Verdict,
+    storage: Verdict,
+    immediates: u32,
+)
+    requires { ⌜ i * 14 + 14 ≤ length (now rows) ⌝ }
+    ensures { λ _. ⌜ now (rows .exit) ≡ withRow (now (rows .entry)) (i * 14) (wordsOf (judgedRow (now (rows .entry)) i flags uniform storage immediates)) ⌝ }
 {
-    let u = row.uniform;
-    let s = row.storage;
+    let at = (i as usize) * records::ROW_WORDS;
     let words = [
-        row.size,
-        row.alignment,
-        row.flags,
-        u.code,
-        u.ty,
-        u.index,
-        u.value,
-        u.bound,
-        s.code,
-        s.ty,
-        s.index,
-        s.value,
-        s.bound,
-        row.immediates,
+        rows[at],
+        rows[at + 1],
+        flags,
+        uniform.code,
+        uniform.ty,
+        uniform.index,
+        uniform.value,
+        uniform.bound,
+        storage.code,
+        storage.ty,
+        storage.index,
+        storage.value,
+        storage.bound,
+        immediates,
     ];
     rows::put_row(rows, at, &words);
 }

@@ -1,6 +1,5 @@
 // validate_type of naga's valid/type.rs: the row of a struct, and of any type by its kind.
 use members::Members;
-use type_info::Row;
 use validate_type::Judged;
 ghost use mathlib.Core.Path.{_≡_};
 ghost use Prim.Native.Nat.{ℕ, _+_, _*_, _≤_, _<_};
@@ -56,15 +55,9 @@ fn struct_at(types: &[u32], part: &[u32], rows: &mut [u32], i: u32, count: u32, 
         Members::Taken(state) => {
             let bounds = state.bounds;
             let alignment = rows[at + 1];
-            let row = Row {
-                size: rows[at],
-                alignment,
-                flags: bounds.flags,
-                uniform: type_info::span_verdict(i, span, alignment, state.uniform),
-                storage: type_info::span_verdict(i, span, alignment, state.storage),
-                immediates: state.immediates,
-            };
-            type_rows::put(rows, at, row);
+            let uniform = type_info::span_verdict(i, span, alignment, state.uniform);
+            let storage = type_info::span_verdict(i, span, alignment, state.storage);
+            type_rows::put(rows, i, bounds.flags, uniform, storage, state.immediates);
             Judged::Made
         }
         Members::Refused { number, member } => Judged::Refused {

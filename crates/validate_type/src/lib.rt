@@ -9,7 +9,6 @@ use type_flags::pointer_to;
 use type_flags::ray_query_flags;
 use type_flags::sampler_flags;
 use type_flags::value_pointer_flags;
-use type_info::Row;
 ghost use mathlib.Core.Path.{_≡_};
 ghost use mathlib.Core.List.{List};
 ghost use Prim.Native.Nat.{ℕ, _+_, _*_, _≤_, _<_};
@@ -164,15 +163,7 @@ pub fn plain_at(capabilities: u32, types: &[u32], rows: &mut [u32], i: u32, w: W
             immediates,
         } => {
             let verdict = type_info::ok_verdict(alignment);
-            let row = Row {
-                size: rows[at],
-                alignment: rows[at + 1],
-                flags,
-                uniform: verdict,
-                storage: verdict,
-                immediates,
-            };
-            type_rows::put(rows, at, row);
+            type_rows::put(rows, i, flags, verdict, verdict, immediates);
             Judged::Made
         }
         PlainRow::Refused {
@@ -211,26 +202,22 @@ pub fn array_at(rows: &mut [u32], i: u32, base: u32, form: u32, stride: u32) -> 
             detail: 0,
         };
     }
-    let row = Row {
-        size: rows[at],
-        alignment: rows[at + 1],
-        flags: flags_by_form(form, element.flags),
-        uniform: type_info::array_verdict(
-            type_info::MIN_UNIFORM,
-            i,
-            stride,
-            element.alignment,
-            element.uniform,
-        ),
-        storage: type_info::array_verdict(
-            type_info::MIN_STORAGE,
-            i,
-            stride,
-            element.alignment,
-            element.storage,
-        ),
-        immediates: element.immediates,
-    };
-    type_rows::put(rows, at, row);
+    let alignment = element.alignment;
+    let uniform = type_info::array_verdict(
+        type_info::MIN_UNIFORM,
+        i,
+        stride,
+        alignment,
+        element.uniform,
+    );
+    let storage = type_info::array_verdict(
+        type_info::MIN_STORAGE,
+        i,
+        stride,
+        alignment,
+        element.storage,
+    );
+    let flags = flags_by_form(form, element.flags);
+    type_rows::put(rows, i, flags, uniform, storage, element.immediates);
     Judged::Made
 }
