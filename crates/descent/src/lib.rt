@@ -1,13 +1,29 @@
 // The descent from a type along steps to the byte place of a leaf.
 use steps::Step;
 ghost use mathlib.Core.Path.{_≡_};
-ghost use Rattle.records.specs.Record.{typeCount, decoded};
-ghost use Rattle.descent.specs.Place.{placeOf, Descends};
+ghost use Rattle.records.specs.Record.{typeCount, typeInner, decoded};
+ghost use Rattle.steps.specs.Steps.{isLeaf};
+ghost use Rattle.descent.specs.Place.{stepIn, placeOf, Descends};
 
 // The byte place of a leaf and its type.
 pub enum Place {
     At { byte: u64, leaf: u32 },
     NoPlace,
+}
+
+// One step from type ty.
+fn step_at(types: &[u32], members: &[u32], ty: u32, step: u32) -> Step
+    ensures { λ r. ⌜ r ≡ stepIn (decoded (now (types .entry)) (now (members .entry))) ty step ⌝ }
+{
+    let inner = records::type_inner(types, ty);
+    let part = records::struct_members(types, members, ty);
+    steps::step_of(inner, part, step)
+}
+
+fn is_leaf_at(types: &[u32], ty: u32) -> bool
+    ensures { λ r. ⌜ r ≡ isLeaf (typeInner (now (types .entry)) ty) ⌝ }
+{
+    steps::is_leaf(records::type_inner(types, ty))
 }
 
 // The place that steps lead to. It asks that steps from a type of the arena add less than 2 ^ 64 bytes in all, as they do in an accepted arena.
@@ -22,9 +38,7 @@ pub fn place_of(types: &[u32], members: &[u32], start: u32, steps: &[u32]) -> Pl
     let mut byte: u64 = 0;
     let mut i = 0;
     while i < steps.len() {
-        let inner = records::type_inner(types, ty);
-        let part = records::struct_members(types, members, ty);
-        match steps::step_of(inner, part, steps[i]) {
+        match step_at(types, members, ty, steps[i]) {
             Step::To { ty: next, bytes } => {
                 ty = next;
                 byte += bytes;
@@ -35,7 +49,7 @@ pub fn place_of(types: &[u32], members: &[u32], start: u32, steps: &[u32]) -> Pl
         }
         i += 1;
     }
-    if steps::is_leaf(records::type_inner(types, ty)) {
+    if is_leaf_at(types, ty) {
         return Place::At { byte, leaf: ty };
     }
     Place::NoPlace

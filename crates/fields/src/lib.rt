@@ -3,7 +3,7 @@ use records::Outcome;
 ghost use mathlib.Core.Path.{_≡_};
 ghost use mathlib.Core.Bool.{_&&_};
 ghost use Prim.Native.Nat.{ℕ, _+_, _*_, _/_, _≤_, _<_};
-ghost use Rattle.records.specs.Record.{scalarKind, vectorKind, matrixKind, cooperativeMatrixKind, atomicKind, pointerKind, valuePointerKind, arrayKind, structKind, imageKind, samplerKind, accelerationStructureKind, rayQueryKind, bindingArrayKind};
+ghost use Rattle.records.specs.Record.{scalarKind, vectorKind, matrixKind, cooperativeMatrixKind, pointerKind, valuePointerKind, arrayKind, structKind, imageKind, samplerKind, accelerationStructureKind, bindingArrayKind};
 ghost use Rattle.records.specs.Fields.{fieldsOk, baseWithin, recordAt};
 ghost use Rattle.records.specs.Table.{firstRefusal, outcomeAt};
 
@@ -20,11 +20,8 @@ const MOST_CLASS: u32 = 3;
 
 const MOST_ROLE: u32 = 2;
 
-const POINTER_KIND: u32 = 5;
-
-const BINDING_ARRAY_KIND: u32 = 13;
-
 // Number 2, by kind: the words after the kind lie in their sets, and those that it does not name are 0.
+// Those of atomics are the same.
 pub fn scalar_fields(a: u32, b: u32, c: u32, d: u32, e: u32) -> bool
     ensures { λ r. ⌜ ((m : ℕ) → r ≡ fieldsOk m scalarKind a b c d e) ⌝ }
 {
@@ -53,12 +50,6 @@ pub fn cooperative_fields(a: u32, b: u32, c: u32, d: u32, e: u32) -> bool
         & ((b == 8) | (b == 16))
         & ((c <= MOST_SCALAR_KIND) & (d <= MOST_WIDTH))
         & (e <= MOST_ROLE)
-}
-
-pub fn atomic_fields(a: u32, b: u32, c: u32, d: u32, e: u32) -> bool
-    ensures { λ r. ⌜ ((m : ℕ) → r ≡ fieldsOk m atomicKind a b c d e) ⌝ }
-{
-    scalar_fields(a, b, c, d, e)
 }
 
 pub fn pointer_fields(b: u32, c: u32, d: u32, e: u32) -> bool
@@ -99,16 +90,11 @@ pub fn sampler_fields(a: u32, b: u32, c: u32, d: u32, e: u32) -> bool
     (a == 0) & (b == 0) & (c == 0) & (d == 0) & (e == 0)
 }
 
+// Those of ray queries are the same.
 pub fn acceleration_fields(a: u32, b: u32, c: u32, d: u32, e: u32) -> bool
     ensures { λ r. ⌜ ((m : ℕ) → r ≡ fieldsOk m accelerationStructureKind a b c d e) ⌝ }
 {
     (a <= 1) & (b == 0) & (c == 0) & (d == 0) & (e == 0)
-}
-
-pub fn ray_query_fields(a: u32, b: u32, c: u32, d: u32, e: u32) -> bool
-    ensures { λ r. ⌜ ((m : ℕ) → r ≡ fieldsOk m rayQueryKind a b c d e) ⌝ }
-{
-    acceleration_fields(a, b, c, d, e)
 }
 
 pub fn binding_array_fields(b: u32, c: u32, d: u32, e: u32) -> bool
@@ -126,7 +112,7 @@ fn fields_ok(rows: usize, kind: u32, a: u32, b: u32, c: u32, d: u32, e: u32) -> 
         1 => vector_fields(a, b, c, d, e),
         2 => matrix_fields(a, b, c, d, e),
         3 => cooperative_fields(a, b, c, d, e),
-        4 => atomic_fields(a, b, c, d, e),
+        4 => scalar_fields(a, b, c, d, e),
         5 => pointer_fields(b, c, d, e),
         6 => value_pointer_fields(a, b, c, d, e),
         7 => array_fields(b, c, e),
@@ -134,7 +120,7 @@ fn fields_ok(rows: usize, kind: u32, a: u32, b: u32, c: u32, d: u32, e: u32) -> 
         9 => image_fields(a, b, c, d, e),
         10 => sampler_fields(a, b, c, d, e),
         11 => acceleration_fields(a, b, c, d, e),
-        12 => ray_query_fields(a, b, c, d, e),
+        12 => acceleration_fields(a, b, c, d, e),
         13 => binding_array_fields(b, c, d, e),
         _ => false,
     }
@@ -144,7 +130,8 @@ fn fields_ok(rows: usize, kind: u32, a: u32, b: u32, c: u32, d: u32, e: u32) -> 
 fn base_within(types: usize, kind: u32, base: u32) -> bool
     ensures { λ r. ⌜ r ≡ baseWithin types kind base ⌝ }
 {
-    !((kind == POINTER_KIND) | (kind == BINDING_ARRAY_KIND)) | ((base as usize) < types)
+    !((kind == records::POINTER_KIND) | (kind == records::BINDING_ARRAY_KIND))
+        | ((base as usize) < types)
 }
 
 // Numbers 2 and 3 of record i, 2 first.

@@ -2,7 +2,7 @@
 ghost use mathlib.Core.Path.{_≡_};
 ghost use Prim.Native.Nat.{_<_};
 ghost use lib.Bits.{bitAnd, bitOr};
-ghost use Rattle.flags.specs.Flags.{bit, dataBit, sizedBit, hostShareableBit, creationResolvedBit, isSizedData, startingFlags, scalarFlags, argumentFlag, pointerFlags, arrayFlags, runtimeArrayFlags, bindingArrayFlags, notHostShareable};
+ghost use Rattle.flags.specs.Flags.{bit, dataBit, sizedBit, hostShareableBit, creationResolvedBit, isSizedData, startingFlags, scalarFlags, spaceFlag, pointerFlags, arrayFlags, runtimeArrayFlags, bindingArrayFlags, notHostShareable};
 
 // 01's kinds, as indexes of the table.
 pub const SCALAR_KIND: usize = 0;
@@ -33,35 +33,56 @@ pub const RAY_QUERY_KIND: usize = 12;
 
 pub const BINDING_ARRAY_KIND: usize = 13;
 
-// The starting flags of each kind, by its number.
-const STARTING_FLAGS: [u32; 14] = [
-    255,
-    255,
-    247,
-    247,
-    147,
-    134,
-    134,
-    247,
-    247,
-    160,
-    160,
-    160,
-    195,
-    146,
-];
+const DATA: u32 = 1;
 
-const BOOL: u32 = 3;
+const SIZED: u32 = 2;
+
+const COPY: u32 = 4;
+
+const IO_SHAREABLE: u32 = 8;
+
+const HOST_SHAREABLE: u32 = 16;
 
 const ARGUMENT: u32 = 32;
-// All flags but IO_SHAREABLE and HOST_SHAREABLE.
-const NOT_SHAREABLE: u32 = 231;
 
-const NOT_HOST_SHAREABLE: u32 = 239;
-// DATA, COPY, HOST_SHAREABLE and CREATION_RESOLVED.
-const RUNTIME_ARRAY: u32 = 149;
-// HOST_SHAREABLE and CREATION_RESOLVED.
-const DYNAMIC_BINDING_ARRAY: u32 = 144;
+const CONSTRUCTIBLE: u32 = 64;
+
+const CREATION_RESOLVED: u32 = 128;
+// All flags but IO_SHAREABLE and HOST_SHAREABLE.
+const UNSHAREABLE: u32 = DATA | SIZED | COPY | ARGUMENT | CONSTRUCTIBLE | CREATION_RESOLVED;
+// Scalars and vectors.
+const NUMERIC: u32 = UNSHAREABLE | IO_SHAREABLE | HOST_SHAREABLE;
+// Matrices, arrays and structs.
+const COMPOSITE: u32 = UNSHAREABLE | HOST_SHAREABLE;
+// Pointers of both kinds.
+const REFERENCE: u32 = SIZED | COPY | CREATION_RESOLVED;
+// Images, samplers and acceleration structures.
+const HANDLE: u32 = ARGUMENT | CREATION_RESOLVED;
+// The starting flags of each kind, by its number.
+const STARTING_FLAGS: [u32; 14] = [
+    NUMERIC,
+    NUMERIC,
+    COMPOSITE,
+    COMPOSITE,
+    DATA | SIZED | HOST_SHAREABLE | CREATION_RESOLVED,
+    REFERENCE,
+    REFERENCE,
+    COMPOSITE,
+    COMPOSITE,
+    HANDLE,
+    HANDLE,
+    HANDLE,
+    DATA | SIZED | CONSTRUCTIBLE | CREATION_RESOLVED,
+    SIZED | HOST_SHAREABLE | CREATION_RESOLVED,
+];
+
+const RUNTIME_ARRAY: u32 = DATA | COPY | HOST_SHAREABLE | CREATION_RESOLVED;
+
+const DYNAMIC_BINDING_ARRAY: u32 = HOST_SHAREABLE | CREATION_RESOLVED;
+
+const NOT_HOST_SHAREABLE: u32 = UNSHAREABLE | IO_SHAREABLE;
+
+const BOOL: u32 = 3;
 
 // Bit k of a capability word.
 pub fn capable(capabilities: u32, k: u32) -> bool
@@ -114,15 +135,15 @@ pub fn scalar_flags(scalar_kind: u32, flags: u32) -> u32
     ensures { λ r. ⌜ r ≡ scalarFlags «scalar_kind» flags ⌝ }
 {
     if scalar_kind == BOOL {
-        flags & NOT_SHAREABLE
+        flags & UNSHAREABLE
     } else {
         flags
     }
 }
 
-// ptr_space_argument_flag.
-fn argument_flag(space: u32) -> u32
-    ensures { λ r. ⌜ r ≡ argumentFlag space ⌝ }
+// ptr_space_space_flag.
+fn space_flag(space: u32) -> u32
+    ensures { λ r. ⌜ r ≡ spaceFlag space ⌝ }
 {
     if (space <= 1) | (8 <= space) {
         ARGUMENT
@@ -134,7 +155,7 @@ fn argument_flag(space: u32) -> u32
 pub fn pointer_flags(space: u32, flags: u32) -> u32
     ensures { λ r. ⌜ r ≡ pointerFlags space flags ⌝ }
 {
-    let argument = argument_flag(space);
+    let argument = space_flag(space);
     flags | argument
 }
 

@@ -73,19 +73,19 @@ data-stays true x y t u = bit-and-both x y dataBit t u
 data-stays false x y t u = bit-and-both (bitAnd x y) 239 dataBit (bit-and-both x y dataBit t u) tt
 
 -- a member that is taken has a distance that can be told
-pub bounds-within : (count span : ℕ) (within array : Bool) (offset j : ℕ) (r : Row) (so-far b : Bounds)
-    → boundsBy count span within array offset j r so-far ≡ ok b → within ≡ true
-bounds-within count span within array offset j r so-far b e =
-    let fine : Result Bounds = ok (record { end = offset + r .size; flags = memberFlags (so-far .end) offset (bitAnd (so-far .flags) (r .flags)) }) in
-    let sized = require (isMemberSized (r .flags) array j count) 20 j 0 fine in
+pub bounds-within : (count span : ℕ) (within array : Bool) (offset j size flags : ℕ) (so-far b : Bounds)
+    → boundsBy count span within array offset j size flags so-far ≡ ok b → within ≡ true
+bounds-within count span within array offset j size flags so-far b e =
+    let fine : Result Bounds = ok (record { end = offset + size; flags = memberFlags (so-far .end) offset (bitAnd (so-far .flags) flags) }) in
+    let sized = require (isMemberSized flags array j count) 20 j 0 fine in
     let distant = require within 21 j 0 sized in
-    let inside = require (leb (offset + r .size) span) 19 j 0 distant in
-    let summed = require (leb (offset + r .size) most) 21 j 0 inside in
+    let inside = require (leb (offset + size) span) 19 j 0 distant in
+    let summed = require (leb (offset + size) most) 21 j 0 inside in
     let apart = require (isApart (so-far .end) offset) 18 j 0 summed in
-    let e1 = required (isMemberData (r .flags)) 17 j 0 apart b e .1 in
+    let e1 = required (isMemberData flags) 17 j 0 apart b e .1 in
     let e2 = required (isApart (so-far .end) offset) 18 j 0 summed b e1 .1 in
-    let e3 = required (leb (offset + r .size) most) 21 j 0 inside b e2 .1 in
-    let e4 = required (leb (offset + r .size) span) 19 j 0 distant b e3 .1 in
+    let e3 = required (leb (offset + size) most) 21 j 0 inside b e2 .1 in
+    let e4 = required (leb (offset + size) span) 19 j 0 distant b e3 .1 in
     T-true within (required within 21 j 0 sized b e4 .0)
 
 -- ---- all members

@@ -42,20 +42,22 @@ isApart end offset = leb end offset || eqb offset 0
 abbrev pub isMemberSized : (flags : ℕ) (array : Bool) (j count : ℕ) → Bool
 isMemberSized flags array j count = bit flags sizedBit || array && eqb (suc j) count
 
--- member j of `count`, of the type whose row is r; numbers 17 to 21 in the Rust's order. within: the distance from a struct before it can
--- be told. array: its type is an array
-abbrev pub boundsBy : (count span : ℕ) (within array : Bool) (offset j : ℕ) → Row → Bounds → Result Bounds
-boundsBy count span within array offset j r so-far =
-    require (isMemberData (r .flags)) 17 j 0
+-- member j of `count`, of a type with this size and these flags; numbers 17 to 21 in the Rust's order. within: the distance from a struct
+-- before it can be told. array: its type is an array
+abbrev pub boundsBy : (count span : ℕ) (within array : Bool) (offset j size flags : ℕ) → Bounds → Result Bounds
+boundsBy count span within array offset j size flags so-far =
+    require (isMemberData flags) 17 j 0
     (require (isApart (so-far .end) offset) 18 j 0
-    (require (leb (offset + r .size) most) 21 j 0
-    (require (leb (offset + r .size) span) 19 j 0
+    (require (leb (offset + size) most) 21 j 0
+    (require (leb (offset + size) span) 19 j 0
     (require within 21 j 0
-    (require (isMemberSized (r .flags) array j count) 20 j 0
-    (ok (record { end = offset + r .size; flags = memberFlags (so-far .end) offset (bitAnd (so-far .flags) (r .flags)) })))))))
+    (require (isMemberSized flags array j count) 20 j 0
+    (ok (record { end = offset + size; flags = memberFlags (so-far .end) offset (bitAnd (so-far .flags) flags) })))))))
 
+-- r: the row of its type
 unfoldable pub memberBounds : (count span : ℕ) → Previous → TypeInner → (offset j : ℕ) → Row → Bounds → Result Bounds
-memberBounds count span previous inner offset j r so-far = boundsBy count span (distanceOk previous offset) (isArray inner) offset j r so-far
+memberBounds count span previous inner offset j r so-far =
+    boundsBy count span (distanceOk previous offset) (isArray inner) offset j (r .size) (r .flags) so-far
 
 -- the running end and the flags after j members
 unfoldable pub boundsAfter : (inner : ℕ → TypeInner) (rows : ℕ → Row) (count span : ℕ) (members : List ℕ) → ℕ → Result Bounds

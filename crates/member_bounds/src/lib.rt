@@ -1,12 +1,9 @@
 // The rules of one member of a struct on what is accepted and on flags, of the member loop of validate_type in naga's valid/type.rs.
 use type_info::Distance;
-use type_info::Row;
 ghost use mathlib.Core.Path.{_≡_};
 ghost use Rattle.records.specs.Record.{typeInner};
 ghost use Rattle.type_info.specs.Verdict.{isWithin};
 ghost use Rattle.member_bounds.specs.MemberBounds.{isArray, isMemberData, isApart, isMemberSized, memberFlags, boundsBy, boundedResult};
-
-const ARRAY_KIND: u32 = 7;
 
 // The running end and the flags after some members.
 pub struct Bounds {
@@ -23,7 +20,7 @@ pub enum Bounded {
 pub fn is_array(types: &[u32], t: u32) -> bool
     ensures { λ r. ⌜ r ≡ isArray (typeInner (now (types .entry)) t) ⌝ }
 {
-    records::type_word(types, t, 0) == ARRAY_KIND
+    records::type_word(types, t, 0) == records::ARRAY_KIND
 }
 
 // Number 17: data of a size known at shader creation.
@@ -76,14 +73,14 @@ pub fn member_bounds(
     array: bool,
     offset: u32,
     j: u32,
-    row: Row,
+    size: u32,
+    flags: u32,
     so_far: Bounds,
 ) -> Bounded
-    ensures { λ r. ⌜ boundedResult j r ≡ boundsBy count span within array offset j row «so_far» ⌝ }
+    ensures { λ r. ⌜ boundedResult j r ≡ boundsBy count span within array offset j size flags «so_far» ⌝ }
 {
-    let size = row.size;
     let end = so_far.end;
-    if !is_member_data(row.flags) {
+    if !is_member_data(flags) {
         return Bounded::Refused(17);
     }
     if !is_apart(end, offset) {
@@ -100,9 +97,12 @@ pub fn member_bounds(
     if !within {
         return Bounded::Refused(21);
     }
-    if !is_member_sized(row.flags, array, j, count) {
+    if !is_member_sized(flags, array, j, count) {
         return Bounded::Refused(20);
     }
-    let flags = member_flags(end, offset, flags::both(so_far.flags, row.flags));
-    Bounded::Within(Bounds { end: next, flags })
+    let joined = flags::both(so_far.flags, flags);
+    Bounded::Within(Bounds {
+        end: next,
+        flags: member_flags(end, offset, joined),
+    })
 }

@@ -10,13 +10,11 @@ ghost use Rattle.type_info.specs.Verdict.{structAt};
 ghost use Rattle.type_info.specs.declared.Previous.the-variants.{NoStruct};
 ghost use Rattle.member_rules.specs.MemberRules.{memberStorage, memberImmediates, uniformBy, isPlain, isEnough};
 
-const STRUCT_KIND: u32 = 8;
-
 // The struct that a member of type t is, for the distance of the next one.
 pub fn struct_at(types: &[u32], t: u32, offset: u32) -> Previous
     ensures { λ r. ⌜ r ≡ structAt (typeInner (now (types .entry)) t) offset ⌝ }
 {
-    if records::type_word(types, t, 0) == STRUCT_KIND {
+    if records::type_word(types, t, 0) == records::STRUCT_KIND {
         let span = records::type_word(types, t, 3);
         return Previous::StructBefore { span, offset };
     }

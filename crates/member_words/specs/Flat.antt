@@ -1,4 +1,4 @@
--- 01, 'Features to use': members as a lent run of member records, and the member words that they stand for.
+-- 01, 'Shapes that must change': members as a lent run of member records, and the member words that they stand for.
 -- Assumes nothing.
 use Prim.Native.Nat.{ℕ}
 use mathlib.Core.List.{List, [], _∷_}

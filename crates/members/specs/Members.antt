@@ -40,7 +40,7 @@ stateAfter inner rows i count span members j =
 -- from the state before member j to the one after it. array, next: `isArray` and `structAt` of its type
 unfoldable pub memberStep : (i count span j t offset : ℕ) (array : Bool) (next : Previous) → Row → State → Result State
 memberStep i count span j t offset array next r s =
-    andThen (boundsBy count span (distanceOk (s .previous) offset) array offset j r (s .bounds))
+    andThen (boundsBy count span (distanceOk (s .previous) offset) array offset j (r .size) (r .flags) (s .bounds))
     (λ b. ok (record {
       bounds = b;
       uniform = memberUniform minUniform i j t offset (s .previous) r (s .uniform);

@@ -74,7 +74,8 @@ fn member(
         array,
         offset,
         j,
-        row,
+        row.size,
+        row.flags,
         so_far,
     ) {
         Bounded::Within(bounds) => {
@@ -197,10 +198,9 @@ fn ordered_member(
     let previous = state.previous;
     let uniform = state.uniform;
     let storage = state.storage;
-    let at = (t as usize) * records::ROW_WORDS;
-    let flags = rows[at + 2];
-    let own = rows[at + 13];
-    let sum = member_rules::end_of(offset, rows[at]);
+    let flags = rows::own_word(rows, t, rows::FLAGS);
+    let own = rows::own_word(rows, t, rows::IMMEDIATES);
+    let sum = member_rules::end_of(offset, rows::own_word(rows, t, rows::SIZE));
     if !is_in_order(flags, so_far.end, offset, sum, span, previous) {
         return Ordered::Other;
     }
@@ -211,8 +211,8 @@ fn ordered_member(
     let shareable = flags::is_host_shareable(flags);
     Ordered::Took(State {
         bounds,
-        uniform: verdict_after(rows, t, 3, shareable, i, j, offset, uniform),
-        storage: verdict_after(rows, t, 8, shareable, i, j, offset, storage),
+        uniform: verdict_after(rows, t, rows::UNIFORM, shareable, i, j, offset, uniform),
+        storage: verdict_after(rows, t, rows::STORAGE, shareable, i, j, offset, storage),
         immediates: member_rules::immediates_of(own, state.immediates),
         previous: member_rules::struct_at(types, t, offset),
     })

@@ -32,14 +32,12 @@ pub struct Reached {
     pub state: PlainState,
 }
 
-const STRUCT_KIND: u32 = 8;
-
 // Where a member after one of type t may begin: at its end, or at the distance that a struct asks for.
 fn least_after(types: &[u32], t: u32, offset: u32, end: u64) -> u64
     requires { ⌜ t * 6 + 6 ≤ length (now types) ⌝ }
     ensures { λ r. ⌜ r ≡ leastOf end (structAt (typeInner (now (types .entry)) t) offset) ⌝ }
 {
-    if records::own_word(types, t, 0) == STRUCT_KIND {
+    if records::own_word(types, t, 0) == records::STRUCT_KIND {
         let span = records::own_word(types, t, 3);
         let apart = (offset as u64) + alignment::round_up(type_info::MIN_UNIFORM, span);
         return if end < apart { apart } else { end };
@@ -52,10 +50,12 @@ fn keeps_verdicts(rows: &[u32], t: u32, offset: u32) -> bool
     requires { ⌜ t * 14 + 14 ≤ length (now rows) ⌝ }
     ensures { λ r. ⌜ r ≡ keepsVerdicts (rowsIn (now (rows .entry)) t) offset ⌝ }
 {
-    let at = (t as usize) * records::ROW_WORDS;
-    if (rows[at + 3] == 0) & (rows[at + 8] == 0) & (rows[at + 13] == 0) {
-        return alignment::is_masked(rows[at + 4], offset)
-            & alignment::is_masked(rows[at + 9], offset);
+    if (rows::own_word(rows, t, rows::UNIFORM) == 0)
+        & (rows::own_word(rows, t, rows::STORAGE) == 0)
+        & (rows::own_word(rows, t, rows::IMMEDIATES) == 0)
+    {
+        return alignment::is_masked(rows::own_word(rows, t, rows::UNIFORM_ALIGNMENT), offset)
+            & alignment::is_masked(rows::own_word(rows, t, rows::STORAGE_ALIGNMENT), offset);
     }
     false
 }
@@ -74,9 +74,8 @@ fn plain_member(
     requires { ⌜ t * 6 + 6 ≤ length (now types) ⌝ }
     ensures { λ r. ⌜ ((count j : ℕ) (before : previous.Previous) → leastOf (state .end) before ≡ state .least → Stepped (typeInner (now (types .entry)) t) (rowsIn (now (rows .entry)) t) i count span j t offset before state r) ⌝ }
 {
-    let at = (t as usize) * records::ROW_WORDS;
-    let flags = rows[at + 2];
-    let end = member_rules::end_of(offset, rows[at]);
+    let flags = rows::own_word(rows, t, rows::FLAGS);
+    let end = member_rules::end_of(offset, rows::own_word(rows, t, rows::SIZE));
     if !member_rules::is_plain(flags) {
         return Plain::Other;
     }
@@ -92,8 +91,14 @@ fn plain_member(
     Plain::Took(PlainState {
         end: end as u32,
         flags: flags::both(state.flags, flags),
-        uniform: alignment::larger(state.uniform, rows[at + 4]),
-        storage: alignment::larger(state.storage, rows[at + 9]),
+        uniform: alignment::larger(
+            state.uniform,
+            rows::own_word(rows, t, rows::UNIFORM_ALIGNMENT),
+        ),
+        storage: alignment::larger(
+            state.storage,
+            rows::own_word(rows, t, rows::STORAGE_ALIGNMENT),
+        ),
         least: least_after(types, t, offset, end),
     })
 }

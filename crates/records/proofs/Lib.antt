@@ -1,3 +1,4 @@
 pub mod ResultLaws
 pub mod TableLaws
 pub mod RecordLaws
+pub mod KindLaws

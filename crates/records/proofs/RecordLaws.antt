@@ -7,7 +7,7 @@ use Prim.Native.Nat.{ℕ, _+_, _*_, _/_, _%_, _≤_, _<_}
 use native.Mathlib.Omega.{arith}
 use lib.Dec.{T, leb, eqb, leb→le, eqb→eq}
 use lib.ListN.{length, take, drop}
-use borrow.Author.Tests.{lt-ltb, le-ltb, le-leb, lt-leb, eq-eqb, ne-eqb}
+use borrow.Author.Tests.{lt-ltb, le-leb, eq-eqb, ne-eqb}
 use Rattle.records.specs.Result.{Result, ok, pick, require}
 use Rattle.records.specs.Record.{typeWords, typeWord, typeCount, memberCount, memberWords, structKind, structMembers, innerOf, typeInner}
 use Rattle.records.specs.Fields.{mostTypes, mostMembers, rowWords, tablesFit, scalarOk, vectorSizeOk, cooperativeSizeOk, fieldsOk, baseWithin, recordAt, InnerBounds}
@@ -15,17 +15,9 @@ use Rattle.records.specs.declared.TypeInner.{TypeInner}
 use Rattle.records.proofs.ResultLaws.{required, true-T, and-left, and-right}
 
 module _ (ts ms : List ℕ) (i : ℕ) where
-  pub members-outside : typeCount ts ≤ i → structMembers ts ms i ≡ []
-  unfolding structMembers
-  members-outside h = rw (le-ltb i (typeCount ts) h)
-
   pub members-no-struct : i < typeCount ts → (typeWord ts i 0 ≡ structKind → ⊥) → structMembers ts ms i ≡ []
   unfolding structMembers
   members-no-struct h k = rw (lt-ltb i (typeCount ts) h, ne-eqb (typeWord ts i 0) structKind k)
-
-  pub members-past : i < typeCount ts → typeWord ts i 0 ≡ structKind → memberCount ms < typeWord ts i 1 + typeWord ts i 2 → structMembers ts ms i ≡ []
-  unfolding structMembers
-  members-past h k l = rw (lt-ltb i (typeCount ts) h, k, lt-leb (typeWord ts i 1 + typeWord ts i 2) (memberCount ms) l)
 
   pub members-part : i < typeCount ts → typeWord ts i 0 ≡ structKind → typeWord ts i 1 + typeWord ts i 2 ≤ memberCount ms
       → structMembers ts ms i ≡ take (typeWord ts i 2 * memberWords) (drop (typeWord ts i 1 * memberWords) ms)

@@ -15,6 +15,11 @@ pub pick-alike {ℓ κ} : {A : Type ℓ} {B : Type κ} (f : A → B) (v : B) (t 
 pick-alike f v true x y p q = p
 pick-alike f v false x y p q = q
 
+-- the same, where the first is alike if the test holds
+pub pick-when {ℓ κ} : {A : Type ℓ} {B : Type κ} (f : A → B) (v : B) (t : Bool) (x y : A) → (t ≡ true → f x ≡ v) → f y ≡ v → f (pick t x y) ≡ v
+pick-when f v true x y p q = p refl
+pick-when f v false x y p q = q
+
 pub required {ℓ} : {A : Type ℓ} (b : Bool) (n m d : ℕ) (o : Result A) (a : A) → require b n m d o ≡ ok a → T b × (o ≡ ok a)
 required true n m d o a e = (tt, e)
 required false n m d o a e = let z : _≡_ {A = ℕ} 0 1 = cc in absurd (omega arith)

@@ -68,7 +68,16 @@ const MOST_MEMBERS: usize = 4096;
 // Bits 0 to 12.
 const ALL_CAPABILITIES: u32 = 8191;
 
-const STRUCT_KIND: u32 = 8;
+// Kinds that are told apart without a choice by all of them.
+pub const POINTER_KIND: u32 = 5;
+
+pub const ARRAY_KIND: u32 = 7;
+
+pub const STRUCT_KIND: u32 = 8;
+
+pub const IMAGE_KIND: u32 = 9;
+
+pub const BINDING_ARRAY_KIND: u32 = 13;
 
 // A word of a table; 0 past it.
 pub fn word_at(words: &[u32], at: usize) -> u32
@@ -163,14 +172,13 @@ pub fn own_record(types: &[u32], i: u32) -> Words
     requires { ⌜ i * 6 + 6 ≤ length (now types) ⌝ }
     ensures { λ r. ⌜ r ≡ recordWords (now (types .entry)) i ⌝ }
 {
-    let at = (i as usize) * TYPE_WORDS;
     Words {
-        kind: types[at],
-        a: types[at + 1],
-        b: types[at + 2],
-        c: types[at + 3],
-        d: types[at + 4],
-        e: types[at + 5],
+        kind: own_word(types, i, 0),
+        a: own_word(types, i, 1),
+        b: own_word(types, i, 2),
+        c: own_word(types, i, 3),
+        d: own_word(types, i, 4),
+        e: own_word(types, i, 5),
     }
 }
 
@@ -213,28 +221,6 @@ pub fn type_inner(types: &[u32], i: u32) -> TypeInner
     inner_of(w.kind, w.a, w.b, w.c, w.d, w.e)
 }
 
-// The member rows of struct i, handed back as that part of the caller's table.
-pub fn struct_members<'a>(types: &[u32], members: &'a [u32], i: u32) -> &'a [u32]
-    ensures { λ r. ⌜ now r ≡ structMembers (now (types .entry)) (now (members .entry)) i ⌝ }
-{
-    let kind = type_word(types, i, 0);
-    let first = type_word(types, i, 1) as usize;
-    let count = type_word(types, i, 2) as usize;
-    let last = first + count;
-    if types.len() / TYPE_WORDS <= i as usize {
-        return &members[..0];
-    }
-    if kind != STRUCT_KIND {
-        return &members[..0];
-    }
-    if members.len() / MEMBER_WORDS < last {
-        return &members[..0];
-    }
-    let start = first * MEMBER_WORDS;
-    let end = last * MEMBER_WORDS;
-    &members[start..end]
-}
-
 // So many member rows from a first one on, which the table has.
 pub fn member_part(members: &[u32], first: u32, count: u32) -> &[u32]
     requires { ⌜ first + count ≤ memberCount (now members) ⌝ }
@@ -243,6 +229,23 @@ pub fn member_part(members: &[u32], first: u32, count: u32) -> &[u32]
     let start = (first as usize) * MEMBER_WORDS;
     let end = start + (count as usize) * MEMBER_WORDS;
     &members[start..end]
+}
+
+// The member rows of struct i, handed back as that part of the caller's table.
+pub fn struct_members<'a>(types: &[u32], members: &'a [u32], i: u32) -> &'a [u32]
+    ensures { λ r. ⌜ now r ≡ structMembers (now (types .entry)) (now (members .entry)) i ⌝ }
+{
+    let kind = type_word(types, i, 0);
+    let first = type_word(types, i, 1);
+    let count = type_word(types, i, 2);
+    let last = first as usize + count as usize;
+    if ((i as usize) < types.len() / TYPE_WORDS)
+        & (kind == STRUCT_KIND)
+        & (last <= members.len() / MEMBER_WORDS)
+    {
+        return member_part(members, first, count);
+    }
+    &members[..0]
 }
 
 // Number 1: whole records, not too many, and a row for each type.

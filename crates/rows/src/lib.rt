@@ -5,11 +5,36 @@ ghost use lib.ListN.{length};
 ghost use Rattle.rows.specs.Rows.{rowWord, layoutRow, withRow, cleared};
 use records::ROW_WORDS;
 
+// The words of a row. A verdict has five words: its code, and next, where that is 0, its alignment.
+pub const SIZE: usize = 0;
+
+pub const ALIGNMENT: usize = 1;
+
+pub const FLAGS: usize = 2;
+
+pub const UNIFORM: usize = 3;
+
+pub const UNIFORM_ALIGNMENT: usize = 4;
+
+pub const STORAGE: usize = 8;
+
+pub const STORAGE_ALIGNMENT: usize = 9;
+
+pub const IMMEDIATES: usize = 13;
+
 // Word j of row k; 0 past the rows.
 pub fn row_word(rows: &[u32], k: u32, j: u32) -> u32
     ensures { λ r. ⌜ r ≡ rowWord (now (rows .entry)) k j ⌝ }
 {
     records::word_at(rows, (k as usize) * ROW_WORDS + (j as usize))
+}
+
+// The same of a row that stands there, with no test.
+pub fn own_word(rows: &[u32], k: u32, j: usize) -> u32
+    requires { ⌜ k * 14 + j < length (now rows) ⌝ }
+    ensures { λ r. ⌜ r ≡ rowWord (now (rows .entry)) k j ⌝ }
+{
+    rows[(k as usize) * ROW_WORDS + j]
 }
 
 // Zeroes the first n words.

@@ -63,7 +63,7 @@ pub fn members_alignment(rows: &[u32], i: u32, part: &[u32], count: u32) -> Alig
                 member: j as u32,
             };
         }
-        a = alignment::larger(a, rows[(ty as usize) * records::ROW_WORDS + 1]);
+        a = alignment::larger(a, rows::own_word(rows, ty, rows::ALIGNMENT));
         j += 1;
     }
     Aligned::To(a)

@@ -1,11 +1,8 @@
 // What validate_type of naga's valid/type.rs says of a type's flags, by its kind.
-use records::NonData;
-use records::TypeInner;
 use width::Width;
 ghost use mathlib.Core.Path.{_≡_};
 ghost use Rattle.records.specs.Result.{err, ok};
-ghost use Rattle.records.specs.Record.{atomicKind, valuePointerKind, samplerKind};
-ghost use Rattle.records.specs.declared.TypeInner.the-variants.{Other};
+ghost use Rattle.records.specs.Record.{atomicKind, valuePointerKind, samplerKind, typeInner};
 ghost use Rattle.flags.specs.Flags.{startingFlags, pointerFlags};
 ghost use Rattle.width.specs.Width.{widthResult, checkWidth, atomicWidth};
 ghost use Rattle.type_flags.specs.TypeFlags.{withWidth, cooperativeFlags, vertexFlags, matrixFlags, rayQueryFlags, isFlat, cubeAllowed, isExternalForm, externalAllowed, imageFlags, isStruct, isExternalImage, pointerTo, accelerationFlags, isBindingBase, bindingArrayOf, flaggedResult};
@@ -183,66 +180,36 @@ pub fn pointer_to(base: u32, space: u32) -> Flagged
     refused(14)
 }
 
-fn is_struct(inner: TypeInner) -> bool
-    ensures { λ r. ⌜ r ≡ isStruct inner ⌝ }
+// Whether type t is a struct; its kind tells.
+fn is_struct(types: &[u32], t: u32) -> bool
+    ensures { λ r. ⌜ r ≡ isStruct (typeInner (now (types .entry)) t) ⌝ }
 {
-    match inner {
-        TypeInner::Plain(_) => false,
-        TypeInner::Array {
-            base: _,
-            count: _,
-            stride: _,
-        } => false,
-        TypeInner::RuntimeArray { base: _, stride: _ } => false,
-        TypeInner::Struct { count: _, span: _ } => true,
-        TypeInner::Other(_) => false,
-    }
+    records::type_word(types, t, 0) == records::STRUCT_KIND
 }
 
-fn is_external(o: NonData) -> bool
-    ensures { λ r. ⌜ r ≡ isExternalImage (Other o) ⌝ }
+fn is_external_image(types: &[u32], t: u32) -> bool
+    ensures { λ r. ⌜ r ≡ isExternalImage (typeInner (now (types .entry)) t) ⌝ }
 {
-    match o {
-        NonData::Pointer(_, _) => false,
-        NonData::ValuePointer(_, _, _) => false,
-        NonData::Image(_, _, class) => class == EXTERNAL,
-        NonData::Sampler => false,
-        NonData::AccelerationStructure(_) => false,
-        NonData::BindingArray(_, _, _) => false,
-    }
+    let kind = records::type_word(types, t, 0);
+    let class = records::type_word(types, t, 3);
+    (kind == records::IMAGE_KIND) & (class == EXTERNAL)
 }
 
-fn is_external_image(inner: TypeInner) -> bool
-    ensures { λ r. ⌜ r ≡ isExternalImage inner ⌝ }
+// Number 23: data in a binding array is a struct. base: the flags of type t.
+fn is_binding_base(types: &[u32], t: u32, base: u32) -> bool
+    ensures { λ r. ⌜ r ≡ isBindingBase (typeInner (now (types .entry)) t) base ⌝ }
 {
-    match inner {
-        TypeInner::Plain(_) => false,
-        TypeInner::Array {
-            base: _,
-            count: _,
-            stride: _,
-        } => false,
-        TypeInner::RuntimeArray { base: _, stride: _ } => false,
-        TypeInner::Struct { count: _, span: _ } => false,
-        TypeInner::Other(o) => is_external(o),
-    }
+    !flags::is_data(base) | is_struct(types, t)
 }
 
-// Number 23: data in a binding array is a struct.
-fn is_binding_base(inner: TypeInner, base: u32) -> bool
-    ensures { λ r. ⌜ r ≡ isBindingBase inner base ⌝ }
+// A binding array over type t, which has the flags `base`.
+pub fn binding_array_of(types: &[u32], t: u32, base: u32, form: u32) -> Flagged
+    ensures { λ r. ⌜ flaggedResult r ≡ bindingArrayOf (typeInner (now (types .entry)) t) base form ⌝ }
 {
-    !flags::is_data(base) | is_struct(inner)
-}
-
-// A binding array over a base with these flags.
-pub fn binding_array_of(inner: TypeInner, base: u32, form: u32) -> Flagged
-    ensures { λ r. ⌜ flaggedResult r ≡ bindingArrayOf inner base form ⌝ }
-{
-    if !is_binding_base(inner, base) {
+    if !is_binding_base(types, t, base) {
         return refused(23);
     }
-    if is_external_image(inner) {
+    if is_external_image(types, t) {
         return refused(24);
     }
     if flags::is_creation_resolved(base) {

@@ -179,7 +179,7 @@ pub fn layout_of(types: &[u32], members: &[u32], rows: &[u32], i: u32) -> Laid
         9 => handle_layout(fields::image_fields(a, b, c, d, e), 0),
         10 => handle_layout(fields::sampler_fields(a, b, c, d, e), 0),
         11 => handle_layout(fields::acceleration_fields(a, b, c, d, e), 0),
-        12 => handle_layout(fields::ray_query_fields(a, b, c, d, e), 0),
+        12 => handle_layout(fields::acceleration_fields(a, b, c, d, e), 0),
         13 => based_layout(fields::binding_array_fields(b, c, d, e), within, 0),
         _ => unfit(),
     }

@@ -5,7 +5,7 @@ ghost use mathlib.Core.Path.{_≡_};
 ghost use Prim.Native.Nat.{_+_, _*_, _%_, _≤_, _<_};
 ghost use lib.ListN.{length};
 ghost use Rattle.rows.specs.Rows.{withRow};
-ghost use Rattle.type_info.specs.TypeInfo.{wordsOf, rowsIn, emptyRow, verdictIn};
+ghost use Rattle.type_info.specs.TypeInfo.{wordsOf, rowsIn, judgedRow, emptyRow, verdictIn};
 ghost use Rattle.type_info.specs.Verdict.{memberVerdict};
 
 // A row of zeros, for a type that has none yet.
@@ -34,13 +34,12 @@ fn verdict_at(rows: &[u32], k: u32, w: usize) -> Verdict
     requires { ⌜ k * 14 + (w + 4) < length (now rows) ⌝ }
     ensures { λ r. ⌜ r ≡ verdictIn (now (rows .entry)) k w ⌝ }
 {
-    let at = (k as usize) * records::ROW_WORDS;
     Verdict {
-        code: rows[at + w],
-        ty: rows[at + (w + 1)],
-        index: rows[at + (w + 2)],
-        value: rows[at + (w + 3)],
-        bound: rows[at + (w + 4)],
+        code: rows::own_word(rows, k, w),
+        ty: rows::own_word(rows, k, w + 1),
+        index: rows::own_word(rows, k, w + 2),
+        value: rows::own_word(rows, k, w + 3),
+        bound: rows::own_word(rows, k, w + 4),
     }
 }
 
@@ -51,42 +50,46 @@ pub fn row_at(rows: &[u32], k: u32) -> Row
 {
     let at = (k as usize) * records::ROW_WORDS;
     if at + records::ROW_WORDS <= rows.len() {
-        let uniform = verdict_at(rows, k, 3);
-        let storage = verdict_at(rows, k, 8);
         return Row {
-            size: rows[at],
-            alignment: rows[at + 1],
-            flags: rows[at + 2],
-            uniform,
-            storage,
-            immediates: rows[at + 13],
+            size: rows::own_word(rows, k, rows::SIZE),
+            alignment: rows::own_word(rows, k, rows::ALIGNMENT),
+            flags: rows::own_word(rows, k, rows::FLAGS),
+            uniform: verdict_at(rows, k, rows::UNIFORM),
+            storage: verdict_at(rows, k, rows::STORAGE),
+            immediates: rows::own_word(rows, k, rows::IMMEDIATES),
         };
     }
     empty_row()
 }
 
-// Writes a row from `at` on.
-pub fn put(rows: &mut [u32], at: usize, row: Row)
-    requires { ⌜ at + 14 ≤ length (now rows) ⌝ }
-    ensures { λ _. ⌜ now (rows .exit) ≡ withRow (now (rows .entry)) at (wordsOf row) ⌝ }
+// Writes what was judged of type i over its row, whose size and alignment stay.
+pub fn put(
+    rows: &mut [u32],
+    i: u32,
+    flags: u32,
+    uniform: Verdict,
+    storage: Verdict,
+    immediates: u32,
+)
+    requires { ⌜ i * 14 + 14 ≤ length (now rows) ⌝ }
+    ensures { λ _. ⌜ now (rows .exit) ≡ withRow (now (rows .entry)) (i * 14) (wordsOf (judgedRow (now (rows .entry)) i flags uniform storage immediates)) ⌝ }
 {
-    let u = row.uniform;
-    let s = row.storage;
+    let at = (i as usize) * records::ROW_WORDS;
     let words = [
-        row.size,
-        row.alignment,
-        row.flags,
-        u.code,
-        u.ty,
-        u.index,
-        u.value,
-        u.bound,
-        s.code,
-        s.ty,
-        s.index,
-        s.value,
-        s.bound,
-        row.immediates,
+        rows[at],
+        rows[at + 1],
+        flags,
+        uniform.code,
+        uniform.ty,
+        uniform.index,
+        uniform.value,
+        uniform.bound,
+        storage.code,
+        storage.ty,
+        storage.index,
+        storage.value,
+        storage.bound,
+        immediates,
     ];
     rows::put_row(rows, at, &words);
 }
@@ -108,10 +111,9 @@ pub fn member_verdict_at(
     if code != 0 {
         return so_far;
     }
-    let at = (k as usize) * records::ROW_WORDS;
-    if rows[at + w] != 0 {
+    if rows::own_word(rows, k, w) != 0 {
         return verdict_at(rows, k, w);
     }
-    let alignment = rows[at + (w + 1)];
+    let alignment = rows::own_word(rows, k, w + 1);
     type_info::offset_verdict(i, j, offset, so_far.ty, alignment)
 }

@@ -1,6 +1,5 @@
 // validate_type of naga's valid/type.rs: the row of a struct, and of any type by its kind.
 use members::Members;
-use type_info::Row;
 use validate_type::Judged;
 ghost use mathlib.Core.Path.{_≡_};
 ghost use Prim.Native.Nat.{ℕ, _+_, _*_, _≤_, _<_};
@@ -13,10 +12,6 @@ ghost use Rattle.type_alignment.specs.TypeAlignment.{layoutsIn};
 ghost use Rattle.type_info.specs.TypeInfo.{rowsIn};
 ghost use Rattle.members.specs.Members.{stateAfter, membersResult};
 ghost use Rattle.validate_type.specs.ValidateType.{judge, Settled, MembersEarlier};
-
-const ARRAY_KIND: u32 = 7;
-
-const STRUCT_KIND: u32 = 8;
 
 // All members of struct i.
 fn members_of(types: &[u32], rows: &[u32], i: u32, part: &[u32], count: u32, span: u32) -> Members
@@ -60,15 +55,9 @@ fn struct_at(types: &[u32], part: &[u32], rows: &mut [u32], i: u32, count: u32, 
         Members::Taken(state) => {
             let bounds = state.bounds;
             let alignment = rows[at + 1];
-            let row = Row {
-                size: rows[at],
-                alignment,
-                flags: bounds.flags,
-                uniform: type_info::span_verdict(i, span, alignment, state.uniform),
-                storage: type_info::span_verdict(i, span, alignment, state.storage),
-                immediates: state.immediates,
-            };
-            type_rows::put(rows, at, row);
+            let uniform = type_info::span_verdict(i, span, alignment, state.uniform);
+            let storage = type_info::span_verdict(i, span, alignment, state.storage);
+            type_rows::put(rows, i, bounds.flags, uniform, storage, state.immediates);
             Judged::Made
         }
         Members::Refused { number, member } => Judged::Refused {
@@ -95,11 +84,11 @@ pub fn judge_at(
 {
     let w = records::own_record(types, i);
     let kind = w.kind;
-    if kind == STRUCT_KIND {
+    if kind == records::STRUCT_KIND {
         let part = records::member_part(members, w.a, w.b);
         return struct_at(types, part, rows, i, w.b, w.c);
     }
-    if kind == ARRAY_KIND {
+    if kind == records::ARRAY_KIND {
         return validate_type::array_at(rows, i, w.a, w.b, w.d);
     }
     validate_type::plain_at(capabilities, types, rows, i, w)

@@ -9,7 +9,6 @@ use type_flags::pointer_to;
 use type_flags::ray_query_flags;
 use type_flags::sampler_flags;
 use type_flags::value_pointer_flags;
-use type_info::Row;
 ghost use mathlib.Core.Path.{_≡_};
 ghost use mathlib.Core.List.{List};
 ghost use Prim.Native.Nat.{ℕ, _+_, _*_, _≤_, _<_};
@@ -116,9 +115,8 @@ fn matrix_row(capabilities: u32, kind: u32, width: u32, alignment: u32) -> Plain
 fn binding_array_row(types: &[u32], rows: &[u32], base: u32, form: u32) -> PlainRow
     ensures { λ r. ⌜ plainResult r ≡ plainBy 1 0 (bindingArrayOf (typeInner (now (types .entry)) base) (rowsIn (now (rows .entry)) base .flags) form) ⌝ }
 {
-    let inner = records::type_inner(types, base);
     let flags = rows::row_word(rows, base, 2);
-    plain_row(type_flags::binding_array_of(inner, flags, form), 1, 0)
+    plain_row(type_flags::binding_array_of(types, base, flags, form), 1, 0)
 }
 
 // A type whose record has the words w and is neither array nor struct.
@@ -165,15 +163,7 @@ pub fn plain_at(capabilities: u32, types: &[u32], rows: &mut [u32], i: u32, w: W
             immediates,
         } => {
             let verdict = type_info::ok_verdict(alignment);
-            let row = Row {
-                size: rows[at],
-                alignment: rows[at + 1],
-                flags,
-                uniform: verdict,
-                storage: verdict,
-                immediates,
-            };
-            type_rows::put(rows, at, row);
+            type_rows::put(rows, i, flags, verdict, verdict, immediates);
             Judged::Made
         }
         PlainRow::Refused {
@@ -212,26 +202,22 @@ pub fn array_at(rows: &mut [u32], i: u32, base: u32, form: u32, stride: u32) -> 
             detail: 0,
         };
     }
-    let row = Row {
-        size: rows[at],
-        alignment: rows[at + 1],
-        flags: flags_by_form(form, element.flags),
-        uniform: type_info::array_verdict(
-            type_info::MIN_UNIFORM,
-            i,
-            stride,
-            element.alignment,
-            element.uniform,
-        ),
-        storage: type_info::array_verdict(
-            type_info::MIN_STORAGE,
-            i,
-            stride,
-            element.alignment,
-            element.storage,
-        ),
-        immediates: element.immediates,
-    };
-    type_rows::put(rows, at, row);
+    let alignment = element.alignment;
+    let uniform = type_info::array_verdict(
+        type_info::MIN_UNIFORM,
+        i,
+        stride,
+        alignment,
+        element.uniform,
+    );
+    let storage = type_info::array_verdict(
+        type_info::MIN_STORAGE,
+        i,
+        stride,
+        alignment,
+        element.storage,
+    );
+    let flags = flags_by_form(form, element.flags);
+    type_rows::put(rows, i, flags, uniform, storage, element.immediates);
     Judged::Made
 }

@@ -21,23 +21,19 @@ loop-holds : tie.Need-loop-holds Inv-loop μ-loop
 loop-holds c = looking-start _ _ _ _ (c .before .before .before .before .before .pre) (rw (c .before .type-count .ensures) at (c .if1 .left))
 
 add-byte : tie.Need-add-byte Inv-loop μ-loop
-add-byte c = record { fits = omega (arith, looking-fits (looking-step (c .before .before .before .before .before .before .before .before .loop .inv) (c .before .before .before .before .before .before .before .loop-test .taken) (sym (c .before .next .given .1) ∙ (rw (c .before .before .before .before .before .struct-members .ensures, c .before .before .before .before .before .before .type-inner .ensures) at (c .before .before .before .step-of .ensures))))) }
+add-byte c = record { fits = omega (arith, looking-fits (looking-step (c .before .before .before .before .before .before .loop .inv) (c .before .before .before .before .before .loop-test .taken) (sym (c .before .next .given .1) ∙ c .before .before .before .step-at .ensures))) }
 
 returns-2 : tie.Need-returns-2 Inv-loop μ-loop
-returns-2 c = looking-ends (c .before .before .before .before .before .before .before .loop .inv) (c .before .before .before .before .before .before .loop-test .taken) (sym (c .enum-told .given .1) ∙ (rw (c .before .before .before .before .struct-members .ensures, c .before .before .before .before .before .type-inner .ensures) at (c .before .before .step-of .ensures)))
+returns-2 c = looking-ends (c .before .before .before .before .before .loop .inv) (c .before .before .before .before .loop-test .taken) (sym (c .enum-told .given .1) ∙ c .before .before .step-at .ensures)
 
 loop-again : tie.Need-loop-again Inv-loop μ-loop
-loop-again c = looking-at (looking-step (c .before .before .before .before .before .before .before .before .loop .inv) (c .before .before .before .before .before .before .before .loop-test .taken) (sym (c .before .next .given .1) ∙ (rw (c .before .before .before .before .before .struct-members .ensures, c .before .before .before .before .before .before .type-inner .ensures) at (c .before .before .before .step-of .ensures)))) _ refl
+loop-again c = looking-at (looking-step (c .before .before .before .before .before .before .loop .inv) (c .before .before .before .before .before .loop-test .taken) (sym (c .before .next .given .1) ∙ c .before .before .before .step-at .ensures)) _ refl
 
 returns-3 : tie.Need-returns-3 Inv-loop μ-loop
-returns-3 c =
-    let e = rw (c .before .before .type-inner2 .ensures) at (sym (c .before .is-leaf .ensures) ∙ c .if2 .taken) in
-    rw e at (looking-done (c .before .before .before .before .loop .inv) (c .before .before .before .loop-test .left))
+returns-3 c = rw (sym (c .before .is-leaf-at .ensures) ∙ c .if2 .taken) at (looking-done (c .before .before .before .loop .inv) (c .before .before .loop-test .left))
 
 returns-4 : tie.Need-returns-4 Inv-loop μ-loop
-returns-4 c =
-    let e = rw (c .before .before .type-inner2 .ensures) at (sym (c .before .is-leaf .ensures) ∙ c .if2 .left) in
-    rw e at (looking-done (c .before .before .before .before .loop .inv) (c .before .before .before .loop-test .left))
+returns-4 c = rw (sym (c .before .is-leaf-at .ensures) ∙ c .if2 .left) at (looking-done (c .before .before .before .loop .inv) (c .before .before .loop-test .left))
 
 pub place-of-spec : {M : Type 1} → statement M
 place-of-spec =
@@ -48,8 +44,6 @@ place-of-spec =
     (λ c κs. search needs)
     returns
     loop-holds
-    (λ c κs. search needs)
-    (λ c κs. search needs)
     (λ c. search needs)
     (λ c. search needs)
     (λ c κs. search needs)
@@ -60,7 +54,6 @@ place-of-spec =
     (λ c. search needs)
     (λ c. search needs)
     loop-again
-    (λ c κs. search needs)
     (λ c κs. search needs)
     returns-3
     returns-4)

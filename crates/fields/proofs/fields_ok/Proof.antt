@@ -19,7 +19,8 @@ returns-4 : tie.Need-returns-4
 returns-4 c = rw (c .before .match .keys4) (c .cooperative-fields .ensures (c .before .before .args .rows))
 
 returns-5 : tie.Need-returns-5
-returns-5 c = rw (c .before .match .keys5) (c .atomic-fields .ensures (c .before .before .args .rows))
+unfolding fieldsOk
+returns-5 c = rw (c .before .match .keys5) (c .scalar-fields2 .ensures (c .before .before .args .rows))
 
 returns-6 : tie.Need-returns-6
 returns-6 c = rw (c .before .match .keys6) (c .pointer-fields .ensures (c .before .before .args .rows) (c .before .before .args .a))
@@ -43,7 +44,8 @@ returns-12 : tie.Need-returns-12
 returns-12 c = rw (c .before .match .keys12) (c .acceleration-fields .ensures (c .before .before .args .rows))
 
 returns-13 : tie.Need-returns-13
-returns-13 c = rw (c .before .match .keys13) (c .ray-query-fields .ensures (c .before .before .args .rows))
+unfolding fieldsOk
+returns-13 c = rw (c .before .match .keys13) (c .acceleration-fields2 .ensures (c .before .before .args .rows))
 
 returns-14 : tie.Need-returns-14
 returns-14 c = rw (c .before .match .keys14) (c .binding-array-fields .ensures (c .before .before .args .rows) (c .before .before .args .a))

@@ -3,7 +3,7 @@ use Rattle.flags.proofs.pointer_flags.Statement.{statement}
 use Rattle.flags.proofs.pointer_flags.Tie as tie
 
 returns : tie.Need-returns
-returns c = rw (c .argument-flag .ensures)
+returns c = rw (c .space-flag .ensures)
 
 pub pointer-flags-spec : {M : Type 1} → statement M
 pointer-flags-spec =

@@ -35,7 +35,6 @@ member-bounds-spec =
     (λ c κs. search needs)
     returns-2
     (λ c. search needs)
-    (λ c. search needs)
     returns-3
     (λ c. search needs)
     returns-4

@@ -13,7 +13,7 @@ returns c =
     let a = c .before .before .before .before .before .before .before .before .before .before .before .before .args in
     let d = c .before .before .before .before .before .before .before .before .distance-to in
     let by = rw (c .before .before .before .before .bounds .given .1, c .before .before .before .before .before .before .before .is-within .ensures) at (c .before .before .before .before .before .before .member-bounds .ensures) in
-    let told = bounds-within (a .count) (a .span) (isWithin (d .result)) (a .array) (a .offset) (a .j) (a .row) (a .state .bounds) (c .before .before .before .before .bounds .given .0 .0) (sym by) in
+    let told = bounds-within (a .count) (a .span) (isWithin (d .result)) (a .array) (a .offset) (a .j) (a .row .size) (a .row .flags) (a .state .bounds) (c .before .before .before .before .bounds .given .0 .0) (sym by) in
     let taken = rw (d .ensures .0) at by in
     let uniform = uniform-by (d .result) (a .state .previous) (a .i) (a .j) (a .t) (a .offset) (a .row) (a .state .uniform) (λ v. d .ensures .1 (a .i) (a .j) v told) in
     rw (← taken, c .immediates-of .ensures, c .before .storage-of .ensures, c .before .before .uniform-of .ensures, uniform) refl

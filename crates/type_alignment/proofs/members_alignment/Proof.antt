@@ -34,7 +34,7 @@ loop-again c =
     let a = c .before .before .before .before .before .before .before .before .args in
     let earlier = rw (c .before .before .before .own-type .ensures) at (c .before .before .if1 .left) in
     let step = member-earlier (layoutsIn (now (a .rows))) (a .i) (now (a .part)) (l .j) (l .a) (l .inv .1) earlier in
-    (search needs, rw (c .larger .ensures, c .before .before .before .own-type .ensures) step)
+    (search needs, rw (c .larger .ensures, c .before .own-word .ensures, c .before .before .before .own-type .ensures) step)
 
 returns-2 : tie.Need-returns-2 Inv-loop μ-loop
 returns-2 c =
@@ -51,11 +51,7 @@ members-alignment-spec =
     (λ c κs. search needs)
     (λ c. search needs)
     returns
-    (λ c. search needs)
-    (λ c. search needs)
-    (λ c. search needs)
-    (λ c. search needs)
-    (λ c. search needs)
+    (λ c κs. search needs)
     (λ c κs. search needs)
     (λ c. search needs)
     (λ c. search needs)

@@ -139,14 +139,14 @@ returns-12 c =
     ∙ by-words ts ms ls (a .i) (w .result) (w .ensures) 11 (c .before .before .match .keys12)
 
 returns-13 : tie.Need-returns-13
-unfolding innerOf layoutOf trySize alignmentOf
+unfolding fieldsOk innerOf layoutOf trySize alignmentOf
 returns-13 c =
     let a = c .before .before .before .before .before .before .before .args in
     let ts = now (a .types) in
     let ms = now (a .members) in
     let ls = layoutsIn (now (a .rows)) in
     let w = c .before .before .before .own-record in
-    rw (c .before .ray-query-fields .ensures (memberCount ms)) at (c .handle-layout5 .ensures)
+    rw (c .before .acceleration-fields2 .ensures (memberCount ms)) at (c .handle-layout5 .ensures)
     ∙ by-words ts ms ls (a .i) (w .result) (w .ensures) 12 (c .before .before .match .keys13)
 
 returns-14 : tie.Need-returns-14

@@ -1,7 +1,6 @@
 use borrow.Author.Needs.{needs}
 use mathlib.Core.Path.{_≡_, refl}
-use Prim.Native.Nat.{ℕ, _+_, _*_}
-use native.Mathlib.Nat.{add-zero}
+use Prim.Native.Nat.{ℕ}
 use native.Mathlib.Omega.{arith}
 use denote.Ref.{now}
 use lib.ListN.{List·getD-eq-default}
@@ -12,7 +11,7 @@ use Rattle.type_rows.proofs.row_at.Tie as tie
 
 returns : tie.Need-returns
 unfolding rowsIn
-returns c = rw (c .before .before .before .before .verdict-at2 .ensures, c .before .before .before .before .before .verdict-at .ensures, add-zero (c .before .before .before .before .before .before .before .before .args .k * 14)) refl
+returns c = rw (c .own-word4 .ensures, c .before .verdict-at2 .ensures, c .before .before .verdict-at .ensures, c .before .before .before .own-word3 .ensures, c .before .before .before .before .own-word2 .ensures, c .before .before .before .before .before .own-word .ensures) refl
 
 returns-2 : tie.Need-returns-2
 unfolding rowsIn
@@ -29,17 +28,10 @@ row-at-spec =
     (λ c. search needs)
     (λ c κs. search needs)
     (λ c κs. search needs)
-    (λ c. search needs)
-    (λ c. search needs)
-    (λ c. search needs)
-    (λ c. search needs)
-    (λ c. search needs)
-    (λ c. search needs)
-    (λ c. search needs)
-    (λ c. search needs)
-    (λ c. search needs)
-    (λ c. search needs)
-    (λ c. search needs)
+    (λ c κs. search needs)
+    (λ c κs. search needs)
+    (λ c κs. search needs)
+    (λ c κs. search needs)
     returns
     (λ c κs. search needs)
     returns-2)

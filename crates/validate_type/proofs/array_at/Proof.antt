@@ -2,7 +2,6 @@ use borrow.Author.Needs.{needs}
 use mathlib.Core.Path.{refl, sym, _∙_}
 use Prim.Native.Nat.{_*_}
 use native.Mathlib.Omega.{arith}
-use native.Mathlib.Nat.{add-zero}
 use lib.Seq.{length-take-le}
 use borrow.Author.Tests.{not-true, not-false}
 use Rattle.validate_type.proofs.array_at.Statement.{statement}
@@ -19,8 +18,8 @@ returns c = rw (← c .before .before .row-at .ensures, sym (c .before .is-sized
 
 returns-2 : tie.Need-returns-2
 returns-2 c =
-    rw (← c .before .before .before .before .before .before .before .before .before .before .before .row-at .ensures, sym (c .before .before .before .before .before .before .before .before .before .before .is-sized-data .ensures) ∙ not-false _ (c .before .before .before .before .before .before .before .before .before .if1 .left), add-zero (c .before .before .before .before .before .before .before .before .before .before .before .before .before .before .args .i * 14))
-    (refl, rw (c .before .before .before .before .before .before .flags-by-form .ensures, c .before .before .before .before .before .array-verdict .ensures, c .before .before .before .before .array-verdict2 .ensures) at (c .before .before .put .ensures))
+    rw (← c .before .before .before .before .before .before .before .before .before .row-at .ensures, sym (c .before .before .before .before .before .before .before .before .is-sized-data .ensures) ∙ not-false _ (c .before .before .before .before .before .before .before .if1 .left))
+    (refl, rw (c .before .before .before .before .flags-by-form .ensures, c .before .before .before .before .before .array-verdict2 .ensures, c .before .before .before .before .before .before .array-verdict .ensures) at (c .before .before .put .ensures))
 
 pub array-at-spec : {M : Type 1} → statement M
 array-at-spec =
@@ -33,11 +32,6 @@ array-at-spec =
     (λ c κs. search needs)
     (λ c. search needs)
     returns
-    (λ c. search needs)
-    (λ c. search needs)
-    (λ c. search needs)
-    (λ c. search needs)
-    (λ c. search needs)
     (λ c κs. search needs)
     (λ c κs. search needs)
     (λ c κs. search needs)

@@ -2,7 +2,6 @@ use borrow.Author.Needs.{needs}
 use mathlib.Core.Path.{refl, sym}
 use Prim.Native.Nat.{_*_}
 use native.Mathlib.Omega.{arith}
-use native.Mathlib.Nat.{add-zero}
 use lib.Seq.{length-take-le}
 use denote.Ref.{now}
 use Rattle.type_alignment.specs.TypeAlignment.{layoutsIn}
@@ -14,9 +13,9 @@ slice-aggregate-judge-plain c = let a = c .before .before .before .args in sym (
 
 returns : tie.Need-returns
 returns c =
-    let a = c .before .before .before .before .before .before .before .before .before .before .before .before .before .before .args in
-    λ members. rw (← c .before .before .before .before .before .before .before .before .before .before .judge-plain .ensures (a .i) (layoutsIn (now (a .rows)) (a .i)) members, c .before .before .before .before .before .before .before .before .flags .given .1, add-zero (a .i * 14))
-    (refl, rw (c .before .before .before .before .before .before .ok-verdict .ensures) at (c .before .before .put .ensures))
+    let a = c .before .before .before .before .before .before .before .before .before .before .before .before .args in
+    λ members. rw (← c .before .before .before .before .before .before .before .before .judge-plain .ensures (a .i) (layoutsIn (now (a .rows)) (a .i)) members, c .before .before .before .before .before .before .flags .given .1)
+    (refl, rw (c .before .before .before .before .ok-verdict .ensures) at (c .before .before .put .ensures))
 
 returns-2 : tie.Need-returns-2
 returns-2 c =
@@ -33,11 +32,6 @@ plain-at-spec =
     (λ c κs. search needs)
     (λ c. search needs)
     (λ c κs. search needs)
-    (λ c. search needs)
-    (λ c. search needs)
-    (λ c. search needs)
-    (λ c. search needs)
-    (λ c. search needs)
     (λ c κs. search needs)
     (λ c. search needs)
     (λ c. search needs)

@@ -1,0 +1,15 @@
+use borrow.Author.Needs.{needs}
+use Rattle.descent.proofs.step_at.Statement.{statement}
+use Rattle.descent.proofs.step_at.Tie as tie
+
+returns : tie.Need-returns
+returns c = rw (c .before .struct-members .ensures, c .before .before .type-inner .ensures) at (c .step-of .ensures)
+
+pub step-at-spec : {M : Type 1} → statement M
+step-at-spec =
+    tie.close
+    (tie.spec
+    (λ c κs. search needs)
+    (λ c κs. search needs)
+    (λ c κs. search needs)
+    returns)
