@@ -1,5 +1,4 @@
 // The state of a session, and what the lines that ask for no answer do to it.
-use arguments::Command;
 use arguments::Reason;
 use output::Buffer;
 use text::Line;
@@ -79,22 +78,6 @@ fn add(mut s: Session, arena: &mut Arena, at: usize, limit: usize, words: &[u32]
     s
 }
 
-// The number of the line of the text that says what a command takes.
-fn usage(command: Command) -> u32 {
-    match command {
-        Command::Capabilities => 8,
-        Command::TypeRecord => 9,
-        Command::MemberRecord => 10,
-        Command::Check => 11,
-        Command::Members => 12,
-        Command::Slots => 13,
-        Command::Range => 14,
-        Command::Place => 15,
-        Command::Clear => 16,
-        Command::Unknown => 17,
-    }
-}
-
 fn stop(mut s: Session, reason: Reason) -> Session {
     match reason {
         Reason::NotANumber(word) => {
@@ -106,7 +89,8 @@ fn stop(mut s: Session, reason: Reason) -> Session {
             s.why = output::TOO_LARGE;
         }
         Reason::Usage(command) => {
-            s.why = usage(command);
+            let usage = text::usage_of(command);
+            s.why = usage.2;
         }
     }
     s
