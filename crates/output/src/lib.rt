@@ -18,11 +18,11 @@ pub fn flush(out: &[u8], at: usize) -> bool {
     if at > out.len() {
         return false;
     }
-    if io::write_all(STDOUT, &out[..at]) {
-        return true;
+    let written = io::write_all(STDOUT, &out[..at]);
+    if !written {
+        io::write_all(STDERR, b"the answers cannot be written\n");
     }
-    io::write_all(STDERR, b"the answers cannot be written\n");
-    false
+    written
 }
 
 fn put_byte(out: &mut Buffer, at: usize, b: u8) -> usize {
@@ -75,8 +75,15 @@ fn put_words(out: &mut Buffer, at: usize, head: &[u8], words: &[u32], rows: bool
     put_byte(out, end, b'\n')
 }
 
-pub fn put_refusal(out: &mut Buffer, at: usize, words: [u32; 4]) -> usize {
-    put_words(out, at, b"refused", &words, false)
+pub fn put_refusal(
+    out: &mut Buffer,
+    at: usize,
+    number: u32,
+    ty: u32,
+    member: u32,
+    detail: u32,
+) -> usize {
+    put_words(out, at, b"refused", &[number, ty, member, detail], false)
 }
 
 pub fn put_members(out: &mut Buffer, at: usize, words: &[u32]) -> usize {
@@ -92,7 +99,7 @@ pub fn put_outcome(out: &mut Buffer, at: usize, outcome: Outcome, rows: &[u32]) 
             ty,
             member,
             detail,
-        } => put_refusal(out, at, [number, ty, member, detail]),
+        } => put_refusal(out, at, number, ty, member, detail),
     }
 }
 
@@ -107,7 +114,7 @@ pub fn put_slots(out: &mut Buffer, at: usize, answer: SlotsAnswer) -> usize {
             ty,
             member,
             detail,
-        } => put_refusal(out, at, [number, ty, member, detail]),
+        } => put_refusal(out, at, number, ty, member, detail),
     }
 }
 

@@ -47,7 +47,7 @@ fn put_place(
             ty,
             member,
             detail,
-        } => output::put_refusal(out, at, [number, ty, member, detail]),
+        } => output::put_refusal(out, at, number, ty, member, detail),
     }
 }
 
@@ -56,7 +56,7 @@ fn put_answer(
     line: Line,
     numbers: &[u32],
     session: Session,
-    arena: &Arena,
+    arena: &[u32],
     out: &mut Buffer,
 ) -> usize {
     let at = session.waiting;

@@ -16,6 +16,6 @@ flush-spec =
     slice-aggregate-write-all
     (λ c κs. search needs)
     (λ c. search needs)
-    (λ c. search needs)
     (λ c κs. search needs)
+    (λ c. search needs)
     (λ c. search needs))
