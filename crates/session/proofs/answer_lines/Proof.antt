@@ -1,3 +1,4 @@
+-- `session::answer_lines` is safe and ends: each turn goes past the end of a line. Assumes nothing.
 use borrow.Author.Needs.{needs}
 use Prim.Native.Nat.{_-_, _≤_}
 use lib.ListN.{length}

@@ -1,3 +1,4 @@
+-- `session::run` is safe and ends: the turns are counted down. Assumes nothing.
 use borrow.Author.Needs.{needs}
 use mathlib.Core.Path.{_≡_}
 use lib.ListN.{length}

@@ -1,3 +1,4 @@
+-- `session::turn` is safe: what is left of the lines lies before their end. Assumes nothing.
 use native.Mathlib.Omega.{arith}
 use lib.Seq.{length-take-le}
 use borrow.Author.Needs.{needs}

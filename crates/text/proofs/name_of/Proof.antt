@@ -1,11 +1,10 @@
+-- `text::name_of` meets its contract. The invariant: the number is that of the bytes from i on. Assumes nothing.
 use borrow.Author.Needs.{needs}
 use Prim.Native.Nat.{_-_, _≤_}
-use lib.ListN.{length}
--- `text::name_of` meets its contract. The invariant: the number is that of the bytes from i on. Assumes nothing.
 use mathlib.Core.Path.{_≡_, sym, ap}
 use native.Mathlib.Omega.{arith}
 use denote.Ref.{now}
-use lib.ListN.{drop-of-length-le, drop}
+use lib.ListN.{length, drop, drop-of-length-le}
 use borrow.Author.Tests.{le-leb, lt-leb}
 use Rattle.text.specs.Line.{packed, nameOf}
 use Rattle.text.proofs.NameLaws.{rest-within, packed-more}
