@@ -124,7 +124,8 @@ pub fn put_place(out: &mut Buffer, at: usize, byte: u64, leaf: u32) -> usize {
     put_byte(out, b, b'\n')
 }
 
-// Why a session stops: the numbers of the lines of the text in `put_why`, of which the first two are those of a read that failed.
+// Why a session stops: the numbers of the lines of the text in `put_why`. The first two are those of a read that gave no line, in the crate input;
+// the last ten say what a command takes, and `text::usage_of` has their numbers.
 pub const NOT_A_NUMBER: u32 = 4;
 
 pub const TOO_LARGE: u32 = 5;
