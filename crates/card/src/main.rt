@@ -1,24 +1,12 @@
 // The card program: checks a fixed arena and prints a line for each type, its number and then its row. It reads nothing.
-ghost use Prim.Native.Nat.{_+_, _*_, _≤_};
-ghost use lib.ListN.{length};
-
 const STDOUT: i32 = 1;
 
-const ROW_WORDS: usize = 14;
-
-fn wide(x: u32) -> u64 {
-    x as u64
-}
-
-fn print_row(rows: &[u32], i: usize)
-    requires { ⌜ i * 14 + 14 ≤ length (now rows) ⌝ }
-{
+fn print_row(rows: &[u32], i: u32) {
     io::print_decimal(STDOUT, i as u64);
-    let mut j: usize = 0;
-    while j < ROW_WORDS {
+    let mut j: u32 = 0;
+    while j < 14 {
         io::write_all(STDOUT, b" ");
-        let word = wide(rows[i * ROW_WORDS + j]);
-        io::print_decimal(STDOUT, word);
+        io::print_decimal(STDOUT, rows::row_word(rows, i, j) as u64);
         j += 1;
     }
     io::write_all(STDOUT, b"\n");

@@ -2,18 +2,19 @@
 ghost use Prim.Native.Nat.{_≤_};
 ghost use lib.ListN.{length};
 
-// How a read ended.
-pub enum Read {
-    More,
-    Ended,
-    Full,
-    Failed,
-}
+// How a read ended: there may be more to read, or the input has ended, or the buffer is full with no end of a line, or the read failed.
+pub const MORE: u32 = 0;
+
+pub const ENDED: u32 = 1;
+
+pub const FULL: u32 = 2;
+
+pub const FAILED: u32 = 3;
 
 // How many bytes of the buffer are to be answered.
 pub struct Input {
     pub end: usize,
-    pub read: Read,
+    pub read: u32,
 }
 
 const STDIN: i32 = 0;
@@ -25,16 +26,13 @@ pub fn read_more(buffer: &mut [u8], held: usize) -> Input
     ensures { λ r. ⌜ r .end ≤ length (now (buffer .entry)) ⌝ }
 {
     if buffer.len() <= held {
-        return Input {
-            end: 0,
-            read: Read::Full,
-        };
+        return Input { end: 0, read: FULL };
     }
     let got = libc::read(STDIN, &mut buffer[held..]);
     if got < 0 {
         return Input {
             end: 0,
-            read: Read::Failed,
+            read: FAILED,
         };
     }
     let more = io::count(got, &buffer[held..]);
@@ -42,12 +40,12 @@ pub fn read_more(buffer: &mut [u8], held: usize) -> Input
         buffer[held] = NEWLINE;
         return Input {
             end: held + 1,
-            read: Read::Ended,
+            read: ENDED,
         };
     }
     Input {
         end: held + more,
-        read: Read::More,
+        read: MORE,
     }
 }
 

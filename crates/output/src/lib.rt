@@ -1,5 +1,7 @@
 // The answers wait in a buffer, which is written out when it is full and before the program reads again.
 // `at` is how many bytes wait, or one more than the buffer has once a write has failed; each function answers how many do after it.
+use records::Outcome;
+use slots::SlotsAnswer;
 
 // A reference to an array of a known length is proved sooner than one to a slice.
 pub type Buffer = [u8; 65536];
@@ -11,17 +13,16 @@ const STDERR: i32 = 2;
 const FAILED: usize = 65537;
 
 // Writes out what waits; false where that fails or has failed before.
-pub fn flush(out: &[u8], at: usize) -> bool {
-    if at <= out.len() {
-        io::write_all(STDOUT, &out[..at])
-    } else {
-        false
-    }
-}
-
 // A program has no exit status, so a failed write is told where the answers do not go.
-pub fn tell_failed_write() {
-    io::write_all(STDERR, b"the answers cannot be written\n");
+pub fn flush(out: &[u8], at: usize) -> bool {
+    if at > out.len() {
+        return false;
+    }
+    let written = io::write_all(STDOUT, &out[..at]);
+    if !written {
+        io::write_all(STDERR, b"the answers cannot be written\n");
+    }
+    written
 }
 
 fn put_byte(out: &mut Buffer, at: usize, b: u8) -> usize {
@@ -46,30 +47,29 @@ fn put_text(out: &mut Buffer, at: usize, text: &[u8]) -> usize {
     end
 }
 
-fn put_number(out: &mut Buffer, at: usize, n: u64) -> usize {
+// A number after a blank or a newline.
+fn put_number(out: &mut Buffer, at: usize, before: u8, n: u64) -> usize {
     let mut digits = [0u8; 20];
     let k = io::decimal(n, &mut digits);
-    put_text(out, at, &digits[..k])
-}
-
-// A number after a blank.
-fn put_next(out: &mut Buffer, at: usize, n: u64) -> usize {
-    let end = put_byte(out, at, b' ');
-    put_number(out, end, n)
+    let end = put_byte(out, at, before);
+    put_text(out, end, &digits[..k])
 }
 
 // A word and a number.
 fn put_named(out: &mut Buffer, at: usize, name: &[u8], n: u64) -> usize {
     let end = put_text(out, at, name);
-    put_next(out, end, n)
+    put_number(out, end, b' ', n)
 }
 
-// A line of words after its head.
-fn put_words(out: &mut Buffer, at: usize, head: &[u8], words: &[u32]) -> usize {
+// A line of words after its head. With `rows` each fourteen words are a line of their own, which begins with its number.
+fn put_words(out: &mut Buffer, at: usize, head: &[u8], words: &[u32], rows: bool) -> usize {
     let mut end = put_text(out, at, head);
     let mut i = 0;
     while i < words.len() {
-        end = put_next(out, end, records::word_at(words, i) as u64);
+        if rows & (i % 14 == 0) {
+            end = put_number(out, end, b'\n', (i / 14) as u64);
+        }
+        end = put_number(out, end, b' ', records::word_at(words, i) as u64);
         i += 1;
     }
     put_byte(out, end, b'\n')
@@ -83,133 +83,97 @@ pub fn put_refusal(
     member: u32,
     detail: u32,
 ) -> usize {
-    put_words(out, at, b"refused", &[number, ty, member, detail])
+    put_words(out, at, b"refused", &[number, ty, member, detail], false)
 }
 
-pub fn put_members(out: &mut Buffer, at: usize, part: &[u32]) -> usize {
-    put_words(out, at, b"members", part)
+pub fn put_members(out: &mut Buffer, at: usize, words: &[u32]) -> usize {
+    put_words(out, at, b"members", words, false)
 }
 
-// The number of a type and its row.
-fn put_row(out: &mut Buffer, at: usize, rows: &[u32], i: u32) -> usize {
-    let mut end = put_number(out, at, i as u64);
-    let mut k: u32 = 0;
-    while k < 14 {
-        end = put_next(out, end, rows::row_word(rows, i, k) as u64);
-        k += 1;
+// The answer to a check, with the rows of the types.
+pub fn put_outcome(out: &mut Buffer, at: usize, outcome: Outcome, rows: &[u32]) -> usize {
+    match outcome {
+        Outcome::Accepted => put_words(out, at, b"ok", rows, true),
+        Outcome::Refused {
+            number,
+            ty,
+            member,
+            detail,
+        } => put_refusal(out, at, number, ty, member, detail),
     }
-    put_byte(out, end, b'\n')
 }
 
-// The rows of n types.
-pub fn put_rows(out: &mut Buffer, at: usize, rows: &[u32], n: u32) -> usize {
-    let mut end = put_text(out, at, b"ok\n");
-    let mut i: u32 = 0;
-    while i < n {
-        end = put_row(out, end, rows, i);
-        i += 1;
+pub fn put_slots(out: &mut Buffer, at: usize, answer: SlotsAnswer) -> usize {
+    match answer {
+        SlotsAnswer::Slots(mask) => {
+            let end = put_named(out, at, b"slots", mask);
+            put_byte(out, end, b'\n')
+        }
+        SlotsAnswer::Refused {
+            number,
+            ty,
+            member,
+            detail,
+        } => put_refusal(out, at, number, ty, member, detail),
     }
-    end
-}
-
-pub fn put_slots(out: &mut Buffer, at: usize, mask: u64) -> usize {
-    let end = put_named(out, at, b"slots", mask);
-    put_byte(out, end, b'\n')
 }
 
 pub fn put_place(out: &mut Buffer, at: usize, byte: u64, leaf: u32) -> usize {
     let a = put_named(out, at, b"place", byte);
-    let b = put_next(out, a, leaf as u64);
+    let b = put_number(out, a, b' ', leaf as u64);
     put_byte(out, b, b'\n')
 }
 
-// Why a session stops: the numbers of the lines of the text in `put_why`.
-const NOT_A_NUMBER: u32 = 0;
+// Why a session stops: the numbers of the lines of the text in `put_why`. The first two are those of a read that gave no line, in the crate input;
+// the last ten say what a command takes, and `text::usage_of` has their numbers.
+pub const NOT_A_NUMBER: u32 = 4;
 
-const TOO_LARGE: u32 = 1;
+pub const TOO_LARGE: u32 = 5;
 
-pub const LINE_TOO_LONG: u32 = 2;
+pub const TYPES_FULL: u32 = 6;
 
-pub const INPUT_FAILED: u32 = 3;
+pub const MEMBERS_FULL: u32 = 7;
 
-pub const TYPES_FULL: u32 = 4;
-
-pub const MEMBERS_FULL: u32 = 5;
-
-// The line that says what a command takes.
-fn usage_line(command: arguments::Command) -> u32 {
-    match command {
-        arguments::Command::Capabilities => 6,
-        arguments::Command::TypeRecord => 7,
-        arguments::Command::MemberRecord => 8,
-        arguments::Command::Check => 9,
-        arguments::Command::Members => 10,
-        arguments::Command::Slots => 11,
-        arguments::Command::Range => 12,
-        arguments::Command::Place => 13,
-        arguments::Command::Clear => 14,
-        arguments::Command::Unknown => 15,
-    }
-}
-
-// The line of a text that has n lines before it.
-fn put_line_of(out: &mut Buffer, at: usize, text: &[u8], n: u32) -> usize {
+// One text for all the reasons is proved sooner than a text in each arm that has one. Its lines are numbered from 2 on.
+fn put_why(out: &mut Buffer, at: usize, why: u32) -> usize {
+    let text = b": longer than 65535 bytes
+: the input cannot be read
+ is not a decimal number
+ is above 4294967295
+: the arena is full, with 1024 types
+: the member table is full, with 4096 members
+: caps takes one number
+: type takes a kind and at most 5 words
+: member takes a type and an offset
+: check takes no number
+: members takes a type
+: slots takes a type and an offset
+: range takes an offset and a size
+: place takes a type and at most 1024 steps
+: clear takes no number
+: no such command; there are caps, type, member, check, members, slots, range, place and clear
+";
     let mut end = at;
-    let mut before: u32 = 0;
+    let mut line: u32 = 2;
     let mut i = 0;
     while i < text.len() {
         let b = text[i];
-        if before == n {
+        if line == why {
             end = put_byte(out, end, b);
         }
         if b == b'\n' {
-            before = std::num::wrapping_add_u32(before, 1);
+            line = std::num::wrapping_add_u32(line, 1);
         }
         i += 1;
     }
     end
 }
 
-// One text for all the reasons is proved sooner than a text in each arm that has one.
-pub fn put_why(out: &mut Buffer, at: usize, why: u32) -> usize {
-    put_line_of(
-        out,
-        at,
-        b" is not a decimal number
- is above 4294967295
-longer than 65535 bytes
-the input cannot be read
-the arena is full, with 1024 types
-the member table is full, with 4096 members
-caps takes one number
-type takes a kind and at most 5 words
-member takes a type and an offset
-check takes no number
-members takes a type
-slots takes a type and an offset
-range takes an offset and a size
-place takes a type and at most 1024 steps
-clear takes no number
-no such command; there are caps, type, member, check, members, slots, range, place and clear
-",
-        why,
-    )
-}
-
-fn put_word(out: &mut Buffer, at: usize, word: u32, why: u32) -> usize {
-    let end = put_named(out, at, b"word", word as u64);
-    put_why(out, end, why)
-}
-
-pub fn put_reason(out: &mut Buffer, at: usize, reason: arguments::Reason) -> usize {
-    match reason {
-        arguments::Reason::NotANumber(word) => put_word(out, at, word, NOT_A_NUMBER),
-        arguments::Reason::TooLarge(word) => put_word(out, at, word, TOO_LARGE),
-        arguments::Reason::Usage(command) => put_why(out, at, usage_line(command)),
+// The line at which a session stops, the word of it that is wrong, unless that is 0, and why.
+pub fn put_stop(out: &mut Buffer, at: usize, line: u64, word: u32, why: u32) -> usize {
+    let mut end = put_named(out, at, b"line", line);
+    if word > 0 {
+        end = put_named(out, end, b": word", word as u64);
     }
-}
-
-pub fn put_line(out: &mut Buffer, at: usize, line: u64) -> usize {
-    let end = put_named(out, at, b"line", line);
-    put_text(out, end, b": ")
+    put_why(out, end, why)
 }

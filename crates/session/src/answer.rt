@@ -1,100 +1,94 @@
-// The commands that judge the arena, and the answer to a line.
+// The answer to a line.
 use commands::Arena;
 use commands::Session;
 use output::Buffer;
 use place::PlaceAnswer;
-use records::Outcome;
 use text::Line;
 
-fn check(session: Session, arena: &Arena, out: &mut Buffer) -> Session {
+fn put_check(out: &mut Buffer, at: usize, t: &[u32], m: &[u32], c: u32) -> usize {
     let mut rows = [0u32; 14336];
-    let at = session.waiting;
-    let t = commands::part(arena, 0, session.types);
-    let m = commands::part(arena, commands::MEMBERS_AT, session.members);
-    match valid::check(t, m, session.capabilities, &mut rows) {
-        Outcome::Accepted => {
-            let n = records::type_count(t) as u32;
-            commands::with_waiting(session, output::put_rows(out, at, &rows, n))
-        }
-        Outcome::Refused {
-            number,
-            ty,
-            member,
-            detail,
-        } => {
-            commands::with_waiting(
-                session,
-                output::put_refusal(out, at, number, ty, member, detail),
-            )
-        }
-    }
-}
-
-fn slots_of(session: Session, arena: &Arena, out: &mut Buffer, ty: u32, offset: u32) -> Session {
-    let mut rows = [0u32; 14336];
-    let t = commands::part(arena, 0, session.types);
-    let m = commands::part(arena, commands::MEMBERS_AT, session.members);
-    commands::show_slots(
-        session,
+    let outcome = valid::check(t, m, c, &mut rows);
+    output::put_outcome(
         out,
-        immediates::immediate_slots(t, m, session.capabilities, &mut rows, ty, offset),
+        at,
+        outcome,
+        commands::part(&rows, 0, records::type_count(t) * 14),
     )
 }
 
-fn place_of(
-    session: Session,
-    arena: &Arena,
+fn put_slots(
     out: &mut Buffer,
+    at: usize,
+    t: &[u32],
+    m: &[u32],
+    c: u32,
+    ty: u32,
+    offset: u32,
+) -> usize {
+    let mut rows = [0u32; 14336];
+    let answer = immediates::immediate_slots(t, m, c, &mut rows, ty, offset);
+    output::put_slots(out, at, answer)
+}
+
+fn put_place(
+    out: &mut Buffer,
+    at: usize,
+    t: &[u32],
+    m: &[u32],
+    c: u32,
     start: u32,
     steps: &[u32],
-) -> Session {
+) -> usize {
     let mut rows = [0u32; 14336];
-    let at = session.waiting;
-    let t = commands::part(arena, 0, session.types);
-    let m = commands::part(arena, commands::MEMBERS_AT, session.members);
-    match place::lookup(t, m, session.capabilities, &mut rows, start, steps) {
-        PlaceAnswer::Found { byte, leaf } => commands::with_waiting(
-            session,
-            output::put_place(out, at, byte, leaf),
-        ),
+    match place::lookup(t, m, c, &mut rows, start, steps) {
+        PlaceAnswer::Found { byte, leaf } => output::put_place(out, at, byte, leaf),
         PlaceAnswer::Refused {
             number,
             ty,
             member,
             detail,
-        } => {
-            commands::with_waiting(
-                session,
-                output::put_refusal(out, at, number, ty, member, detail),
-            )
-        }
+        } => output::put_refusal(out, at, number, ty, member, detail),
     }
 }
 
-// The steps of a place, which stand after its start.
-fn steps_of(numbers: &[u32], steps: u32) -> &[u32] {
-    let end = steps as usize + 1;
-    if end <= numbers.len() {
-        &numbers[1..end]
-    } else {
-        &numbers[..0]
+// Puts what a line asks for; any other puts nothing.
+fn put_answer(
+    line: Line,
+    numbers: &[u32],
+    session: Session,
+    arena: &[u32],
+    out: &mut Buffer,
+) -> usize {
+    let at = session.waiting;
+    let c = session.capabilities;
+    let t = commands::part(arena, 0, session.types);
+    let m = commands::part(arena, commands::MEMBERS_AT, session.members);
+    match line {
+        Line::Check => put_check(out, at, t, m, c),
+        Line::Members(ty) => output::put_members(out, at, records::struct_members(t, m, ty)),
+        Line::Slots { ty, offset } => put_slots(out, at, t, m, c, ty, offset),
+        Line::Range { offset, size } => output::put_slots(out, at, slots::range(offset, size)),
+        Line::Place { start, steps } => {
+            put_place(
+                out,
+                at,
+                t,
+                m,
+                c,
+                start,
+                commands::part(numbers, 1, steps as usize + 1),
+            )
+        }
+        _ => at,
     }
 }
 
 // Answers a line.
-pub fn answer(line: &[u8], session: Session, arena: &mut Arena, out: &mut Buffer) -> Session {
+pub fn answer(line: &[u8], mut s: Session, arena: &mut Arena, out: &mut Buffer) -> Session {
     let mut numbers = [0u32; 1025];
     let read = text::read_line(line, &mut numbers);
-    match read {
-        Line::Check => check(session, arena, out),
-        Line::Slots { ty, offset } => slots_of(session, arena, out, ty, offset),
-        Line::Place { start, steps } => place_of(
-            session,
-            arena,
-            out,
-            start,
-            steps_of(&numbers, steps),
-        ),
-        _ => commands::change(read, session, arena, out),
-    }
+    s = commands::change(read, s, arena);
+    let waiting = put_answer(read, &numbers, s, arena, out);
+    s.waiting = waiting;
+    s
 }

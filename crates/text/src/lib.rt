@@ -7,7 +7,7 @@ ghost use mathlib.Core.Path.{_≡_};
 ghost use Prim.Native.Nat.{_≤_};
 ghost use lib.ListN.{length, drop};
 ghost use Rattle.words.specs.Words.{textOf, words};
-ghost use Rattle.text.specs.Line.{same, commandOf, laterCommandOf, lastCommandOf, leastOf, mostOf, argumentsOf, listOf, Holds, lineBy, lineWith, lineOf, numbersRead};
+ghost use Rattle.text.specs.Line.{nameOf, commandOf, leastOf, mostOf, argumentsOf, listOf, Holds, lineBy, lineWith, lineOf, numbersRead};
 
 pub enum Line {
     Nothing,
@@ -43,100 +43,66 @@ pub enum Line {
     Wrong(Reason),
 }
 
-fn is_same(a: &[u8], b: &[u8]) -> bool
-    ensures { λ r. ⌜ r ≡ same (now (a .entry)) (now (b .entry)) ⌝ }
+// A word as one number, its first byte lowest and a 1 above its last, so that one match finds a command; 0 for more than seven bytes.
+fn name_of(word: &[u8]) -> u64
+    ensures { λ r. ⌜ r ≡ nameOf (now (word .entry)) ⌝ }
 {
-    if a.len() != b.len() {
-        return false;
+    let mut i = word.len();
+    if i > 7 {
+        return 0;
     }
-    let mut i = 0;
-    while i < a.len() {
-        if a[i] != b[i] {
-            return false;
-        }
-        i += 1;
+    let mut name: u64 = 1;
+    while i > 0 {
+        i -= 1;
+        name = word[i] as u64 + name * 256;
     }
-    true
-}
-
-fn last_command(word: &[u8]) -> Command
-    ensures { λ r. ⌜ r ≡ lastCommandOf (now (word .entry)) ⌝ }
-{
-    if is_same(word, b"range") {
-        return Command::Range;
-    }
-    if is_same(word, b"place") {
-        return Command::Place;
-    }
-    if is_same(word, b"clear") {
-        return Command::Clear;
-    }
-    Command::Unknown
-}
-
-fn later_command(word: &[u8]) -> Command
-    ensures { λ r. ⌜ r ≡ laterCommandOf (now (word .entry)) ⌝ }
-{
-    if is_same(word, b"check") {
-        return Command::Check;
-    }
-    if is_same(word, b"members") {
-        return Command::Members;
-    }
-    if is_same(word, b"slots") {
-        return Command::Slots;
-    }
-    last_command(word)
+    name
 }
 
 pub fn command_of(word: &[u8]) -> Command
     ensures { λ r. ⌜ r ≡ commandOf (now (word .entry)) ⌝ }
 {
-    if is_same(word, b"caps") {
-        return Command::Capabilities;
-    }
-    if is_same(word, b"type") {
-        return Command::TypeRecord;
-    }
-    if is_same(word, b"member") {
-        return Command::MemberRecord;
-    }
-    later_command(word)
-}
-
-// The fewest numbers that a command takes. No count of numbers is right after a word that is no command.
-fn least_of(command: Command) -> u32
-    ensures { λ r. ⌜ r ≡ leastOf command ⌝ }
-{
-    match command {
-        Command::Capabilities => 1,
-        Command::TypeRecord => 1,
-        Command::MemberRecord => 2,
-        Command::Check => 0,
-        Command::Members => 1,
-        Command::Slots => 2,
-        Command::Range => 2,
-        Command::Place => 1,
-        Command::Clear => 0,
-        Command::Unknown => 1,
+    match name_of(word) {
+        // caps
+        0x173706163 => Command::Capabilities,
+        // type
+        0x165707974 => Command::TypeRecord,
+        // member
+        0x17265626d656d => Command::MemberRecord,
+        // check
+        0x16b63656863 => Command::Check,
+        // members
+        0x1737265626d656d => Command::Members,
+        // slots
+        0x173746f6c73 => Command::Slots,
+        // range
+        0x165676e6172 => Command::Range,
+        // place
+        0x16563616c70 => Command::Place,
+        // clear
+        0x17261656c63 => Command::Clear,
+        _ => Command::Unknown,
     }
 }
 
-// The most numbers that a command takes.
-fn most_of(command: Command) -> u32
-    ensures { λ r. ⌜ (r ≡ mostOf command) × (r ≤ 1025) ⌝ }
+// The fewest numbers that a command takes, the most, and which of the reasons why a session stops says so.
+// No count of numbers is right after a word that is no command.
+pub struct Usage(pub u32, pub u32, pub u32);
+
+pub fn usage_of(command: Command) -> Usage
+    ensures { λ r. ⌜ (r .0 ≡ leastOf command) × (r .1 ≡ mostOf command) × (r .1 ≤ 1025) ⌝ }
 {
     match command {
-        Command::Capabilities => 1,
-        Command::TypeRecord => 6,
-        Command::MemberRecord => 2,
-        Command::Check => 0,
-        Command::Members => 1,
-        Command::Slots => 2,
-        Command::Range => 2,
-        Command::Place => 1025,
-        Command::Clear => 0,
-        Command::Unknown => 0,
+        Command::Capabilities => Usage(1, 1, 8),
+        Command::TypeRecord => Usage(1, 6, 9),
+        Command::MemberRecord => Usage(2, 2, 10),
+        Command::Check => Usage(0, 0, 11),
+        Command::Members => Usage(1, 1, 12),
+        Command::Slots => Usage(2, 2, 13),
+        Command::Range => Usage(2, 2, 14),
+        Command::Place => Usage(1, 1025, 15),
+        Command::Clear => Usage(0, 0, 16),
+        Command::Unknown => Usage(1, 0, 17),
     }
 }
 
@@ -178,10 +144,11 @@ fn read_command(s: &[u8], at: usize, command: Command, numbers: &mut [u32]) -> L
     ensures { λ r. ⌜ r ≡ lineWith command (argumentsOf command (words (drop at (now (s .entry))))) ⌝ }
     ensures { λ _. ⌜ Holds (now (numbers .exit)) (listOf (argumentsOf command (words (drop at (now (s .entry)))))) ⌝ }
 {
-    let most = most_of(command);
-    match arguments::read_numbers(s, at, command, most, numbers) {
+    let usage = usage_of(command);
+    let least = usage.0;
+    match arguments::read_numbers(s, at, command, usage.1, numbers) {
         Count::Numbers(count) => {
-            if count < least_of(command) {
+            if count < least {
                 return Line::Wrong(Reason::Usage(command));
             }
             let n = count as usize;

@@ -5,10 +5,10 @@ use Rattle.output.proofs.put_words.Statement.{statement}
 use Rattle.output.proofs.put_words.Tie as tie
 
 abbrev Inv-loop : tie.InvT-loop
-Inv-loop out₀ at head words end₀ i₀ out end i = i ≤ length words
+Inv-loop out₀ at head words rows end₀ i₀ out end i = i ≤ length words
 
 abbrev μ-loop : tie.MeasureT-loop
-μ-loop out₀ at head words end₀ i₀ out end i = length words - i
+μ-loop out₀ at head words rows end₀ i₀ out end i = length words - i
 
 pub put-words-spec : {M : Type 1} → statement M
 put-words-spec =
@@ -18,6 +18,7 @@ put-words-spec =
     μ-loop
     (λ c κs. search needs)
     (λ c. search needs)
+    (λ c κs. search needs)
     (λ c κs. search needs)
     (λ c. search needs)
     (λ c κs. search needs)

@@ -1,19 +1,19 @@
 -- `session::answer_lines` is safe and ends: each turn goes past the end of a line. Assumes nothing.
 use borrow.Author.Needs.{needs}
 use Prim.Native.Nat.{_-_, _≤_}
-use native.Mathlib.Omega.{arith}
 use lib.ListN.{length}
+use native.Mathlib.Omega.{arith}
 use Rattle.session.proofs.answer_lines.Statement.{statement}
 use Rattle.session.proofs.answer_lines.Tie as tie
 
 abbrev Inv-loop : tie.InvT-loop
-Inv-loop input arena₀ out₀ s₀ at₀ end₀ arena out s at end = (at ≤ end) × (end ≤ length input)
+Inv-loop input s₀ arena₀ out₀ at₀ end₀ s arena out at end = (at ≤ end) × (end ≤ length input)
 
 abbrev μ-loop : tie.MeasureT-loop
-μ-loop input arena₀ out₀ s₀ at₀ end₀ arena out s at end = length input - at
+μ-loop input s₀ arena₀ out₀ at₀ end₀ s arena out at end = length input - at
 
 loop-less : tie.Need-loop-less Inv-loop μ-loop
-loop-less c = omega (arith, c .before .before .before .before .before .before .before .loop-test .taken, c .before .before .before .before .before .before .before .before .loop .inv .0)
+loop-less c = omega (arith, c .before .before .before .before .before .before .before .before .loop-test .taken, c .before .before .before .before .before .before .before .before .before .loop .inv .0)
 
 loop-again : tie.Need-loop-again Inv-loop μ-loop
 loop-again c = (c .run-end2 .ensures .1 .0, c .run-end2 .ensures .1 .1)
@@ -29,14 +29,12 @@ answer-lines-spec =
     (λ c. search needs)
     (λ c. search needs)
     (λ c. search needs)
-    (λ c. search needs)
-    (λ c κs. search needs)
     (λ c κs. search needs)
     (λ c. search needs)
     (λ c κs. search needs)
+    (λ c. search needs)
     (λ c κs. search needs)
     loop-less
     loop-again
     (λ c. search needs)
-    (λ c κs. search needs)
     (λ c. search needs))

@@ -1,38 +1,69 @@
--- `text::command_of` meets its contract: each answer follows from the comparisons on the way. Assumes nothing.
+-- `text::command_of` meets its contract: the number that was found says which word it is, or which it is not. Assumes nothing.
 use borrow.Author.Needs.{needs}
-use mathlib.Core.Path.{sym, _∙_}
-use Rattle.text.specs.Line.{commandOf}
+use mathlib.Core.Path.{refl, sym, _∙_}
+use mathlib.Core.List.{[], _∷_}
+use denote.Ref.{now}
+use Rattle.text.specs.Line.{same, packed, nameOf, lastCommandOf, laterCommandOf, commandOf}
+use Rattle.text.proofs.NameLaws.{named, unnamed}
 use Rattle.text.proofs.command_of.Statement.{statement}
 use Rattle.text.proofs.command_of.Tie as tie
 
 returns : tie.Need-returns
-unfolding commandOf
-returns c = rw (sym (c .before .is-same .ensures) ∙ c .if1 .taken)
+unfolding same packed lastCommandOf laterCommandOf commandOf
+returns c = named _ (99 ∷ 97 ∷ 112 ∷ 115 ∷ []) (c .before .before .shared-slice-known .given) refl (sym (c .before .name-of .ensures) ∙ c .match .keys1)
 
 returns-2 : tie.Need-returns-2
-unfolding commandOf
-returns-2 c = rw (sym (c .before .before .before .before .is-same .ensures) ∙ c .before .before .before .if1 .left, sym (c .before .is-same2 .ensures) ∙ c .if2 .taken)
+unfolding same packed lastCommandOf laterCommandOf commandOf
+returns-2 c = named _ (116 ∷ 121 ∷ 112 ∷ 101 ∷ []) (c .before .before .shared-slice-known .given) refl (sym (c .before .name-of .ensures) ∙ c .match .keys2)
 
 returns-3 : tie.Need-returns-3
-unfolding commandOf
-returns-3 c = rw (sym (c .before .before .before .before .before .before .before .is-same .ensures) ∙ c .before .before .before .before .before .before .if1 .left, sym (c .before .before .before .before .is-same2 .ensures) ∙ c .before .before .before .if2 .left, sym (c .before .is-same3 .ensures) ∙ c .if3 .taken)
+unfolding same packed lastCommandOf laterCommandOf commandOf
+returns-3 c = named _ (109 ∷ 101 ∷ 109 ∷ 98 ∷ 101 ∷ 114 ∷ []) (c .before .before .shared-slice-known .given) refl (sym (c .before .name-of .ensures) ∙ c .match .keys3)
 
 returns-4 : tie.Need-returns-4
-unfolding commandOf
-returns-4 c = rw (sym (c .before .before .before .before .before .before .before .before .is-same .ensures) ∙ c .before .before .before .before .before .before .before .if1 .left, sym (c .before .before .before .before .before .is-same2 .ensures) ∙ c .before .before .before .before .if2 .left, sym (c .before .before .is-same3 .ensures) ∙ c .before .if3 .left) (c .later-command .ensures)
+unfolding same packed lastCommandOf laterCommandOf commandOf
+returns-4 c = named _ (99 ∷ 104 ∷ 101 ∷ 99 ∷ 107 ∷ []) (c .before .before .shared-slice-known .given) refl (sym (c .before .name-of .ensures) ∙ c .match .keys4)
+
+returns-5 : tie.Need-returns-5
+unfolding same packed lastCommandOf laterCommandOf commandOf
+returns-5 c = named _ (109 ∷ 101 ∷ 109 ∷ 98 ∷ 101 ∷ 114 ∷ 115 ∷ []) (c .before .before .shared-slice-known .given) refl (sym (c .before .name-of .ensures) ∙ c .match .keys5)
+
+returns-6 : tie.Need-returns-6
+unfolding same packed lastCommandOf laterCommandOf commandOf
+returns-6 c = named _ (115 ∷ 108 ∷ 111 ∷ 116 ∷ 115 ∷ []) (c .before .before .shared-slice-known .given) refl (sym (c .before .name-of .ensures) ∙ c .match .keys6)
+
+returns-7 : tie.Need-returns-7
+unfolding same packed lastCommandOf laterCommandOf commandOf
+returns-7 c = named _ (114 ∷ 97 ∷ 110 ∷ 103 ∷ 101 ∷ []) (c .before .before .shared-slice-known .given) refl (sym (c .before .name-of .ensures) ∙ c .match .keys7)
+
+returns-8 : tie.Need-returns-8
+unfolding same packed lastCommandOf laterCommandOf commandOf
+returns-8 c = named _ (112 ∷ 108 ∷ 97 ∷ 99 ∷ 101 ∷ []) (c .before .before .shared-slice-known .given) refl (sym (c .before .name-of .ensures) ∙ c .match .keys8)
+
+returns-9 : tie.Need-returns-9
+unfolding same packed lastCommandOf laterCommandOf commandOf
+returns-9 c = named _ (99 ∷ 108 ∷ 101 ∷ 97 ∷ 114 ∷ []) (c .before .before .shared-slice-known .given) refl (sym (c .before .name-of .ensures) ∙ c .match .keys9)
+
+returns-10 : tie.Need-returns-10
+unfolding packed nameOf lastCommandOf laterCommandOf commandOf
+returns-10 c =
+    let w = now (c .before .before .before .args .word) in
+    let n = c .before .name-of .ensures in
+    let r = c .match .rest in
+    rw (unnamed w (99 ∷ 97 ∷ 112 ∷ 115 ∷ []) (λ e. r .0 .0 .0 .0 .0 .0 .0 .0 .1 (n ∙ e)), unnamed w (116 ∷ 121 ∷ 112 ∷ 101 ∷ []) (λ e. r .0 .0 .0 .0 .0 .0 .0 .1 (n ∙ e)), unnamed w (109 ∷ 101 ∷ 109 ∷ 98 ∷ 101 ∷ 114 ∷ []) (λ e. r .0 .0 .0 .0 .0 .0 .1 (n ∙ e)), unnamed w (99 ∷ 104 ∷ 101 ∷ 99 ∷ 107 ∷ []) (λ e. r .0 .0 .0 .0 .0 .1 (n ∙ e)), unnamed w (109 ∷ 101 ∷ 109 ∷ 98 ∷ 101 ∷ 114 ∷ 115 ∷ []) (λ e. r .0 .0 .0 .0 .1 (n ∙ e)), unnamed w (115 ∷ 108 ∷ 111 ∷ 116 ∷ 115 ∷ []) (λ e. r .0 .0 .0 .1 (n ∙ e)), unnamed w (114 ∷ 97 ∷ 110 ∷ 103 ∷ 101 ∷ []) (λ e. r .0 .0 .1 (n ∙ e)), unnamed w (112 ∷ 108 ∷ 97 ∷ 99 ∷ 101 ∷ []) (λ e. r .0 .1 (n ∙ e)), unnamed w (99 ∷ 108 ∷ 101 ∷ 97 ∷ 114 ∷ []) (λ e. r .1 (n ∙ e)))
 
 pub command-of-spec : {M : Type 1} → statement M
 command-of-spec =
     tie.close
     (tie.spec
-    (λ c. search needs)
     (λ c κs. search needs)
     returns
-    (λ c. search needs)
-    (λ c κs. search needs)
     returns-2
-    (λ c. search needs)
-    (λ c κs. search needs)
     returns-3
-    (λ c κs. search needs)
-    returns-4)
+    returns-4
+    returns-5
+    returns-6
+    returns-7
+    returns-8
+    returns-9
+    returns-10)
