@@ -89,8 +89,7 @@ fn stop(mut s: Session, reason: Reason) -> Session {
             s.why = output::TOO_LARGE;
         }
         Reason::Usage(command) => {
-            let usage = text::usage_of(command);
-            s.why = usage.2;
+            s.why = output::usage_line(command);
         }
     }
     s
@@ -133,6 +132,7 @@ pub fn flushed(mut s: Session, out: &mut Buffer) -> Session {
     if s.why > input::ENDED {
         s.waiting = output::put_stop(out, s.waiting, s.line, s.word, s.why);
     }
+    // After a write that failed nothing more is answered.
     if !output::flush(out, s.waiting) {
         s.why = input::FAILED;
     }

@@ -66,8 +66,8 @@ fn put_words(out: &mut Buffer, at: usize, head: &[u8], words: &[u32], rows: bool
     let mut end = put_text(out, at, head);
     let mut i = 0;
     while i < words.len() {
-        if rows & (i % 14 == 0) {
-            end = put_number(out, end, b'\n', (i / 14) as u64);
+        if rows & (i % records::ROW_WORDS == 0) {
+            end = put_number(out, end, b'\n', (i / records::ROW_WORDS) as u64);
         }
         end = put_number(out, end, b' ', records::word_at(words, i) as u64);
         i += 1;
@@ -124,8 +124,7 @@ pub fn put_place(out: &mut Buffer, at: usize, byte: u64, leaf: u32) -> usize {
     put_byte(out, b, b'\n')
 }
 
-// Why a session stops: the numbers of the lines of the text in `put_why`. The first two are those of a read that gave no line, in the crate input;
-// the last ten say what a command takes, and `text::usage_of` has their numbers.
+// Why a session stops: the numbers of the lines of the text in `put_why`. The first two, 2 and 3, are FULL and FAILED of the crate input.
 pub const NOT_A_NUMBER: u32 = 4;
 
 pub const TOO_LARGE: u32 = 5;
@@ -133,6 +132,22 @@ pub const TOO_LARGE: u32 = 5;
 pub const TYPES_FULL: u32 = 6;
 
 pub const MEMBERS_FULL: u32 = 7;
+
+// The line that says what a command takes.
+pub fn usage_line(command: arguments::Command) -> u32 {
+    match command {
+        arguments::Command::Capabilities => 8,
+        arguments::Command::TypeRecord => 9,
+        arguments::Command::MemberRecord => 10,
+        arguments::Command::Check => 11,
+        arguments::Command::Members => 12,
+        arguments::Command::Slots => 13,
+        arguments::Command::Range => 14,
+        arguments::Command::Place => 15,
+        arguments::Command::Clear => 16,
+        arguments::Command::Unknown => 17,
+    }
+}
 
 // One text for all the reasons is proved sooner than a text in each arm that has one. Its lines are numbered from 2 on.
 fn put_why(out: &mut Buffer, at: usize, why: u32) -> usize {

@@ -5,42 +5,48 @@ use output::Buffer;
 use place::PlaceAnswer;
 use text::Line;
 
-fn put_check(out: &mut Buffer, at: usize, t: &[u32], m: &[u32], c: u32) -> usize {
+fn put_check(
+    out: &mut Buffer,
+    at: usize,
+    types: &[u32],
+    members: &[u32],
+    capabilities: u32,
+) -> usize {
     let mut rows = [0u32; 14336];
-    let outcome = valid::check(t, m, c, &mut rows);
+    let outcome = valid::check(types, members, capabilities, &mut rows);
     output::put_outcome(
         out,
         at,
         outcome,
-        commands::part(&rows, 0, records::type_count(t) * 14),
+        commands::part(&rows, 0, records::type_count(types) * records::ROW_WORDS),
     )
 }
 
 fn put_slots(
     out: &mut Buffer,
     at: usize,
-    t: &[u32],
-    m: &[u32],
-    c: u32,
+    types: &[u32],
+    members: &[u32],
+    capabilities: u32,
     ty: u32,
     offset: u32,
 ) -> usize {
     let mut rows = [0u32; 14336];
-    let answer = immediates::immediate_slots(t, m, c, &mut rows, ty, offset);
+    let answer = immediates::immediate_slots(types, members, capabilities, &mut rows, ty, offset);
     output::put_slots(out, at, answer)
 }
 
 fn put_place(
     out: &mut Buffer,
     at: usize,
-    t: &[u32],
-    m: &[u32],
-    c: u32,
+    types: &[u32],
+    members: &[u32],
+    capabilities: u32,
     start: u32,
     steps: &[u32],
 ) -> usize {
     let mut rows = [0u32; 14336];
-    match place::lookup(t, m, c, &mut rows, start, steps) {
+    match place::lookup(types, members, capabilities, &mut rows, start, steps) {
         PlaceAnswer::Found { byte, leaf } => output::put_place(out, at, byte, leaf),
         PlaceAnswer::Refused {
             number,
@@ -60,21 +66,25 @@ fn put_answer(
     out: &mut Buffer,
 ) -> usize {
     let at = session.waiting;
-    let c = session.capabilities;
-    let t = commands::part(arena, 0, session.types);
-    let m = commands::part(arena, commands::MEMBERS_AT, session.members);
+    let capabilities = session.capabilities;
+    let types = commands::part(arena, 0, session.types);
+    let members = commands::part(arena, commands::MEMBERS_AT, session.members);
     match line {
-        Line::Check => put_check(out, at, t, m, c),
-        Line::Members(ty) => output::put_members(out, at, records::struct_members(t, m, ty)),
-        Line::Slots { ty, offset } => put_slots(out, at, t, m, c, ty, offset),
+        Line::Check => put_check(out, at, types, members, capabilities),
+        Line::Members(ty) => output::put_members(
+            out,
+            at,
+            records::struct_members(types, members, ty),
+        ),
+        Line::Slots { ty, offset } => put_slots(out, at, types, members, capabilities, ty, offset),
         Line::Range { offset, size } => output::put_slots(out, at, slots::range(offset, size)),
         Line::Place { start, steps } => {
             put_place(
                 out,
                 at,
-                t,
-                m,
-                c,
+                types,
+                members,
+                capabilities,
                 start,
                 commands::part(numbers, 1, steps as usize + 1),
             )

@@ -20,14 +20,6 @@ same [] (y ∷ t) = false
 same (x ∷ s) [] = false
 same (x ∷ s) (y ∷ t) = eqb x y && same s t
 
--- a word as one number, its first byte lowest and a 1 above its last; 0 for more than seven bytes
-unfoldable pub packed : List ℕ → ℕ
-packed [] = 1
-packed (b ∷ w) = b + packed w * 256
-
-unfoldable pub nameOf : List ℕ → ℕ
-nameOf w = pick (leb (length w) 7) (packed w) 0
-
 -- range, place, clear
 unfoldable pub lastCommandOf : List ℕ → Command
 lastCommandOf w =
@@ -118,3 +110,12 @@ numbersRead (w ∷ ws) = listOf (argumentsOf (commandOf w) ws)
 -- the words begin with the numbers
 abbrev pub Holds : List ℕ → List ℕ → Type 0
 Holds xs ns = take (length ns) xs ≡ ns
+
+-- ---- what the code has
+-- a word as one number, its first byte lowest and a 1 above its last; 0 for more than seven bytes
+unfoldable pub packed : List ℕ → ℕ
+packed [] = 1
+packed (b ∷ w) = b + packed w * 256
+
+unfoldable pub nameOf : List ℕ → ℕ
+nameOf w = pick (leb (length w) 7) (packed w) 0

@@ -85,24 +85,29 @@ pub fn command_of(word: &[u8]) -> Command
     }
 }
 
-// The fewest numbers that a command takes, the most, and which of the reasons why a session stops says so.
-// No count of numbers is right after a word that is no command.
-pub struct Usage(pub u32, pub u32, pub u32);
+// The fewest and the most numbers that a command takes. No count of numbers is right after a word that is no command.
+struct Usage {
+    least: u32,
+    most: u32,
+}
 
-pub fn usage_of(command: Command) -> Usage
-    ensures { λ r. ⌜ (r .0 ≡ leastOf command) × (r .1 ≡ mostOf command) × (r .1 ≤ 1025) ⌝ }
+fn usage_of(command: Command) -> Usage
+    ensures { λ r. ⌜ (r .least ≡ leastOf command) × (r .most ≡ mostOf command) × (r .most ≤ 1025) ⌝ }
 {
     match command {
-        Command::Capabilities => Usage(1, 1, 8),
-        Command::TypeRecord => Usage(1, 6, 9),
-        Command::MemberRecord => Usage(2, 2, 10),
-        Command::Check => Usage(0, 0, 11),
-        Command::Members => Usage(1, 1, 12),
-        Command::Slots => Usage(2, 2, 13),
-        Command::Range => Usage(2, 2, 14),
-        Command::Place => Usage(1, 1025, 15),
-        Command::Clear => Usage(0, 0, 16),
-        Command::Unknown => Usage(1, 0, 17),
+        Command::Capabilities => Usage { least: 1, most: 1 },
+        Command::TypeRecord => Usage { least: 1, most: 6 },
+        Command::MemberRecord => Usage { least: 2, most: 2 },
+        Command::Check => Usage { least: 0, most: 0 },
+        Command::Members => Usage { least: 1, most: 1 },
+        Command::Slots => Usage { least: 2, most: 2 },
+        Command::Range => Usage { least: 2, most: 2 },
+        Command::Place => Usage {
+            least: 1,
+            most: 1025,
+        },
+        Command::Clear => Usage { least: 0, most: 0 },
+        Command::Unknown => Usage { least: 1, most: 0 },
     }
 }
 
@@ -145,8 +150,8 @@ fn read_command(s: &[u8], at: usize, command: Command, numbers: &mut [u32]) -> L
     ensures { λ _. ⌜ Holds (now (numbers .exit)) (listOf (argumentsOf command (words (drop at (now (s .entry)))))) ⌝ }
 {
     let usage = usage_of(command);
-    let least = usage.0;
-    match arguments::read_numbers(s, at, command, usage.1, numbers) {
+    let least = usage.least;
+    match arguments::read_numbers(s, at, command, usage.most, numbers) {
         Count::Numbers(count) => {
             if count < least {
                 return Line::Wrong(Reason::Usage(command));
