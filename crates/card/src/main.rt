@@ -1,10 +1,12 @@
 // The card program: checks a fixed arena and prints a line for each type, its number and then its row. It reads nothing.
 const STDOUT: i32 = 1;
 
+const ROW_WORDS: u32 = 14;
+
 fn print_row(rows: &[u32], i: u32) {
     io::print_decimal(STDOUT, i as u64);
     let mut j: u32 = 0;
-    while j < 14 {
+    while j < ROW_WORDS {
         io::write_all(STDOUT, b" ");
         io::print_decimal(STDOUT, rows::row_word(rows, i, j) as u64);
         j += 1;

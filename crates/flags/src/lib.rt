@@ -141,7 +141,7 @@ pub fn scalar_flags(scalar_kind: u32, flags: u32) -> u32
     }
 }
 
-// ptr_space_space_flag.
+// ptr_space_argument_flag.
 fn space_flag(space: u32) -> u32
     ensures { λ r. ⌜ r ≡ spaceFlag space ⌝ }
 {
