@@ -1,7 +1,7 @@
 -- The word core refuses more than 8,192 member words with number 1, and leaves the rows as they were.
 -- Assumes nothing.
-use mathlib.Core.Path.{_≡_, refl}
-use mathlib.Core.Bool.{Bool, true, false, _&&_}
+use mathlib.Core.Path.{_≡_}
+use mathlib.Core.Bool.{Bool, false, and-false}
 use mathlib.Core.List.{List}
 use Prim.Native.Nat.{ℕ, _<_}
 use lib.Dec.{leb}
@@ -15,16 +15,12 @@ use Rattle.place.specs.declared.PlaceAnswer.the-variants as place
 use Rattle.slots.specs.declared.SlotsAnswer.the-variants as slots
 use Rattle.immediates.specs.Immediates.{slotsAnswer}
 
-not-both : (a : Bool) → (a && false) ≡ false
-not-both true = refl
-not-both false = refl
-
 module _ (c : ℕ) (ts rows ms : List ℕ) (long : 8192 < length ms) where
   unfits : arenaFits c ts ms rows ≡ false
   unfolding tablesFit
   unfits =
       let many : leb (length ms) 8192 ≡ false = lt-leb (length ms) 8192 long in
-      simp (many, not-both)
+      simp (many, and-false)
 
   pub answer-refuses : arenaAnswer c ts ms rows ≡ outcome.Refused 1 0 0 0
   unfolding arenaAnswer

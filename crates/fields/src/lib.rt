@@ -21,7 +21,7 @@ const MOST_CLASS: u32 = 3;
 const MOST_ROLE: u32 = 2;
 
 // Number 2, by kind: the words after the kind lie in their sets, and those that it does not name are 0.
-// Those of atomics are the same.
+// The sets of atomics are the same.
 pub fn scalar_fields(a: u32, b: u32, c: u32, d: u32, e: u32) -> bool
     ensures { λ r. ⌜ ((m : ℕ) → r ≡ fieldsOk m scalarKind a b c d e) ⌝ }
 {
@@ -90,7 +90,7 @@ pub fn sampler_fields(a: u32, b: u32, c: u32, d: u32, e: u32) -> bool
     (a == 0) & (b == 0) & (c == 0) & (d == 0) & (e == 0)
 }
 
-// Those of ray queries are the same.
+// The sets of ray queries are the same.
 pub fn acceleration_fields(a: u32, b: u32, c: u32, d: u32, e: u32) -> bool
     ensures { λ r. ⌜ ((m : ℕ) → r ≡ fieldsOk m accelerationStructureKind a b c d e) ⌝ }
 {

@@ -1,13 +1,12 @@
 -- What the kind alone tells of a record: whether it is an array.
 -- Assumes nothing.
 use mathlib.Core.Path.{_≡_, refl, sym}
-use mathlib.Core.Bool.{Bool, true, false}
+use mathlib.Core.Bool.{true, false}
 use Prim.Native.Nat.{ℕ}
 use lib.Dec.{eqb}
-use borrow.Author.Tests.{eqb-true, eqb-false}
 use Rattle.records.specs.Record.{innerOf, arrayKind}
 use Rattle.records.proofs.ResultLaws.{pick-alike}
-use Rattle.records.proofs.KindLaws.{inner-alike}
+use Rattle.records.proofs.KindLaws.{inner-alike, told-by}
 use Rattle.member_bounds.specs.MemberBounds.{isArray}
 
 -- an array, whatever its form
@@ -16,9 +15,6 @@ unfolding innerOf
 array-kind k a b c d e h = rw h (pick-alike isArray true (eqb b 0) _ _ refl refl)
 
 pub array-by-kind : (k a b c d e : ℕ) → eqb k arrayKind ≡ isArray (innerOf k a b c d e)
-array-by-kind k a b c d e = go (eqb k arrayKind) refl
-  where
-    go : (t : Bool) → eqb k arrayKind ≡ t → t ≡ isArray (innerOf k a b c d e)
-    go true h = sym (array-kind k a b c d e (eqb-true k arrayKind h))
-    go false h =
-        sym (inner-alike isArray false k a b c d e (λ leaf. refl) (λ t. absurd (eqb-false k arrayKind h t)) (λ t. refl) refl refl (λ t. refl) refl refl refl)
+array-by-kind k a b c d e =
+    told-by (λ t. t) (isArray (innerOf k a b c d e)) k arrayKind (λ h. sym (array-kind k a b c d e h))
+    (λ h. sym (inner-alike isArray false k a b c d e (λ leaf. refl) (λ t. absurd (h t)) (λ t. refl) refl refl (λ t. refl) refl refl refl))

@@ -1,9 +1,10 @@
--- What is alike in each case of a record, by its kind, is alike in what the record says.
+-- What the kind tells of a record: what is alike in each case is alike in what the record says; a test of the kind says what holds of it.
 -- Assumes nothing.
-use mathlib.Core.Path.{_≡_}
+use mathlib.Core.Path.{_≡_, refl}
+use mathlib.Core.Bool.{Bool, true, false}
 use Prim.Native.Nat.{ℕ}
 use lib.Dec.{eqb}
-use borrow.Author.Tests.{eqb-true}
+use borrow.Author.Tests.{eqb-true, eqb-false}
 use Rattle.records.specs.Record.{arrayKind, structKind, imageKind, innerOf}
 use Rattle.records.specs.declared.Leaf.{Leaf}
 use Rattle.records.specs.declared.NonData.the-variants.{Pointer, ValuePointer, Image, Sampler, AccelerationStructure, BindingArray}
@@ -39,3 +40,11 @@ inner-alike f v k a b c d e plain array struct pointer valuePointer image sample
     (skip (eqb k 10) _ _ sampler
     (skip (eqb k 11) _ _ acceleration
     (skip (eqb k 12) _ _ (plain _) bindingArray))))))))))))
+
+-- what a test for the kind n makes, where it is r for that kind and r for any other
+pub told-by {ℓ} : {B : Type ℓ} (g : Bool → B) (r : B) (k n : ℕ) → (k ≡ n → g true ≡ r) → ((k ≡ n → ⊥) → g false ≡ r) → g (eqb k n) ≡ r
+told-by g r k n same other = go (eqb k n) refl
+  where
+    go : (t : Bool) → eqb k n ≡ t → g t ≡ r
+    go true e = same (eqb-true k n e)
+    go false e = other (eqb-false k n e)

@@ -68,7 +68,7 @@ const MOST_MEMBERS: usize = 4096;
 // Bits 0 to 12.
 const ALL_CAPABILITIES: u32 = 8191;
 
-// Kinds that are told apart without a choice by all of them.
+// The kinds that code tests for one at a time.
 pub const POINTER_KIND: u32 = 5;
 
 pub const ARRAY_KIND: u32 = 7;

@@ -1,7 +1,7 @@
 -- Laws of masks: a number below 2 ^ n is the mask of its own bits, a mask has the bits of its test, and the bits of meet, join and complement.
 -- Assumes nothing.
 use mathlib.Core.Path.{_≡_, refl, sym, ap, _∙_}
-use mathlib.Core.Bool.{Bool, true, false, _&&_, _||_, not}
+use mathlib.Core.Bool.{Bool, true, false, _&&_, _||_, not, and-true, and-false}
 use Prim.Native.Nat.{ℕ, zero, suc, _+_, _-_, _*_, _/_, _%_, _^_, _<_, min, max}
 use native.Mathlib.Nat.{not-suc-le-zero, add-zero, lt-of-le-of-lt, mod-lt, mod-eq-of-lt, mod-one, pow-suc, zero-lt-suc}
 use native.Mathlib.Numerals.{one-add}
@@ -133,16 +133,6 @@ bit-complement x n k h l =
     rw same (bit-mask (λ i. not (bit x i)) n k l)
 
 -- ---- contains
--- both, where the second is true
-and-true : (b : Bool) → (b && true) ≡ b
-and-true true = refl
-and-true false = refl
-
--- both, where the second is false
-and-false : (b : Bool) → (b && false) ≡ false
-and-false true = refl
-and-false false = refl
-
 -- one more slot: it is empty where every slot of `other` is in `this`
 keeps : (m p : ℕ) → 0 < p → (o t : Bool) → (eqb m 0 && (not o || t)) ≡ eqb (m + pick (o && not t) p 0) 0
 keeps m p h true true = rw (add-zero m) (and-true (eqb m 0))

@@ -1,7 +1,7 @@
 -- A word's number says which word it is.
 -- Assumes nothing.
 use mathlib.Core.Path.{_≡_, refl, sym, ap, _∙_}
-use mathlib.Core.Bool.{Bool, true, false, _&&_}
+use mathlib.Core.Bool.{Bool, true, false, _&&_, not-eq-not}
 use mathlib.Core.List.{List, [], _∷_}
 use Prim.Native.Nat.{ℕ, zero, suc, _+_, _*_, _-_, _≤_, _<_}
 use native.Mathlib.Omega.{arith}
@@ -10,8 +10,9 @@ use mir.Val.{Fits}
 use lib.Dec.{eqb, ltb, leb}
 use lib.ListN.{length, getD, drop, length-drop}
 use lib.Seq.{drop-cons, getD-drop}
-use borrow.Author.Tests.{lt-ltb, ltb-true, eqb-true}
+use borrow.Author.Tests.{ltb-true, eqb-true}
 use Rattle.records.specs.Result.{pick}
+use Rattle.records.proofs.ResultLaws.{true-T, T-true, and-left, and-right}
 use Rattle.text.specs.Line.{same, packed, nameOf, commandOf}
 
 abbrev pub Bytes : List ℕ → Type 0
@@ -22,9 +23,8 @@ abbrev pub below : List ℕ → Bool
 below [] = true
 below (b ∷ w) = ltb b 256 && below w
 
-and-true : (a b : Bool) → a && b ≡ true → (a ≡ true) × (b ≡ true)
-and-true true b e = (refl, e)
-and-true false b e = (e, cc)
+both : (a b : Bool) → a && b ≡ true → (a ≡ true) × (b ≡ true)
+both a b e = (T-true a (and-left a b (true-T e)), T-true b (and-right a b (true-T e)))
 
 top : ℕ → ℕ
 top zero = 2
@@ -62,7 +62,7 @@ packed-same [] [] h k e = refl
 packed-same [] (y ∷ v) h k e = let p = packed-positive v in absurd (omega (arith, e, p))
 packed-same (x ∷ w) [] h k e = let p = packed-positive w in absurd (omega (arith, e, p))
 packed-same (x ∷ w) (y ∷ v) h k e =
-    let p = and-true (ltb y 256) (below v) k in
+    let p = both (ltb y 256) (below v) k in
     let q = ltb-true y 256 (p .0) in
     let f : x ≡ y = omega (arith, e, h 0, q) in
     let g : packed w ≡ packed v = omega (arith, e, h 0, q) in
@@ -77,11 +77,7 @@ unfolding same
 same-is [] [] e = refl
 same-is [] (y ∷ v) e = let z : _≡_ {A = ℕ} 0 1 = cc in absurd (omega (arith, z))
 same-is (x ∷ w) [] e = let z : _≡_ {A = ℕ} 0 1 = cc in absurd (omega (arith, z))
-same-is (x ∷ w) (y ∷ v) e = let p = and-true (eqb x y) (same w v) e in rw (eqb-true x y (p .0), same-is w v (p .1)) refl
-
-is-false : (b : Bool) → (b ≡ true → ⊥) → b ≡ false
-is-false true h = absurd (h refl)
-is-false false h = refl
+same-is (x ∷ w) (y ∷ v) e = let p = both (eqb x y) (same w v) e in rw (eqb-true x y (p .0), same-is w v (p .1)) refl
 
 -- ---- the command of a word, by its number
 pub named : (w v : List ℕ) → Bytes w → below v ≡ true → nameOf w ≡ packed v → commandOf v ≡ commandOf w
@@ -89,4 +85,4 @@ unfolding nameOf
 named w v h k e = ap commandOf (sym (packed-same w v h k (picked (leb (length w) 7) (packed w) (packed v) (packed-positive v) e)))
 
 pub unnamed : (w v : List ℕ) → (nameOf w ≡ nameOf v → ⊥) → same w v ≡ false
-unnamed w v h = is-false (same w v) (λ e. h (ap nameOf (same-is w v e)))
+unnamed w v h = not-eq-not .0 (λ e. h (ap nameOf (same-is w v e)))

@@ -1,12 +1,11 @@
 -- What a record's words tell of it: whether it is a struct, and whether it is an external image.
 -- Assumes nothing.
 use mathlib.Core.Path.{_≡_, refl, sym}
-use mathlib.Core.Bool.{Bool, true, false, _&&_}
+use mathlib.Core.Bool.{true, false, _&&_}
 use Prim.Native.Nat.{ℕ}
 use lib.Dec.{eqb}
-use borrow.Author.Tests.{eqb-true, eqb-false}
 use Rattle.records.specs.Record.{innerOf, structKind, imageKind}
-use Rattle.records.proofs.KindLaws.{inner-alike}
+use Rattle.records.proofs.KindLaws.{inner-alike, told-by}
 use Rattle.type_flags.specs.TypeFlags.{isStruct, isExternalImage}
 
 struct-kind : (k a b c d e : ℕ) → k ≡ structKind → isStruct (innerOf k a b c d e) ≡ true
@@ -14,21 +13,15 @@ unfolding innerOf
 struct-kind k a b c d e h = rw h refl
 
 pub struct-by-kind : (k a b c d e : ℕ) → eqb k structKind ≡ isStruct (innerOf k a b c d e)
-struct-by-kind k a b c d e = go (eqb k structKind) refl
-  where
-    go : (t : Bool) → eqb k structKind ≡ t → t ≡ isStruct (innerOf k a b c d e)
-    go true h = sym (struct-kind k a b c d e (eqb-true k structKind h))
-    go false h =
-        sym (inner-alike isStruct false k a b c d e (λ leaf. refl) (λ t. (refl, refl)) (λ t. absurd (eqb-false k structKind h t)) refl refl (λ t. refl) refl refl refl)
+struct-by-kind k a b c d e =
+    told-by (λ t. t) (isStruct (innerOf k a b c d e)) k structKind (λ h. sym (struct-kind k a b c d e h))
+    (λ h. sym (inner-alike isStruct false k a b c d e (λ leaf. refl) (λ t. (refl, refl)) (λ t. absurd (h t)) refl refl (λ t. refl) refl refl refl))
 
 image-kind : (k a b c d e : ℕ) → k ≡ imageKind → isExternalImage (innerOf k a b c d e) ≡ eqb c 2
 unfolding innerOf
 image-kind k a b c d e h = rw h refl
 
 pub external-by-words : (k a b c d e : ℕ) → (eqb k imageKind && eqb c 2) ≡ isExternalImage (innerOf k a b c d e)
-external-by-words k a b c d e = go (eqb k imageKind) refl
-  where
-    go : (t : Bool) → eqb k imageKind ≡ t → (t && eqb c 2) ≡ isExternalImage (innerOf k a b c d e)
-    go true h = sym (image-kind k a b c d e (eqb-true k imageKind h))
-    go false h =
-        sym (inner-alike isExternalImage false k a b c d e (λ leaf. refl) (λ t. (refl, refl)) (λ t. refl) refl refl (λ t. absurd (eqb-false k imageKind h t)) refl refl refl)
+external-by-words k a b c d e =
+    told-by (λ t. t && eqb c 2) (isExternalImage (innerOf k a b c d e)) k imageKind (λ h. sym (image-kind k a b c d e h))
+    (λ h. sym (inner-alike isExternalImage false k a b c d e (λ leaf. refl) (λ t. (refl, refl)) (λ t. refl) refl refl (λ t. absurd (h t)) refl refl refl))
