@@ -66,6 +66,20 @@ fn m9_and_m10_distances() {
     assert_eq!(check(&types, &members, 0), Err([21, 2, 2, 0]));
 }
 
+/// Number 21 where `span + 15`, or the span rounded up to 16, leaves 32 bits:
+/// a struct of that span, then a ray query at an offset past it.
+#[test]
+fn rounded_span_at_the_border() {
+    let query = [kind::RAY_QUERY, 0, 0, 0, 0, 0];
+    let outer = structure(1, 2, u32::MAX);
+    let judged = |span, offset| {
+        let members = [0, 0, 2, 0, 1, offset];
+        check(&[E, query, structure(0, 1, span), outer], &members, 1 << 10)
+    };
+    assert!(judged(4_294_967_280, 4_294_967_280).is_ok());
+    assert_eq!(judged(4_294_967_281, u32::MAX), Err([21, 3, 1, 0]));
+}
+
 #[test]
 fn m11_half_floats() {
     let half = [kind::SCALAR, 2, 2, 0, 0, 0];

@@ -1,3 +1,4 @@
 pub mod PowerLaws
+pub mod RoundLaws
 mod Finite
 mod MaskLaws

@@ -28,9 +28,23 @@ isAligned alignment n = eqb (n % alignment) 0
 abbrev pub isMask : ℕ → Bool
 isMask n = eqb (bitAnd n (n - 1)) 0
 
--- the next multiple of a positive alignment
-abbrev pub roundUp : (alignment n : ℕ) → ℕ
-roundUp alignment n = (n + (alignment - 1)) / alignment * alignment
+-- ---- rounding up, in the standard's three steps: roundUp(k, n) = ⌈n ÷ k⌉ × k, for a positive k
+-- n ÷ k: the quotient, and what is left over
+pub record Division : Type 0 where
+  pub quotient : ℕ
+  pub remainder : ℕ
+
+-- divide
+abbrev pub divide : (n k : ℕ) → Division
+divide n k = record { quotient = n / k; remainder = n % k }
+
+-- take the ceiling
+abbrev pub ceiling : Division → ℕ
+ceiling d = pick (eqb (d .remainder) 0) (d .quotient) (d .quotient + 1)
+
+-- multiply
+abbrev pub roundUp : (k n : ℕ) → ℕ
+roundUp k n = ceiling (divide n k) * k
 
 -- the largest number of 32 bits
 abbrev pub most : ℕ

@@ -2,7 +2,7 @@
 ghost use mathlib.Core.Path.{_≡_};
 ghost use mathlib.Core.Bool.{_&&_};
 ghost use Prim.Native.Nat.{_*_, max};
-ghost use Rattle.alignment.specs.Alignment.{powerOfTwo, isMask, vectorAlignment, isAligned, roundUp};
+ghost use Rattle.alignment.specs.Alignment.{powerOfTwo, isMask, vectorAlignment, isAligned, divide, ceiling};
 
 // The largest number of 32 bits.
 pub const MOST: u64 = 4294967295;
@@ -52,15 +52,23 @@ pub fn is_masked(alignment: u32, n: u32) -> bool
     (alignment & below == 0) & (n & below == 0)
 }
 
-// The next multiple of the alignment; wider than n, so that no sum wraps.
+// The ceiling of a division: one more than the quotient where something is left over.
+fn ceiling_of(quotient: u32, remainder: u32) -> u64
+    ensures { λ r. ⌜ r ≡ ceiling (record { quotient = quotient; remainder = remainder }) ⌝ }
+{
+    if remainder == 0 {
+        return quotient as u64;
+    }
+    (quotient as u64) + 1
+}
+
+// Rounding up as the standard has it: divide, take the ceiling, multiply. The product is wider than n, so that it never wraps.
 pub fn round_up(alignment: u32, n: u32) -> u64
-    ensures { λ r. ⌜ r ≡ roundUp alignment n ⌝ }
+    ensures { λ r. ⌜ r ≡ ceiling (divide n alignment) * alignment ⌝ }
 {
     if alignment == 0 {
         return 0;
     }
-    let wide = alignment as u64;
-    let sum = (n as u64) + (wide - 1);
-    let steps = sum / wide;
-    steps * wide
+    let steps = ceiling_of(n / alignment, n % alignment);
+    steps * (alignment as u64)
 }

@@ -13,6 +13,7 @@ use Rattle.records.specs.declared.TypeInner.{TypeInner}
 use Rattle.records.proofs.ResultLaws.{true-T, T-true, and-left, and-right}
 use Rattle.alignment.specs.Alignment.{most, isMask, isAligned, roundUp}
 use Rattle.alignment.proofs.PowerLaws.{le-cases}
+use Rattle.alignment.proofs.RoundLaws.{sum-within}
 use Rattle.flags.specs.Flags.{bit, dataBit, sizedBit, hostShareableBit, creationResolvedBit}
 use Rattle.type_info.specs.declared.Verdict.{Verdict}
 use Rattle.type_info.specs.declared.Row.{Row}
@@ -39,7 +40,7 @@ apart end offset i j (StructBefore span at) h l =
     let enough : roundUp minUniform span ≤ offset - at = omega (arith, both .1) in
     record {
       clear = both .0;
-      within = rw (le-leb at offset (omega (arith, both .1)), le-leb (span + 15) most (omega (arith, both .1, l)), le-leb (roundUp minUniform span) (offset - at) enough) refl;
+      within = rw (le-leb at offset (omega (arith, both .1)), sum-within span (omega (arith, both .1, l)), le-leb (roundUp minUniform span) (offset - at) enough) refl;
       verdict = λ v. rw (le-leb (roundUp minUniform span) (offset - at) enough) refl;
     }
   where

@@ -143,11 +143,11 @@ pub fn distance_to(previous: Previous, offset: u32) -> Distance
             if offset < at {
                 return Distance::Overflow;
             }
-            let sum = (span as u64) + 15;
-            if alignment::MOST < sum {
+            // The Rust's span + 15 leaves 32 bits just where the rounded span does.
+            let min = alignment::round_up(MIN_UNIFORM, span);
+            if alignment::MOST < min {
                 return Distance::Overflow;
             }
-            let min = alignment::round_up(MIN_UNIFORM, span);
             let diff = (offset - at) as u64;
             if min <= diff {
                 return Distance::Enough;

@@ -27,7 +27,7 @@ use Rattle.member_bounds.specs.MemberBounds.{memberBounds, boundsAfter}
 use Rattle.member_rules.specs.MemberRules.{uniformAfter, storageAfter, immediatesAfter}
 use Rattle.validate_type.specs.ValidateType.{flagsOf, uniformOf, storageOf, immediatesOf, rowOf, judge}
 use Rattle.valid.specs.Arena.{row, judgeOutcome, arenaOutcome, arena}
-use Rattle.wgsl.specs.Wgsl.{f32, float, bool, three, four, WgslType, scalar, vector, array, runtimeArray, struct, Members, last, member, lastMember, roundUp, maxOver, offsetBy, alignOf, sizeOf, offsetOfMember, HostShareable, IsType, IsMember}
+use Rattle.wgsl.specs.Wgsl.{f32, float, bool, three, four, WgslType, scalar, vector, array, runtimeArray, struct, Members, last, member, lastMember, maxOver, offsetBy, alignOf, sizeOf, offsetOfMember, HostShareable, IsType, IsMember}
 use Rattle.wgsl.specs.Constraints.{storage, uniform, requiredAlignOf, typeOfMember, Constraints, WellFormed}
 use Rattle.wgsl.proofs.TreeLaws.{struct-fits, MemberFits}
 use Rattle.wgsl.proofs.ConstraintAgreement.{uniform-agreement}
@@ -39,7 +39,7 @@ check c ts ms = arena c ts ms
 
 -- unfolding this name unfolds all that a tree computes with
 measure : WgslType → ℕ
-unfolding IsType typeInner innerOf structMembers offsetBy alignOf sizeOf roundUp lastMember maxOver
+unfolding IsType typeInner innerOf structMembers offsetBy alignOf sizeOf lastMember maxOver
 measure type = sizeOf type
 
 -- a statement about the numbers below 1

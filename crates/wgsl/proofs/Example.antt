@@ -9,11 +9,12 @@ use Rattle.records.specs.Record.{decoded, innerOf, typeInner, structMembers, me
 use Rattle.records.specs.Fields.{fieldsOk, recordAt}
 use Rattle.records.specs.Table.{resultAt, valueAt}
 use Rattle.records.specs.declared.Outcome.the-variants.{Accepted}
+use Rattle.alignment.specs.Alignment.{roundUp}
 use Rattle.type_methods.specs.TypeMethods.{trySize}
 use Rattle.type_alignment.specs.TypeAlignment.{membersAlignment, alignmentOf}
 use Rattle.type_layout.specs.TypeLayout.{layoutOf}
 use Rattle.layouter.specs.Layouter.{layout, layoutOutcome}
-use Rattle.wgsl.specs.Wgsl.{u32, Float, f32, f16, float, bool, Dimension, two, three, four, number, WgslType, scalar, vector, matrix, atomic, array, runtimeArray, struct, Members, last, member, lastMember, roundUp, maxOver, offsetBy, alignOf, sizeOf, alignOfMember, sizeOfMember, offsetOfMember, HostShareable, IsType, IsMember}
+use Rattle.wgsl.specs.Wgsl.{u32, Float, f32, f16, float, bool, Dimension, two, three, four, number, WgslType, scalar, vector, matrix, atomic, array, runtimeArray, struct, Members, last, member, lastMember, maxOver, offsetBy, alignOf, sizeOf, alignOfMember, sizeOfMember, offsetOfMember, HostShareable, IsType, IsMember}
 use Rattle.wgsl.proofs.Agreement.{tables-agreement}
 
 -- a statement about the numbers below 3
@@ -45,16 +46,16 @@ bodyRows = 1 ∷ 0 ∷ 0 ∷ 12 ∷ 3 ∷ 16 ∷ []
 
 -- the standard's offsets, sizes and alignments
 body-offsets : (offsetOfMember bodyMembers 0 ≡ 0) × (offsetOfMember bodyMembers 1 ≡ 12) × (offsetOfMember bodyMembers 2 ≡ 16)
-unfolding offsetBy alignOf sizeOf roundUp
+unfolding offsetBy alignOf sizeOf
 body-offsets = (refl, refl, refl)
 
 body-layout : (sizeOf body ≡ 112) × (alignOf body ≡ 16) × (sizeOf (array body 3) ≡ 336) × (alignOf (array body 3) ≡ 16)
-unfolding offsetBy alignOf sizeOf roundUp lastMember maxOver
+unfolding offsetBy alignOf sizeOf lastMember maxOver
 body-layout = (refl, refl, refl, refl)
 
 -- record 4 is the struct, record 5 the array of structs
 body-is : IsType body (decoded bodyTypes bodyRows) 4
-unfolding IsType typeInner innerOf structMembers offsetBy alignOf sizeOf roundUp lastMember maxOver
+unfolding IsType typeInner innerOf structMembers offsetBy alignOf sizeOf lastMember maxOver
 body-is = (
   refl,
   below-three (λ i. memberOffset bodyRows i ≡ offsetOfMember bodyMembers i) refl refl refl,
@@ -62,7 +63,7 @@ body-is = (
 )
 
 bodies-are : IsType (array body 3) (decoded bodyTypes bodyRows) 5
-unfolding IsType typeInner innerOf offsetBy alignOf sizeOf roundUp lastMember maxOver
+unfolding IsType typeInner innerOf offsetBy alignOf sizeOf lastMember maxOver
 bodies-are = (4, refl, body-is)
 
 body-shareable : HostShareable (array body 3)
@@ -99,11 +100,11 @@ abbrev queueRows : List ℕ
 queueRows = 0 ∷ 0 ∷ 1 ∷ 8 ∷ 3 ∷ 16 ∷ []
 
 queue-layout : (sizeOf queue ≡ 24) × (alignOf queue ≡ 8)
-unfolding offsetBy alignOf sizeOf roundUp lastMember maxOver
+unfolding offsetBy alignOf sizeOf lastMember maxOver
 queue-layout = (refl, refl)
 
 queue-is : IsType queue (decoded queueTypes queueRows) 4
-unfolding IsType typeInner innerOf structMembers offsetBy alignOf sizeOf roundUp lastMember maxOver
+unfolding IsType typeInner innerOf structMembers offsetBy alignOf sizeOf lastMember maxOver
 queue-is = (
   refl,
   below-three (λ i. memberOffset queueRows i ≡ offsetOfMember queueMembers i) refl refl refl,
@@ -136,13 +137,13 @@ measures type align size = (alignOf type ≡ align) × (sizeOf type ≡ size)
 matrices : measures (matrix two two f32) 8 16 × measures (matrix three two f32) 8 24 × measures (matrix four two f32) 8 32
     × measures (matrix two three f32) 16 32 × measures (matrix three three f32) 16 48 × measures (matrix four three f32) 16 64
     × measures (matrix two four f32) 16 32 × measures (matrix three four f32) 16 48 × measures (matrix four four f32) 16 64
-unfolding measures alignOf sizeOf roundUp
+unfolding measures alignOf sizeOf
 matrices = ((refl, refl), (refl, refl), (refl, refl), (refl, refl), (refl, refl), (refl, refl), (refl, refl), (refl, refl), (refl, refl))
 
 -- those of f16 have half of each
 half-matrices : (columns rows : Dimension)
     → (alignOf (matrix columns rows f32) ≡ alignOf (matrix columns rows f16) * 2) × (sizeOf (matrix columns rows f32) ≡ sizeOf (matrix columns rows f16) * 2)
-unfolding alignOf sizeOf roundUp
+unfolding alignOf sizeOf
 half-matrices two two = (refl, refl)
 half-matrices two three = (refl, refl)
 half-matrices two four = (refl, refl)
@@ -180,7 +181,7 @@ strideTypes : List ℕ
 strideTypes = 0 ∷ 2 ∷ 4 ∷ 0 ∷ 0 ∷ 0 ∷ 7 ∷ 0 ∷ 0 ∷ 1 ∷ 0 ∷ 0 ∷ []
 
 stride-differs : (layoutOutcome strideTypes [] ≡ Accepted) × (layout (decoded strideTypes []) 1 .size ≡ 0) × (sizeOf (array (scalar (float f32)) 1) ≡ 4)
-unfolding strideTypes typeInner innerOf structMembers sizeOf alignOf roundUp layoutOutcome recordAt fieldsOk resultAt valueAt layoutOf trySize alignmentOf
+unfolding strideTypes typeInner innerOf structMembers sizeOf alignOf layoutOutcome recordAt fieldsOk resultAt valueAt layoutOf trySize alignmentOf
 stride-differs = (refl, refl, refl)
 
 -- a struct of no member: its alignment is 1; the standard has no such struct

@@ -1,4 +1,3 @@
-pub mod RoundLaws
 pub mod TypeLaws
 pub mod Agreement
 pub mod Example

@@ -17,7 +17,6 @@ use Rattle.type_info.specs.Verdict.{structAt, previousOf}
 use Rattle.member_rules.specs.MemberRules.{uniformAfter, storageAfter}
 use Rattle.wgsl.specs.Wgsl.{WgslType, scalar, vector, matrix, atomic, array, runtimeArray, struct, Members, lastMember, memberTotal, maxOver, alignOf, alignOfMember, sizeOf, offsetOfMember, IsType}
 use Rattle.wgsl.specs.Constraints.{Space, storage, uniform, requiredAlignOf, typeOfMember, StructDistance, FixedSize, Constraints}
-use Rattle.wgsl.proofs.RoundLaws.{round-up-same}
 use Rattle.wgsl.proofs.TreeLaws.{member-align, leastIn, required-struct, required-least, struct-fits, NextDistance, MemberFits}
 use Rattle.wgsl.proofs.VerdictLaws.{Judged, judged-same, judged-share, judged-member, DistanceKept, judged-distance, judged-unsized}
 use Rattle.wgsl.proofs.RowLaws.{verdictIn, afterIn}
@@ -34,7 +33,6 @@ distance-same (atomic i) types k is start later h = rw is (λ d. tt, λ d. tt)
 distance-same (array element count) types k is start later h = rw (is .1) (λ d. tt, λ d. tt)
 distance-same (runtimeArray element) types k is start later h = rw (is .1) (λ d. tt, λ d. tt)
 distance-same (struct members) types k is start later h =
-    let same = round-up-same 16 (sizeOf (struct members)) (omega arith) in
     rw (is .0) (λ d. omega arith, λ d. omega arith)
 
 -- ---- the first j members

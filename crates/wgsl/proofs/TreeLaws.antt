@@ -9,11 +9,11 @@ use native.Mathlib.Nat.{dvd-zero, dvd-trans, mod-eq-zero-of-dvd}
 use native.Mathlib.Decide.{ℕ-discrete}
 use native.Mathlib.Omega.{arith}
 use Rattle.records.specs.Record.{Decoded}
-use Rattle.alignment.specs.Alignment.{Power}
+use Rattle.alignment.specs.Alignment.{Power, roundUp}
 use Rattle.alignment.proofs.PowerLaws.{le-cases, power-max, power-divides, power-positive}
-use Rattle.wgsl.specs.Wgsl.{Scalar, bool, integer, float, f32, f16, Dimension, two, three, four, WgslType, scalar, vector, matrix, atomic, array, runtimeArray, struct, Members, last, member, lastMember, memberTotal, roundUp, maxOver, byScalar, alignOfVector, alignOf, alignOfMember, sizeOf, sizeOr, sizeOfMember, offsetBy, offsetOfMember, strideOf, HostShareable, AllHostShareable, IsType, IsMember}
+use Rattle.wgsl.specs.Wgsl.{Scalar, bool, integer, float, f32, f16, Dimension, two, three, four, WgslType, scalar, vector, matrix, atomic, array, runtimeArray, struct, Members, last, member, lastMember, memberTotal, maxOver, byScalar, alignOfVector, alignOf, alignOfMember, sizeOf, sizeOr, sizeOfMember, offsetBy, offsetOfMember, strideOf, HostShareable, AllHostShareable, IsType, IsMember}
 use Rattle.wgsl.specs.Constraints.{Space, storage, uniform, requiredAlignOf, StrideFits, typeOfMember, StructDistance, DistancesFit, FixedSize, Constraints, AllConstraints, SizeFits, WellFormed, AllWellFormed}
-use Rattle.wgsl.proofs.RoundLaws.{round-up-multiple, round-up-next}
+use Rattle.alignment.proofs.RoundLaws.{round-up-multiple, round-up-next}
 use Rattle.wgsl.proofs.TypeLaws.{align-positive, align-member-positive}
 
 -- ---- members by their number

@@ -4,8 +4,8 @@ use mathlib.Core.Path.{_≡_, refl, _∙_, ap}
 use Prim.Native.Nat.{ℕ, zero, suc, _*_, _≤_}
 use native.Mathlib.Nat.{mul-comm}
 use native.Mathlib.Omega.{arith}
-use Rattle.alignment.specs.Alignment.{vectorAlignment}
-use Rattle.wgsl.specs.Wgsl.{Scalar, bool, integer, float, Float, f32, f16, Dimension, two, three, four, WgslType, scalar, vector, matrix, atomic, array, runtimeArray, struct, Members, last, member, number, roundUp, maxOver, byScalar, sizeOfScalar, alignOfVector, sizeOfVector, alignOf, alignOfMember, sizeOf, lastMember, Numeric, widthOf}
+use Rattle.alignment.specs.Alignment.{vectorAlignment, roundUp}
+use Rattle.wgsl.specs.Wgsl.{Scalar, bool, integer, float, Float, f32, f16, Dimension, two, three, four, WgslType, scalar, vector, matrix, atomic, array, runtimeArray, struct, Members, last, member, number, maxOver, byScalar, sizeOfScalar, alignOfVector, sizeOfVector, alignOf, alignOfMember, sizeOf, lastMember, Numeric, widthOf}
 
 -- ---- alignments are positive
 -- a line of the table is positive where its two numbers are
@@ -82,7 +82,6 @@ vector-align four (float f16) p = refl
 
 -- a column of a matrix is a vector rounded up to its alignment
 column-size : (rows : Dimension) (f : Float) → vectorAlignment (number rows) * widthOf (float f) ≡ roundUp (alignOfVector rows (float f)) (sizeOfVector rows (float f))
-unfolding roundUp
 column-size two f32 = refl
 column-size three f32 = refl
 column-size four f32 = refl

@@ -3,7 +3,8 @@
 -- Assumes nothing.
 use mathlib.Core.Option.{Option, none, some}
 use Prim.Native.Nat.{ℕ, zero, suc, _+_, _≤_, _<_, _∣_}
-use Rattle.wgsl.specs.Wgsl.{WgslType, scalar, vector, matrix, atomic, array, runtimeArray, struct, Members, last, member, memberTotal, roundUp, alignOf, sizeOf, strideOf, offsetOfMember}
+use Rattle.alignment.specs.Alignment.{roundUp}
+use Rattle.wgsl.specs.Wgsl.{WgslType, scalar, vector, matrix, atomic, array, runtimeArray, struct, Members, last, member, memberTotal, alignOf, sizeOf, strideOf, offsetOfMember}
 
 -- ---- address spaces
 pub data Space : Type 0 where

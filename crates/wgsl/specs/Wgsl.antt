@@ -1,14 +1,13 @@
 -- The memory layout of the W3C WGSL specification, in its words: AlignOf, SizeOf, StrideOf, OffsetOfMember;
--- and what it means that a record of an arena is a WGSL type.
+-- and what it means that a record of an arena is a WGSL type. roundUp(k, n) = ⌈n ÷ k⌉ × k is the one of the alignment crate.
 -- Assumes nothing.
 use mathlib.Core.Path.{_≡_}
 use mathlib.Core.Option.{Option, none, some}
-use Prim.Native.Nat.{ℕ, zero, suc, _+_, _*_, _/_, _%_, _<_, max}
-use lib.Dec.{eqb}
-use Rattle.records.specs.Result.{pick}
+use Prim.Native.Nat.{ℕ, zero, suc, _+_, _*_, _<_, max}
 use Rattle.records.specs.Record.{Decoded, memberType, memberOffset}
 use Rattle.records.specs.declared.Leaf.the-variants.{Scalar as ScalarLeaf, Vector as VectorLeaf, Matrix as MatrixLeaf, Atomic as AtomicLeaf}
 use Rattle.records.specs.declared.TypeInner.the-variants.{Plain, Array, RuntimeArray, Struct}
+use Rattle.alignment.specs.Alignment.{roundUp}
 
 -- ---- types
 pub data Integer : Type 0 where
@@ -56,14 +55,6 @@ lastMember (member type size rest) = suc (lastMember rest)
 -- how many members there are
 abbrev pub memberTotal : Members → ℕ
 memberTotal members = suc (lastMember members)
-
--- ---- roundUp(k, n) = ⌈n ÷ k⌉ × k
--- ⌈n ÷ k⌉
-abbrev pub ceiling : (n k : ℕ) → ℕ
-ceiling n k = pick (eqb (n % k) 0) (n / k) (n / k + 1)
-
-unfoldable pub roundUp : (k n : ℕ) → ℕ
-roundUp k n = ceiling n k * k
 
 -- ---- the table of AlignOf and SizeOf
 abbrev pub number : Dimension → ℕ

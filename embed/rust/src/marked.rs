@@ -108,6 +108,22 @@ fn m9_and_m10_distances() {
     assert_eq!(refusal, Err(refused(21, 2, 2, 0)));
 }
 
+/// Number 21 where the span rounded up to 16 leaves 32 bits: a struct of that
+/// span, then a ray query at an offset past it.
+#[test]
+fn rounded_span_at_the_border() {
+    let query = [kind::RAY_QUERY, 0, 0, 0, 0, 0];
+    let outer = structure(1, 2, u32::MAX);
+    let border = |span, offset| {
+        let members = [0, 0, 2, 0, 1, offset];
+        let types = [E, query, structure(0, 1, span), outer];
+        judged(&types, &members, capabilities::RAY_QUERY)
+    };
+    assert!(border(4_294_967_280, 4_294_967_280).is_ok());
+    let refusal = border(4_294_967_281, u32::MAX);
+    assert_eq!(refusal, Err(refused(21, 3, 1, 0)));
+}
+
 #[test]
 fn m11_half_floats() {
     assert_eq!(judged(&[F16], &[], 0), Err(refused(8, 0, 0, 1)));

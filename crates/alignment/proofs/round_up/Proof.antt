@@ -1,8 +1,9 @@
 use borrow.Author.Needs.{needs}
 use mathlib.Core.Path.{refl}
-use Prim.Native.Nat.{_+_, _-_}
-use native.Mathlib.Nat.{mul-zero, div-mul-le-self}
+use Prim.Native.Nat.{_≤_}
+use native.Mathlib.Nat.{mul-zero}
 use native.Mathlib.Omega.{arith}
+use Rattle.alignment.proofs.RoundLaws.{round-up-next}
 use Rattle.alignment.proofs.round_up.Statement.{statement}
 use Rattle.alignment.proofs.round_up.Tie as tie
 
@@ -10,7 +11,13 @@ returns : tie.Need-returns
 returns c = rw (c .if1 .taken, mul-zero) refl
 
 mul-result : tie.Need-mul-result
-mul-result c = let a = c .before .args in omega (arith, div-mul-le-self (a .n + (a .alignment - 1)) (a .alignment))
+mul-result c =
+    let a = c .before .before .args in
+    let positive : 1 ≤ a .alignment = omega (arith, c .before .if1 .left) in
+    rw (c .ceiling-of .ensures) (omega (arith, round-up-next (a .alignment) (a .n) positive .1, c .before .before .fits .alignment, c .before .before .fits .n))
+
+returns-2 : tie.Need-returns-2
+returns-2 c = rw (c .ceiling-of .ensures) refl
 
 pub round-up-spec : {M : Type 1} → statement M
 round-up-spec =
@@ -19,6 +26,6 @@ round-up-spec =
     returns
     (λ c. search needs)
     (λ c. search needs)
-    (λ c. search needs)
+    (λ c κs. search needs)
     mul-result
-    (λ c. search needs))
+    returns-2)

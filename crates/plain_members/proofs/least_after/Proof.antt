@@ -3,13 +3,14 @@ use mathlib.Core.Path.{refl, sym, _∙_}
 use native.Mathlib.Nat.{max-eq-left, max-eq-right}
 use native.Mathlib.Omega.{arith}
 use denote.Ref.{now}
+use Rattle.alignment.proofs.RoundLaws.{round-up-next}
 use Rattle.records.specs.Record.{typeInner, innerOf, typeWord}
 use Rattle.member_rules.proofs.KindLaws.{no-struct-kind}
 use Rattle.plain_members.proofs.least_after.Statement.{statement}
 use Rattle.plain_members.proofs.least_after.Tie as tie
 
 add-apart : tie.Need-add-apart
-add-apart c = omega (arith, c .round-up .ensures, c .before .own-word2 .ok, c .before .before .before .before .before .fits .offset)
+add-apart c = omega (arith, c .round-up .ensures, round-up-next 16 (c .before .own-word2 .result) (omega arith) .1, c .before .own-word2 .ok, c .before .before .before .before .before .fits .offset)
 
 returns : tie.Need-returns
 unfolding typeInner innerOf

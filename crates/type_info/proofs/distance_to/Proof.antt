@@ -3,6 +3,7 @@ use borrow.Author.Needs.{needs}
 use mathlib.Core.Path.{refl}
 use mathlib.Core.Bool.{false≢true}
 use borrow.Author.Tests.{le-leb, lt-leb}
+use Rattle.alignment.proofs.RoundLaws.{sum-within, sum-over}
 use Rattle.type_info.specs.Verdict.{distanceOk, distanceVerdict}
 use Rattle.type_info.proofs.distance_to.Statement.{statement}
 use Rattle.type_info.proofs.distance_to.Tie as tie
@@ -13,19 +14,20 @@ returns c = (rw (c .before .before .previous .given .1, lt-leb _ _ (c .if1 .take
 
 returns-2 : tie.Need-returns-2
 unfolding distanceOk distanceVerdict
-returns-2 c = (rw (c .before .before .before .previous .given .1, le-leb _ _ (c .before .if1 .left), lt-leb _ 4294967295 (c .if2 .taken)), λ i j v e. absurd (false≢true e))
+returns-2 c = (rw (c .before .before .before .before .previous .given .1, le-leb _ _ (c .before .before .if1 .left), sum-over _ (rw (c .before .round-up .ensures) at (c .if2 .taken))) refl, λ i j v e. absurd (false≢true e))
 
 returns-3 : tie.Need-returns-3
 unfolding distanceOk distanceVerdict
 returns-3 c =
-    let enough = le-leb _ _ (rw (c .before .round-up .ensures) at (c .if3 .taken)) in
-    (rw (c .before .before .before .before .before .previous .given .1, le-leb _ _ (c .before .before .before .if1 .left), le-leb _ 4294967295 (c .before .before .if2 .left), enough) refl, λ i j v e. rw (c .before .before .before .before .before .previous .given .1, enough) refl)
+    let enough = le-leb _ _ (rw (c .before .before .round-up .ensures) at (c .if3 .taken)) in
+    (rw (c .before .before .before .before .before .previous .given .1, le-leb _ _ (c .before .before .before .if1 .left), sum-within _ (rw (c .before .before .round-up .ensures) at (c .before .if2 .left)), enough) refl, λ i j v e. rw (c .before .before .before .before .before .previous .given .1, enough) refl)
 
 returns-4 : tie.Need-returns-4
 unfolding distanceOk distanceVerdict
 returns-4 c =
-    let short = lt-leb _ _ (rw (c .before .before .round-up .ensures) at (c .before .if3 .left)) in
-    (rw (c .before .before .before .before .before .before .previous .given .1, le-leb _ _ (c .before .before .before .before .if1 .left), le-leb _ 4294967295 (c .before .before .before .if2 .left), short, lt-leb _ 4294967295 (rw (c .before .before .round-up .ensures) at (c .if4 .taken))) refl, λ i j v e. absurd (false≢true e))
+    let rounded = c .before .before .before .round-up .ensures in
+    let short = lt-leb _ _ (rw rounded at (c .before .if3 .left)) in
+    (rw (c .before .before .before .before .before .before .previous .given .1, le-leb _ _ (c .before .before .before .before .if1 .left), sum-within _ (rw rounded at (c .before .before .if2 .left)), short, lt-leb _ 4294967295 (rw rounded at (c .if4 .taken))) refl, λ i j v e. absurd (false≢true e))
 
 returns-5 : tie.Need-returns-5
 unfolding distanceOk distanceVerdict
@@ -34,9 +36,10 @@ returns-5 c = (rw (c .enum-told .given .1) refl, λ i j v e. rw (c .enum-told .g
 returns-6 : tie.Need-returns-6
 unfolding distanceOk distanceVerdict
 returns-6 c =
-    let short = lt-leb _ _ (rw (c .before .before .round-up .ensures) at (c .before .if3 .left)) in (
-      rw (c .before .before .before .before .before .before .previous .given .1, le-leb _ _ (c .before .before .before .before .if1 .left), le-leb _ 4294967295 (c .before .before .before .if2 .left), short, le-leb _ 4294967295 (rw (c .before .before .round-up .ensures) at (c .if4 .left))) refl,
-      λ i j v e. rw (c .before .before .before .before .before .before .previous .given .1, short, c .before .before .round-up .ensures) refl,
+    let rounded = c .before .before .before .round-up .ensures in
+    let short = lt-leb _ _ (rw rounded at (c .before .if3 .left)) in (
+      rw (c .before .before .before .before .before .before .previous .given .1, le-leb _ _ (c .before .before .before .before .if1 .left), sum-within _ (rw rounded at (c .before .before .if2 .left)), short, le-leb _ 4294967295 (rw rounded at (c .if4 .left))) refl,
+      λ i j v e. rw (c .before .before .before .before .before .before .previous .given .1, short, rounded) refl,
     )
 
 pub distance-to-spec : {M : Type 1} → statement M
@@ -46,10 +49,8 @@ distance-to-spec =
     (λ c. search needs)
     (λ c. search needs)
     returns
-    (λ c. search needs)
-    (λ c. search needs)
-    returns-2
     (λ c κs. search needs)
+    returns-2
     (λ c. search needs)
     returns-3
     (λ c. search needs)
