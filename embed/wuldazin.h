@@ -18,7 +18,11 @@
  *
  * answer takes WULDAZIN_ANSWER_WORDS words: number, type, member, detail; all 0 when accepted. Numbers 1, 25 and 26 have zeros after the
  * number. member is the position in the struct for 6 and 17 to 21, else 0; detail is the missing capability's bit for 8, else 0.
- * An answer, mask, place or part buffer that is too short for its words is left as it was; words after its own are left too.
+ *
+ * mask takes WULDAZIN_MASK_WORDS words, bit k of each for slot k, bytes 4k to 4k + 3: the slots that are touched, then those that a part
+ * covers only in part, one of their bytes and not all four. Zeros on a refusal. A buffer of one word gets the first mask alone.
+ *
+ * An answer, place or part buffer that is too short for its words is left as it was. Words after its own are left in every buffer.
  */
 #ifndef WULDAZIN_H
 #define WULDAZIN_H
@@ -35,6 +39,7 @@ enum {
     WULDAZIN_MEMBER_WORDS = 2,
     WULDAZIN_ROW_WORDS = 14,
     WULDAZIN_ANSWER_WORDS = 4,
+    WULDAZIN_MASK_WORDS = 2,
     WULDAZIN_MOST_TYPES = 1024,
     WULDAZIN_MOST_MEMBERS = 4096,
     WULDAZIN_ALL_CAPABILITIES = 8191
@@ -168,12 +173,14 @@ void wuldazin_check(const uint32_t *types, size_t types_length,
                     uint32_t *rows, size_t rows_length,
                     uint32_t *answer, size_t answer_length);
 
-/* The immediate slots of the bytes from offset on: bit k for bytes 4k to 4k + 3. mask: one word, 0 on a refusal. Number 25. */
+/* The immediate slots of the size bytes from offset on, which are one part. An empty one has none at any offset. Number 25. */
 void wuldazin_range(uint32_t offset, uint32_t size,
                     uint64_t *mask, size_t mask_length,
                     uint32_t *answer, size_t answer_length);
 
-/* The immediate slots of type ty that stands at offset. Judges the arena first. mask: one word, 0 on a refusal. Numbers 1 to 26.
+/* The immediate slots of type ty that stands at offset. Judges the arena first. Numbers 1 to 26.
+ * A part is what is no struct, arrays taken whole. Each mask has the slots of all parts: a slot of which two parts cover a half each is in
+ * the second mask.
  * The walk visits every member of every nested struct anew: in an arena whose structs hold others several times over, it may double
  * with each level. Do not call it on tables of unknown origin without a limit on time. No other call has this. It recurses, at most
  * once a type: 200 KB of stack. */

@@ -80,14 +80,21 @@ int main(void) {
     }
     for (size_t i = 0; i < BYTES; i++) printf("%02x%s", buffer[i], i % 16 == 15 ? "\n" : i % 4 == 3 ? "  " : " ");
 
-    uint64_t mask, part[2];
-    wuldazin_slots(types, LENGTH(types), members, LENGTH(members), 0, rows, LENGTH(rows), CELL, 16, &mask, 1, answer,
+    uint64_t mask[WULDAZIN_MASK_WORDS], part[2];
+    wuldazin_slots(types, LENGTH(types), members, LENGTH(members), 0, rows, LENGTH(rows), CELL, 16, mask, LENGTH(mask), answer,
                    LENGTH(answer));
     expect("slots", answer[0], WULDAZIN_ACCEPTED);
-    expect("slots of a cell at 16", mask, 0xf0);
-    wuldazin_range(252, 4, &mask, 1, answer, LENGTH(answer));
+    expect("slots of a cell at 16", mask[0], 0xf0);
+    expect("slots of a cell at 16, in part", mask[1], 0);
+    wuldazin_range(3, 6, mask, LENGTH(mask), answer, LENGTH(answer));
     expect("range", answer[0], WULDAZIN_ACCEPTED);
-    expect("slots of the last bytes", mask, UINT64_C(1) << 63);
+    expect("slots of bytes 3 to 8", mask[0], 7);
+    expect("slots of bytes 3 to 8, in part", mask[1], 5);
+    /* A host that asks for no second mask lends one word. */
+    wuldazin_range(252, 4, mask, 1, answer, LENGTH(answer));
+    expect("range", answer[0], WULDAZIN_ACCEPTED);
+    expect("slots of the last bytes", mask[0], UINT64_C(1) << 63);
+    expect("the word that was not lent", mask[1], 5);
     wuldazin_members(types, LENGTH(types), members, LENGTH(members), KERNEL, part, LENGTH(part));
     expect("first member word", part[0], 4);
     expect("member words", part[1], 6);

@@ -378,11 +378,28 @@ static void look_at_rows(uint32_t number, uint32_t count) {
     }
 }
 
+/* How many 64-bit words the door writes: as many of the two masks as there is room for; a place or a part whole or not at all. */
+static size_t words_written(size_t length) {
+    if (length >= 2) return 2;
+    return door == RANGE || door == SLOTS ? length : 0;
+}
+
+/* The slots that a range touches and those that it covers only in part, byte by byte. */
+static void range_masks(uint32_t offset, uint32_t size, uint64_t *masks) {
+    masks[0] = masks[1] = 0;
+    for (uint64_t slot = 0; slot < 64; slot++) {
+        int covered = 0;
+        for (uint64_t byte = 4 * slot; byte < 4 * slot + 4; byte++) covered += byte >= offset && byte - offset < size;
+        if (covered > 0) masks[0] |= UINT64_C(1) << slot;
+        if (covered > 0 && covered < 4) masks[1] |= UINT64_C(1) << slot;
+    }
+}
+
 static void one_call(void) {
     static uint32_t list[STEPS_MOST];
     static const unsigned char choice[] = {LAYOUT, CHECK, CHECK, CHECK, RANGE, SLOTS, SLOTS, SLOTS, PLACE, PLACE, PLACE, MEMBERS};
     size_t answer_length = below(16) ? 4 + below(ANSWER_MOST - 3) : below(4), output_length = below(OUTPUT_MOST + 1);
-    uint64_t out[2];
+    uint64_t out[2] = {0, 0};
     door = choice[below(sizeof choice)];
     if (door == RANGE) {
         uint64_t *mask = lend(&output, noise + below(1024), 8 * output_length);
@@ -393,8 +410,10 @@ static void one_call(void) {
         bool past = size && (uint64_t)offset + size > 256;
         uint32_t number = number_of(true, 0);
         require(number == 27 || number == (past ? 25 : 0), "range");
-        if (output_length) memcpy(out, output.data, 8), require(!past || out[0] == 0, "mask beside a refusal");
-        take_back(&output, output_length ? 8 : 0);
+        size_t written = words_written(output_length);
+        if (!past) range_masks(offset, size, out);
+        require(!memcmp(output.data, out, 8 * written), "masks of a range");
+        take_back(&output, 8 * written);
         take_back(&answer, answer_length < 4 ? 0 : 16);
         return;
     }
@@ -407,7 +426,6 @@ static void one_call(void) {
     bool fits = tl % 6 == 0 && tl <= 6 * 1024 && ml % 2 == 0 && ml <= 2 * 4096 && rl / 14 >= count;
     if (door != LAYOUT) fits = fits && capabilities <= 8191;
     bool has_rows = door != MEMBERS, has_output = door == SLOTS || door == PLACE || door == MEMBERS;
-    size_t own = door == SLOTS ? 1 : 2;
 
     const uint32_t *t = lend(&types, now.types, 4 * tl), *m = lend(&members, now.members, 4 * ml), *s = NULL;
     uint32_t *r = NULL, *a = NULL;
@@ -434,14 +452,14 @@ static void one_call(void) {
         take_back(&answer, answer_length < 4 ? 0 : 16);
     }
     if (has_output) {
-        bool written = output_length >= own;
-        if (written) memcpy(out, output.data, 8 * own);
-        if (written && door == MEMBERS)
+        size_t written = words_written(output_length);
+        memcpy(out, output.data, 8 * written);
+        if (door == MEMBERS)
             require(out[0] % 2 == 0 && out[1] % 2 == 0 && out[0] <= ml && out[1] <= ml - out[0], "part outside the table");
-        else if (written && number >= 1 && number <= 26)
-            require(out[0] == 0 && (own == 1 || out[1] == 0), "words beside a refusal");
+        else if (number >= 1 && number <= 26) require((out[0] | out[1]) == 0, "words beside a refusal");
+        else if (door == SLOTS && written == 2) require((out[1] & ~out[0]) == 0, "slots covered in part and not touched");
         else if (written && door == PLACE && number == 0) require(out[1] < count, "leaf outside the arena");
-        take_back(&output, written ? 8 * own : 0);
+        take_back(&output, 8 * written);
     }
     if (door == PLACE) take_back(&steps, 0);
     take_back(&types, 0);

@@ -31,6 +31,7 @@ mod members;
 #[cfg(feature = "mock")]
 mod mock;
 mod panics;
+mod partly;
 mod place;
 #[cfg(feature = "place")]
 mod place_calls;

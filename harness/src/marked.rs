@@ -42,7 +42,7 @@ fn m1_and_its_changes() {
 fn m2_slots() {
     let types = [E, V, structure(0, 2, 16)];
     let arena = translate::arena(types.as_flattened(), &[1, 0, 0, 12]);
-    assert_eq!(slots::of_type(&arena, 2, 0), Ok(15));
+    assert_eq!(slots::of_type(&arena, 2, 0), Ok([15, 0]));
 }
 
 #[test]
@@ -89,25 +89,55 @@ fn m11_half_floats() {
 
 #[test]
 fn m12_ranges() {
-    assert_eq!(slots::of_range(300, 0), Ok(0));
-    assert_eq!(slots::of_range(3, 2), Ok(3));
-    assert_eq!(slots::of_range(252, 4), Ok(1 << 63));
+    assert_eq!(slots::of_range(300, 0), Ok([0, 0]));
+    assert_eq!(slots::of_range(3, 2), Ok([3, 3]));
+    assert_eq!(slots::of_range(252, 4), Ok([1 << 63, 0]));
     assert_eq!(slots::of_range(252, 5), Err(25));
 }
 
-/// Slot k is set when the range covers one of the bytes 4k to 4k + 3.
+/// Slot k is touched when the range covers one of the bytes 4k to 4k + 3, and
+/// covered only in part when it does not cover all four.
 #[test]
 fn small_ranges_by_their_bytes() {
     for offset in 0..300 {
         for size in 0..300 {
             let bytes = offset..offset + size;
             let expected = match bytes.end <= 256 || size == 0 {
-                true => Ok(bytes.fold(0, |mask, byte| mask | 1u64 << (byte / 4))),
+                true => Ok(masks_by_count(bytes)),
                 false => Err(25),
             };
             assert_eq!(slots::of_range(offset, size), expected);
         }
     }
+}
+
+fn masks_by_count(bytes: std::ops::Range<u32>) -> slots::Masks {
+    let mut covered = [0; SLOTS as usize];
+    if bytes.end <= 256 {
+        bytes.for_each(|byte| covered[byte as usize / 4] += 1);
+    }
+    let mask = |holds: fn(u32) -> bool| {
+        let set = (0..SLOTS).filter(|&slot| holds(covered[slot as usize]));
+        set.fold(0, |mask, slot| mask | 1 << slot)
+    };
+    [mask(|count| count > 0), mask(|count| count % 4 > 0)]
+}
+
+/// A slot stays in the second mask where other parts cover its other bytes, or
+/// all of it; an array is one part.
+#[test]
+fn parts_that_share_a_slot() {
+    let half = [kind::SCALAR, 2, 2, 0, 0, 0];
+    let walk = |types: &[[u32; 6]], members: &[u32]| {
+        assert!(check(types, members, 2).is_ok());
+        let arena = translate::arena(types.as_flattened(), members);
+        slots::of_type(&arena, types.len() as u32 - 1, 0)
+    };
+    let two_halves = [half, structure(0, 2, 4)];
+    assert_eq!(walk(&two_halves, &[0, 0, 0, 2]), Ok([1, 1]));
+    let half_over_whole = [E, half, structure(0, 2, 4)];
+    assert_eq!(walk(&half_over_whole, &[0, 0, 1, 0]), Ok([1, 1]));
+    assert_eq!(walk(&[half, array(0, 3, 2)], &[]), Ok([3, 2]));
 }
 
 #[test]

@@ -76,13 +76,9 @@ unsafe extern "C" fn wuldazin_range(
 ) {
     let mask = from_raw_parts_mut(mask, mask_len);
     let answer = from_raw_parts_mut(answer, answer_len);
-    deliver(
-        crate::slots::range(offset, size),
-        &[],
-        &mut [],
-        mask,
-        answer,
-    );
+    let mut owed = crate::slots::range(offset, size);
+    owed.output.truncate(mask_len);
+    deliver(owed, &[], &mut [], mask, answer);
 }
 
 #[cfg(feature = "slots")]
@@ -108,7 +104,8 @@ unsafe extern "C" fn wuldazin_slots(
     let mask = from_raw_parts_mut(mask, mask_len);
     let answer = from_raw_parts_mut(answer, answer_len);
     let outcome = reference::check(types, members, capabilities, rows_len);
-    let owed = crate::slots::walk(outcome, ty, offset);
+    let mut owed = crate::slots::walk(outcome, ty, offset);
+    owed.output.truncate(mask_len);
     deliver(owed, types, rows, mask, answer);
 }
 

@@ -7,6 +7,7 @@ pub const MAX_TYPES: usize = 1024;
 pub const MAX_MEMBERS: usize = 4096;
 pub const CAPABILITY_BITS: u32 = 13;
 pub const ALL_CAPABILITIES: u32 = (1 << CAPABILITY_BITS) - 1;
+pub const SLOTS: u64 = 64;
 
 /// The kinds of a type record, by their numbers.
 pub mod kind {

@@ -1,6 +1,7 @@
 //! Writes a list of arenas and queries in the language of `inspect`, and the
-//! lines that it owes: naga's answers, and the readings of 01 that the harness
-//! keeps for numbers 1 to 3, places and member parts. The port is not called.
+//! lines that it owes: naga's answers, and the readings of 01 and 02 that the
+//! harness keeps for numbers 1 to 3, places, member parts and the second of the
+//! two masks. The port is not called.
 
 use crate::generator;
 use crate::histogram::Histogram;
@@ -63,7 +64,8 @@ fn head(script: &mut Script, count: u64, seed: u64) {
         "Made in harness/ by: cargo run --release --offline",
         "  --features mock,check,slots,place,members -- replay COUNT SEED",
         "check, slots and range are answered by naga 30.0.1, compiled with overflow",
-        "checks; numbers 1 to 3, place and members by the harness's reading of 01.",
+        "checks; numbers 1 to 3, place and members by the harness's reading of 01,",
+        "the second mask of slots and range by its reading of 02, over bytes.",
         "The port is not called.",
     ];
     for line in lines {

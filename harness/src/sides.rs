@@ -54,8 +54,8 @@ impl PortSide {
         let rows = print::reference_of(&self.arena).rows.unwrap();
         assert_eq!(self.check(), ACCEPTED);
         assert_eq!(self.rows, rows.as_flattened());
-        let mask = slots::of_type(&rust.types, self.walked, 0).unwrap();
-        assert_eq!(self.slots(), (ACCEPTED, [mask]));
+        let masks = slots::of_type(&rust.types, self.walked, 0).unwrap();
+        assert_eq!(self.slots(), (ACCEPTED, masks));
         let Arena { types, members, .. } = &self.arena;
         let (byte, leaf) = place::of(types, members, self.start, &self.steps).unwrap();
         assert_eq!(self.place(), (ACCEPTED, [byte, u64::from(leaf)]));
@@ -65,7 +65,7 @@ impl PortSide {
         self.call::<0>(port::check).0
     }
 
-    pub fn slots(&mut self) -> (Answer, [u64; 1]) {
+    pub fn slots(&mut self) -> (Answer, slots::Masks) {
         let ty = self.walked;
         self.call(|arena, lent| port::slots(arena, ty, 0, lent))
     }

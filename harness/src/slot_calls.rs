@@ -16,10 +16,10 @@ pub fn range(count: u64, seed: u64) -> bool {
     run(count, seed, no_arena, |_, random, histogram| {
         let (offset, size) = offset_and_size(random);
         let expected = slots::range(offset, size);
-        count_mask(histogram, &expected);
+        count_masks(histogram, &expected);
         Case {
             asked: vec![offset, size],
-            expected,
+            expected: perhaps_shorter(random, expected),
             call: Box::new(move |lent| port::range(offset, size, lent)),
         }
     })
@@ -33,25 +33,36 @@ pub fn slots(count: u64, seed: u64) -> bool {
         |arena, random, histogram| {
             let (ty, offset) = (walked_type(random, arena), start(random));
             let expected = slots::walk(print::reference_of(arena), ty, offset);
-            count_mask(histogram, &expected);
+            count_masks(histogram, &expected);
             Case {
                 asked: vec![ty, offset],
-                expected,
+                expected: perhaps_shorter(random, expected),
                 call: Box::new(move |lent| port::slots(arena, ty, offset, lent)),
             }
         },
     )
 }
 
-fn count_mask(histogram: &mut Histogram, expected: &Expected) {
+fn count_masks(histogram: &mut Histogram, expected: &Expected) {
     histogram.count_answer(expected.answer);
-    histogram.note(match (expected.answer[0], expected.output[0]) {
-        (0, 0) => "empty mask",
-        (0, _) => "mask",
-        (slots::PAST_THE_SLOTS, _) => "25",
-        (NO_SUCH, _) => "26",
+    let (touched, partly) = (expected.output[0], expected.output[1]);
+    histogram.note(match (expected.answer[0], touched, partly) {
+        (0, 0, _) => "empty masks",
+        (0, _, 0) => "no slot in part",
+        (0, _, _) if touched == partly => "all slots in part",
+        (0, _, _) => "some slots in part",
+        (slots::PAST_THE_SLOTS, ..) => "25",
+        (NO_SUCH, ..) => "26",
         _ => "arena refused",
     });
+}
+
+/// A buffer of one word is owed the first mask, and one of none nothing.
+fn perhaps_shorter(random: &mut Random, mut expected: Expected) -> Expected {
+    if random.one_in(8) {
+        expected.output.truncate(random.below(2) as usize);
+    }
+    expected
 }
 
 pub fn offset_and_size(random: &mut Random) -> (u32, u32) {

@@ -1,5 +1,5 @@
 -- What the calls for C leave in the buffers that they are lent. An answer is four words, number, type, member, detail; zeros for an accepted one.
--- A buffer that is too short for its words is left as it was.
+-- A buffer of one word gets the first of the two masks; any other buffer that is too short for its words is left as it was.
 -- Assumes nothing.
 use mathlib.Core.List.{List, [], _∷_, _++_}
 use Prim.Native.Nat.{ℕ, _*_}
@@ -20,7 +20,7 @@ answerWords Accepted = 0 ∷ 0 ∷ 0 ∷ 0 ∷ []
 answerWords (Refused number ty member detail) = number ∷ ty ∷ member ∷ detail ∷ []
 
 abbrev pub slotsOutcome : SlotsAnswer → Outcome
-slotsOutcome (slots.Slots mask) = Accepted
+slotsOutcome (slots.Slots touched partly) = Accepted
 slotsOutcome (slots.Refused number ty member detail) = Refused number ty member detail
 
 abbrev pub placeOutcome : PlaceAnswer → Outcome
@@ -28,10 +28,16 @@ placeOutcome (place.Found byte leaf) = Accepted
 placeOutcome (place.Refused number ty member detail) = Refused number ty member detail
 
 -- ---- the words beside it; zeros on a refusal
-abbrev pub maskOf : SlotsAnswer → ℕ
-maskOf (slots.Slots mask) = mask
-maskOf (slots.Refused number ty member detail) = 0
+-- the two masks
+abbrev pub touchedOf : SlotsAnswer → ℕ
+touchedOf (slots.Slots touched partly) = touched
+touchedOf (slots.Refused number ty member detail) = 0
 
+abbrev pub partlyOf : SlotsAnswer → ℕ
+partlyOf (slots.Slots touched partly) = partly
+partlyOf (slots.Refused number ty member detail) = 0
+
+-- a leaf's byte place and its type
 abbrev pub byteOf : PlaceAnswer → ℕ
 byteOf (place.Found byte leaf) = byte
 byteOf (place.Refused number ty member detail) = 0
@@ -51,8 +57,11 @@ partLength ts ms ty = length (structMembers ts ms ty)
 unfoldable pub withAnswer : List ℕ → Outcome → List ℕ
 withAnswer words outcome = pick (leb 4 (length words)) (answerWords outcome ++ drop 4 words) words
 
-unfoldable pub withOne : List ℕ → ℕ → List ℕ
-withOne words a = pick (leb 1 (length words)) (a ∷ drop 1 words) words
-
 unfoldable pub withTwo : List ℕ → (a b : ℕ) → List ℕ
 withTwo words a b = pick (leb 2 (length words)) (a ∷ b ∷ drop 2 words) words
+
+-- the first mask where there is one word, the second only where there are two
+unfoldable pub withMasks : List ℕ → SlotsAnswer → List ℕ
+withMasks [] found = []
+withMasks (w ∷ []) found = touchedOf found ∷ []
+withMasks (w ∷ x ∷ words) found = touchedOf found ∷ partlyOf found ∷ words

@@ -14,7 +14,7 @@ ghost use Rattle.valid.specs.Arena.{arenaAnswer, arenaWords};
 ghost use Rattle.slots.specs.Slots.{rangeSlots, partAnswer};
 ghost use Rattle.immediates.specs.Immediates.{slotsAnswer};
 ghost use Rattle.place.specs.Place.{lookupAnswer};
-ghost use Rattle.doors.specs.Doors.{slotsOutcome, placeOutcome, maskOf, byteOf, leafOf, partStart, partLength, withAnswer, withOne, withTwo};
+ghost use Rattle.doors.specs.Doors.{slotsOutcome, placeOutcome, touchedOf, partlyOf, byteOf, leafOf, partStart, partLength, withAnswer, withTwo, withMasks};
 
 fn put_four(answer: &mut [u32], a: u32, b: u32, c: u32, d: u32)
     requires { ⌜ 4 ≤ length (now answer) ⌝ }
@@ -44,15 +44,6 @@ fn put_answer(answer: &mut [u32], outcome: Outcome)
     }
 }
 
-fn put_one(words: &mut [u64], a: u64)
-    ensures { λ _. ⌜ now (words .exit) ≡ withOne (now (words .entry)) a ⌝ }
-{
-    if words.len() < 1 {
-        return;
-    }
-    words[0] = a;
-}
-
 fn put_two(words: &mut [u64], a: u64, b: u64)
     ensures { λ _. ⌜ now (words .exit) ≡ withTwo (now (words .entry)) a b ⌝ }
 {
@@ -67,7 +58,10 @@ fn slots_outcome(found: SlotsAnswer) -> Outcome
     ensures { λ r. ⌜ r ≡ slotsOutcome found ⌝ }
 {
     match found {
-        SlotsAnswer::Slots(_) => Outcome::Accepted,
+        SlotsAnswer::Slots {
+            touched: _,
+            partly: _,
+        } => Outcome::Accepted,
         SlotsAnswer::Refused {
             number,
             ty,
@@ -82,11 +76,11 @@ fn slots_outcome(found: SlotsAnswer) -> Outcome
     }
 }
 
-fn mask_of(found: SlotsAnswer) -> u64
-    ensures { λ r. ⌜ r ≡ maskOf found ⌝ }
+fn touched_of(found: SlotsAnswer) -> u64
+    ensures { λ r. ⌜ r ≡ touchedOf found ⌝ }
 {
     match found {
-        SlotsAnswer::Slots(mask) => mask,
+        SlotsAnswer::Slots { touched, partly: _ } => touched,
         SlotsAnswer::Refused {
             number: _,
             ty: _,
@@ -94,6 +88,34 @@ fn mask_of(found: SlotsAnswer) -> u64
             detail: _,
         } => 0,
     }
+}
+
+fn partly_of(found: SlotsAnswer) -> u64
+    ensures { λ r. ⌜ r ≡ partlyOf found ⌝ }
+{
+    match found {
+        SlotsAnswer::Slots { touched: _, partly } => partly,
+        SlotsAnswer::Refused {
+            number: _,
+            ty: _,
+            member: _,
+            detail: _,
+        } => 0,
+    }
+}
+
+// Both masks; a buffer of one word gets the first.
+fn put_masks(mask: &mut [u64], found: SlotsAnswer)
+    ensures { λ _. ⌜ now (mask .exit) ≡ withMasks (now (mask .entry)) found ⌝ }
+{
+    if mask.len() < 1 {
+        return;
+    }
+    mask[0] = touched_of(found);
+    if mask.len() < 2 {
+        return;
+    }
+    mask[1] = partly_of(found);
 }
 
 fn place_outcome(place: PlaceAnswer) -> Outcome
@@ -174,18 +196,18 @@ pub extern "C" fn wuldazin_check(
     put_answer(answer, outcome);
 }
 
-// The slots of a range given as two numbers.
+// The slots of a range given as two numbers: those touched, and those covered only in part.
 #[no_mangle]
 pub extern "C" fn wuldazin_range(offset: u32, size: u32, mask: &mut [u64], answer: &mut [u32])
-    ensures { λ _. ⌜ now (mask .exit) ≡ withOne (now (mask .entry)) (maskOf (partAnswer (rangeSlots offset size))) ⌝ }
+    ensures { λ _. ⌜ now (mask .exit) ≡ withMasks (now (mask .entry)) (partAnswer (rangeSlots offset size)) ⌝ }
     ensures { λ _. ⌜ now (answer .exit) ≡ withAnswer (now (answer .entry)) (slotsOutcome (partAnswer (rangeSlots offset size))) ⌝ }
 {
     let found = slots::range(offset, size);
-    put_one(mask, mask_of(found));
+    put_masks(mask, found);
     put_answer(answer, slots_outcome(found));
 }
 
-// The slots of a type of an arena from an offset on.
+// The slots of a type of an arena from an offset on: those touched, and those that a part covers only in part.
 #[no_mangle]
 pub extern "C" fn wuldazin_slots(
     types: &[u32],
@@ -198,11 +220,11 @@ pub extern "C" fn wuldazin_slots(
     answer: &mut [u32],
 )
     ensures { λ _. ⌜ now (rows .exit) ≡ arenaWords capabilities (now (types .entry)) (now (members .entry)) (now (rows .entry)) ⌝ }
-    ensures { λ _. ⌜ now (mask .exit) ≡ withOne (now (mask .entry)) (maskOf (slotsAnswer capabilities (now (types .entry)) (now (members .entry)) (now (rows .entry)) ty offset)) ⌝ }
+    ensures { λ _. ⌜ now (mask .exit) ≡ withMasks (now (mask .entry)) (slotsAnswer capabilities (now (types .entry)) (now (members .entry)) (now (rows .entry)) ty offset) ⌝ }
     ensures { λ _. ⌜ now (answer .exit) ≡ withAnswer (now (answer .entry)) (slotsOutcome (slotsAnswer capabilities (now (types .entry)) (now (members .entry)) (now (rows .entry)) ty offset)) ⌝ }
 {
     let found = immediates::immediate_slots(types, members, capabilities, rows, ty, offset);
-    put_one(mask, mask_of(found));
+    put_masks(mask, found);
     put_answer(answer, slots_outcome(found));
 }
 

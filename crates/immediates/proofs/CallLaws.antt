@@ -1,5 +1,5 @@
 -- Laws of the call: the types of an accepted arena measure within 32 bits, the answer by what the arena check says, and the meaning of
--- the mask slot by slot.
+-- both masks slot by slot.
 -- Assumes nothing.
 use mathlib.Core.Path.{_≡_, refl}
 use mathlib.Core.Bool.{Bool, true, false}
@@ -19,7 +19,7 @@ use Rattle.valid.specs.Arena.{judgeOutcome, arenaFits, arenaOutcome, arenaAnswe
 use Rattle.slots.specs.declared.Slots.{Slots}
 use Rattle.slots.specs.declared.Slots.the-variants.{Mask, Past}
 use Rattle.slots.specs.declared.SlotsAnswer.the-variants as answer
-use Rattle.slots.specs.Slots.{slotCount, partAnswer}
+use Rattle.slots.specs.Slots.{slotCount, maskBy, partAnswer}
 use Rattle.type_slots.specs.Walk.{Measured, CoveredBy, slotsAt}
 use Rattle.type_slots.proofs.MeasuredLaws.{layout-measured}
 use Rattle.type_slots.proofs.SlotLaws.{walk-slot}
@@ -57,29 +57,29 @@ pub answer-refused : (c : ℕ) (ts ms rows : List ℕ) (ty offset : ℕ) {number
 unfolding slotsAnswer
 answer-refused c ts ms rows ty offset e = rw e refl
 
--- an answered mask is the part's
-part-mask : (o : Slots) (m : ℕ) → partAnswer o ≡ answer.Slots m → o ≡ Mask m
-part-mask (Mask x) m e = let q : x ≡ m = cc in rw q refl
-part-mask Past m e = let z : _≡_ {A = ℕ} 0 1 = cc in absurd (omega arith)
+-- answered masks are the part's
+part-mask : (o : Slots) (m p : ℕ) → partAnswer o ≡ answer.Slots m p → o ≡ Mask m p
+part-mask (Mask x y) m p e = let q : x ≡ m = cc in let r : y ≡ p = cc in rw (q, r) refl
+part-mask Past m p e = let z : _≡_ {A = ℕ} 0 1 = cc in absurd (omega arith)
 
--- it comes from an accepted arena and a type of it
-type-mask : (ts ms : List ℕ) (ty offset : ℕ) (o : Outcome) (m : ℕ) → typeAnswer ts ms ty offset o ≡ answer.Slots m
-    → slotsAt (decoded ts ms) ty offset ≡ Mask m
-type-mask ts ms ty offset Accepted m e = go (ltb ty (typeCount ts)) e
+-- they come from an accepted arena and a type of it
+type-mask : (ts ms : List ℕ) (ty offset : ℕ) (o : Outcome) (m p : ℕ) → typeAnswer ts ms ty offset o ≡ answer.Slots m p
+    → slotsAt (decoded ts ms) ty offset ≡ Mask m p
+type-mask ts ms ty offset Accepted m p e = go (ltb ty (typeCount ts)) e
   where
-    go : (b : Bool) → pick b (partAnswer (slotsAt (decoded ts ms) ty offset)) (answer.Refused 26 0 0 0) ≡ answer.Slots m
-        → slotsAt (decoded ts ms) ty offset ≡ Mask m
-    go true q = part-mask (slotsAt (decoded ts ms) ty offset) m q
+    go : (b : Bool) → pick b (partAnswer (slotsAt (decoded ts ms) ty offset)) (answer.Refused 26 0 0 0) ≡ answer.Slots m p
+        → slotsAt (decoded ts ms) ty offset ≡ Mask m p
+    go true q = part-mask (slotsAt (decoded ts ms) ty offset) m p q
     go false q = let z : _≡_ {A = ℕ} 0 1 = cc in absurd (omega arith)
-type-mask ts ms ty offset (Refused number t position detail) m e = let z : _≡_ {A = ℕ} 0 1 = cc in absurd (omega arith)
+type-mask ts ms ty offset (Refused number t position detail) m p e = let z : _≡_ {A = ℕ} 0 1 = cc in absurd (omega arith)
 
--- a mask that the call answers is that of the walk
-pub answer-mask : (c : ℕ) (ts ms rows : List ℕ) (ty offset m : ℕ) → slotsAnswer c ts ms rows ty offset ≡ answer.Slots m
-    → slotsAt (decoded ts ms) ty offset ≡ Mask m
+-- masks that the call answers are those of the walk
+pub answer-mask : (c : ℕ) (ts ms rows : List ℕ) (ty offset m p : ℕ) → slotsAnswer c ts ms rows ty offset ≡ answer.Slots m p
+    → slotsAt (decoded ts ms) ty offset ≡ Mask m p
 unfolding slotsAnswer
-answer-mask c ts ms rows ty offset m e = type-mask ts ms ty offset (arenaAnswer c ts ms rows) m e
+answer-mask c ts ms rows ty offset m p e = type-mask ts ms ty offset (arenaAnswer c ts ms rows) m p e
 
--- slot k of the mask that the call answers is set exactly where a non-struct part of the type covers it
-pub call-slot : (c : ℕ) (ts ms rows : List ℕ) (ty offset m : ℕ) → slotsAnswer c ts ms rows ty offset ≡ answer.Slots m → (k : ℕ) → k < slotCount
-    → (T (bit m k) → CoveredBy (decoded ts ms) ty offset k) × (CoveredBy (decoded ts ms) ty offset k → T (bit m k))
-call-slot c ts ms rows ty offset m e k h = walk-slot (decoded ts ms) k h ty offset m (answer-mask c ts ms rows ty offset m e)
+-- slot k of a mask that the call answers is set exactly where a non-struct part of the type covers it, by the mask's own test
+pub call-slot : (partly : Bool) (c : ℕ) (ts ms rows : List ℕ) (ty offset m p : ℕ) → slotsAnswer c ts ms rows ty offset ≡ answer.Slots m p → (k : ℕ) → k < slotCount
+    → (T (bit (maskBy partly m p) k) → CoveredBy partly (decoded ts ms) ty offset k) × (CoveredBy partly (decoded ts ms) ty offset k → T (bit (maskBy partly m p) k))
+call-slot partly c ts ms rows ty offset m p e k h = walk-slot (decoded ts ms) partly k h ty offset m p (answer-mask c ts ms rows ty offset m p e)

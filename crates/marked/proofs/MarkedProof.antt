@@ -1,6 +1,6 @@
 -- The marked examples hold: one computed test over the whole table, and one law that turns it into what each row says.
 -- Assumes nothing.
-use mathlib.Core.Path.{_≡_, refl, ap, _∙_, sym}
+use mathlib.Core.Path.{_≡_, refl, _∙_, sym}
 use mathlib.Core.Bool.{Bool, true, false, _&&_}
 use mathlib.Core.List.{List, [], _∷_}
 use Prim.Native.Nat.{ℕ}
@@ -28,7 +28,7 @@ use Rattle.valid.specs.Arena.{judgeOutcome, arenaOutcome, arenaAnswer, arenaRow
 use Rattle.slots.specs.declared.SlotsAnswer.{SlotsAnswer}
 use Rattle.slots.specs.declared.SlotsAnswer.the-variants as slots
 use Rattle.slots.specs.declared.SlotsAnswer.the-variants.{Slots}
-use Rattle.slots.specs.Slots.{covers, maskOf, rangeSlots, partAnswer}
+use Rattle.slots.specs.Slots.{covers, coversAll, maskOf, rangeSlots, partAnswer}
 use Rattle.type_slots.specs.Walk.{membersSlots, slotsOf}
 use Rattle.immediates.specs.Immediates.{slotsAnswer}
 use Rattle.marked.specs.Marked.{Words, Example, lent, made, left, AllLeft, Holds, Case, arenaCase, slotsCase, rangeCase, CaseHolds, marked}
@@ -54,9 +54,9 @@ holds : Example → Bool
 holds x = sameOutcome (made x) (x .answer) && allLeft x (x .rows)
 
 sameSlots : SlotsAnswer → SlotsAnswer → Bool
-sameSlots (Slots a) (Slots b) = eqb a b
-sameSlots (Slots a) (slots.Refused n t m d) = false
-sameSlots (slots.Refused n t m d) (Slots b) = false
+sameSlots (Slots a p) (Slots b q) = eqb a b && eqb p q
+sameSlots (Slots a p) (slots.Refused n t m d) = false
+sameSlots (slots.Refused n t m d) (Slots b q) = false
 sameSlots (slots.Refused n t m d) (slots.Refused n′ t′ m′ d′) = eqb n n′ && eqb t t′ && eqb m m′ && eqb d d′
 
 caseHolds : Case → Bool
@@ -97,9 +97,9 @@ outcome-same (Refused n u m d) (Refused n′ u′ m′ d′) t =
 
 slots-same : (a b : SlotsAnswer) → T (sameSlots a b) → a ≡ b
 unfolding sameSlots
-slots-same (Slots a) (Slots b) t = ap Slots (eqb→eq a b t)
-slots-same (Slots a) (slots.Refused n u m d) t = absurd t
-slots-same (slots.Refused n u m d) (Slots b) t = absurd t
+slots-same (Slots a p) (Slots b q) t = rw (eqb→eq a b (and-left (eqb a b) (eqb p q) t), eqb→eq p q (and-right (eqb a b) (eqb p q) t)) refl
+slots-same (Slots a p) (slots.Refused n u m d) t = absurd t
+slots-same (slots.Refused n u m d) (Slots b q) t = absurd t
 slots-same (slots.Refused n u m d) (slots.Refused n′ u′ m′ d′) t =
     let e = four-same n u m d n′ u′ m′ d′ t in rw (e .0, e .1, e .2, e .3) refl
 
@@ -136,7 +136,7 @@ all-hold (x ∷ xs) t = (case-holds x (and-left (caseHolds x) (every xs) t), all
 
 -- the computed test over the whole table
 test : T (every marked)
-unfolding every caseHolds holds allLeft sameOutcome sameSlots sameList marked arenaAnswer arenaWords arenaOutcome judgeOutcome arenaRows layoutOutcome tablesFit recordAt fieldsOk resultAt valueAt typeInner innerOf structMembers layoutOf trySize alignmentOf membersAlignment judge flagsOf rowOf leafFlags nonDataFlags uniformOf storageOf immediatesOf checkWidth integerWidth floatWidth boundsAfter memberBounds previousOf uniformAfter storageAfter immediatesAfter arrayVerdict shareVerdict memberVerdict distanceVerdict distanceOk unsizedVerdict spanVerdict wordsOf slotsAnswer slotsOf membersSlots rangeSlots covers maskOf
+unfolding every caseHolds holds allLeft sameOutcome sameSlots sameList marked arenaAnswer arenaWords arenaOutcome judgeOutcome arenaRows layoutOutcome tablesFit recordAt fieldsOk resultAt valueAt typeInner innerOf structMembers layoutOf trySize alignmentOf membersAlignment judge flagsOf rowOf leafFlags nonDataFlags uniformOf storageOf immediatesOf checkWidth integerWidth floatWidth boundsAfter memberBounds previousOf uniformAfter storageAfter immediatesAfter arrayVerdict shareVerdict memberVerdict distanceVerdict distanceOk unsizedVerdict spanVerdict wordsOf slotsAnswer slotsOf membersSlots rangeSlots covers coversAll maskOf
 test = tt
 
 -- M1 to M12 hold

@@ -111,8 +111,8 @@ marked =
     (row 0 0 (4 ∷ 4 ∷ 255 ∷ 0 ∷ 4 ∷ 0 ∷ 0 ∷ 0 ∷ 0 ∷ 4 ∷ 0 ∷ 0 ∷ 0 ∷ 0 ∷ [])
     ∷ row 1 0 (12 ∷ 16 ∷ 255 ∷ 0 ∷ 16 ∷ 0 ∷ 0 ∷ 0 ∷ 0 ∷ 16 ∷ 0 ∷ 0 ∷ 0 ∷ 0 ∷ [])
     ∷ row 2 0 (16 ∷ 16 ∷ 247 ∷ 0 ∷ 16 ∷ 0 ∷ 0 ∷ 0 ∷ 0 ∷ 16 ∷ 0 ∷ 0 ∷ 0 ∷ 0 ∷ 7 ∷ []) ∷ []))
-    -- M2: M1's struct, slots from 0: 15
-    ∷ slotsCase (accepted (pair 16) (pairMembers 12) []) 2 0 (Slots 15)
+    -- M2: M1's struct, slots from 0: 15, none covered only in part
+    ∷ slotsCase (accepted (pair 16) (pairMembers 12) []) 2 0 (Slots 15 0)
     -- M3: span 20: both verdicts 2, type 2, value 20, bound 16
     ∷ arenaCase (accepted (pair 20) (pairMembers 12) (row 2 3 (2 ∷ 2 ∷ 0 ∷ 20 ∷ 16 ∷ 2 ∷ 2 ∷ 0 ∷ 20 ∷ 16 ∷ []) ∷ []))
     -- M4: E at 8: 18, member 1
@@ -133,9 +133,9 @@ marked =
     -- M11: f16 without bit 1: 8, detail 1; with it: immediates word 3
     ∷ arenaCase (refused f16 [] 8 0 0 1)
     ∷ arenaCase (record { capabilities = 2; types = f16; members = []; answer = Accepted; rows = row 0 13 (3 ∷ []) ∷ [] })
-    -- M12: ranges (offset, size): (300, 0) gives 0; (3, 2) gives 3; (252, 4) gives bit 63 alone; (252, 5) gives 25
-    ∷ rangeCase 300 0 (Slots 0)
-    ∷ rangeCase 3 2 (Slots 3)
-    ∷ rangeCase 252 4 (Slots 9223372036854775808)
+    -- M12: ranges (offset, size): (300, 0) gives 0; (3, 2) gives 3, both only in part; (252, 4) gives bit 63 alone; (252, 5) gives 25
+    ∷ rangeCase 300 0 (Slots 0 0)
+    ∷ rangeCase 3 2 (Slots 3 3)
+    ∷ rangeCase 252 4 (Slots 9223372036854775808 0)
     ∷ rangeCase 252 5 (slots.Refused 25 0 0 0)
     ∷ []

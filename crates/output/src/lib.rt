@@ -105,9 +105,10 @@ pub fn put_outcome(out: &mut Buffer, at: usize, outcome: Outcome, rows: &[u32]) 
 
 pub fn put_slots(out: &mut Buffer, at: usize, answer: SlotsAnswer) -> usize {
     match answer {
-        SlotsAnswer::Slots(mask) => {
-            let end = put_named(out, at, b"slots", mask);
-            put_byte(out, end, b'\n')
+        SlotsAnswer::Slots { touched, partly } => {
+            let a = put_named(out, at, b"slots", touched);
+            let b = put_number(out, a, b' ', partly);
+            put_byte(out, b, b'\n')
         }
         SlotsAnswer::Refused {
             number,

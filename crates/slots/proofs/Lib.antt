@@ -1,3 +1,4 @@
 pub mod MaskLaws
 pub mod RangeLaws
+pub mod PartLaws
 pub mod SlotBits

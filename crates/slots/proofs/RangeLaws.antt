@@ -40,7 +40,7 @@ module _ (f : ℕ → Bool) where
       (one-set (maskOf f i) (maskOf f n) (2 ^ i) (2 ^ n) (2 ^ suc i) (ih (λ k p q. all k p (le-step q))) (pow-suc 2 i))) m h
 
   -- slots lo up to hi set, and no others below n
-  run-mask : (lo hi n : ℕ) → lo ≤ hi → hi ≤ n → ((k : ℕ) → k < lo → f k ≡ false) → ((k : ℕ) → lo ≤ k → k < hi → f k ≡ true)
+  pub run-mask : (lo hi n : ℕ) → lo ≤ hi → hi ≤ n → ((k : ℕ) → k < lo → f k ≡ false) → ((k : ℕ) → lo ≤ k → k < hi → f k ≡ true)
       → ((k : ℕ) → hi ≤ k → f k ≡ false) → maskOf f n ≡ 2 ^ hi - 2 ^ lo
   unfolding maskOf
   run-mask lo hi n h l before within after =
@@ -51,15 +51,15 @@ module _ (f : ℕ → Bool) where
 
 -- ---- what a part covers
 -- a byte before the part is none of it
-before-part : (offset size b : ℕ) → b < offset → inPart offset size b ≡ false
+pub before-part : (offset size b : ℕ) → b < offset → inPart offset size b ≡ false
 before-part offset size b h = rw (lt-leb offset b h) refl
 
 -- nor is one past it
-past-part : (offset size b : ℕ) → offset + size ≤ b → inPart offset size b ≡ false
+pub past-part : (offset size b : ℕ) → offset + size ≤ b → inPart offset size b ≡ false
 past-part offset size b h = rw (le-leb offset b (omega arith), le-ltb b (offset + size) h) refl
 
 -- a byte from the offset up to the end is one of the part's
-in-part : (offset size b : ℕ) → offset ≤ b → b < offset + size → T (inPart offset size b)
+pub in-part : (offset size b : ℕ) → offset ≤ b → b < offset + size → T (inPart offset size b)
 in-part offset size b h l = rw (le-leb offset b h, lt-ltb b (offset + size) l) tt
 
 -- the first of two tests

@@ -1,6 +1,6 @@
 -- The meaning of masks slot by slot: difference, union, contains, and a range.
 -- Assumes nothing.
-use mathlib.Core.Path.{_≡_, refl, sym, _∙_}
+use mathlib.Core.Path.{_≡_, refl, sym, ap, _∙_}
 use mathlib.Core.Bool.{Bool, true, false, _&&_, _||_, not}
 use Prim.Native.Nat.{ℕ, zero, suc, _+_, _^_, _<_}
 use native.Mathlib.Nat.{not-suc-le-zero, zero-div}
@@ -12,7 +12,7 @@ use Rattle.records.specs.Result.{pick}
 use Rattle.records.proofs.ResultLaws.{and-left, and-right}
 use Rattle.flags.specs.Flags.{bit}
 use Rattle.slots.specs.declared.Slots.the-variants.{Mask, Past}
-use Rattle.slots.specs.Slots.{slotCount, slotBytes, covers, maskOf, rangeSlots, containsBelow, contains, difference, union}
+use Rattle.slots.specs.Slots.{slotCount, slotBytes, covers, coversPartly, coversBy, maskBy, maskOf, rangeSlots, containsBelow, contains, difference, union}
 use Rattle.slots.proofs.MaskLaws.{bit-mask}
 use Rattle.slots.proofs.RangeLaws.{covers-nothing}
 
@@ -69,17 +69,39 @@ slots-contains this other = each-contains this other slotCount
 pub zero-bit : (k : ℕ) → bit 0 k ≡ false
 zero-bit k = rw (zero-div (2 ^ k)) refl
 
--- equal masks
-pub mask-inj : {a b : ℕ} → Mask a ≡ Mask b → a ≡ b
-mask-inj {a} {b} e = cc
+-- nor one of two empty masks
+pub empty-bit : (partly : Bool) (k : ℕ) → bit (maskBy partly 0 0) k ≡ false
+empty-bit false k = zero-bit k
+empty-bit true k = zero-bit k
 
--- slot k of a range is set just where the part covers it
-pub range-slot : (offset size m : ℕ) → rangeSlots offset size ≡ Mask m → (k : ℕ) → k < slotCount → bit m k ≡ covers offset size k
+-- equal parts have equal masks
+pub mask-inj : {a b p q : ℕ} → Mask a p ≡ Mask b q → a ≡ b
+mask-inj {a} {b} {p} {q} e = cc
+
+pub partly-inj : {a b p q : ℕ} → Mask a p ≡ Mask b q → p ≡ q
+partly-inj {a} {b} {p} {q} e = cc
+
+-- an empty part covers no slot, whole or in part
+covers-none : (partly : Bool) (offset k : ℕ) → coversBy partly offset 0 k ≡ false
+covers-none false offset k = covers-nothing offset k
+covers-none true offset k = rw (covers-nothing offset k) refl
+
+-- the masks of a part, each by its test
+masks-by : (partly : Bool) (offset size n : ℕ) → maskBy partly (maskOf (covers offset size) n) (maskOf (coversPartly offset size) n) ≡ maskOf (coversBy partly offset size) n
+masks-by false offset size n = refl
+masks-by true offset size n = refl
+
+-- slot k of a mask of a range is set just where the part covers it; of the second mask, where it covers it only in part
+pub range-slot : (partly : Bool) (offset size m p : ℕ) → rangeSlots offset size ≡ Mask m p → (k : ℕ) → k < slotCount
+    → bit (maskBy partly m p) k ≡ coversBy partly offset size k
 unfolding rangeSlots
-range-slot offset size m e k h = go (eqb size 0) refl (leb (offset + size) slotBytes) e
+range-slot partly offset size m p e k h = go (eqb size 0) refl (leb (offset + size) slotBytes) e
   where
-    go : (b : Bool) → eqb size 0 ≡ b → (d : Bool) → pick b (Mask 0) (pick d (Mask (maskOf (covers offset size) slotCount)) Past) ≡ Mask m
-        → bit m k ≡ covers offset size k
-    go true z d q = rw (← mask-inj q, eqb-true size 0 z) (zero-bit k ∙ sym (covers-nothing offset k))
-    go false z true q = rw (← mask-inj q) (bit-mask (covers offset size) slotCount k h)
+    go : (b : Bool) → eqb size 0 ≡ b → (d : Bool)
+        → pick b (Mask 0 0) (pick d (Mask (maskOf (covers offset size) slotCount) (maskOf (coversPartly offset size) slotCount)) Past) ≡ Mask m p
+        → bit (maskBy partly m p) k ≡ coversBy partly offset size k
+    go true z d q = rw (← mask-inj q, ← partly-inj q, eqb-true size 0 z) (empty-bit partly k ∙ sym (covers-none partly offset k))
+    go false z true q =
+        rw (← mask-inj q, ← partly-inj q)
+        (ap (λ (x : ℕ). bit x k) (masks-by partly offset size slotCount) ∙ bit-mask (coversBy partly offset size) slotCount k h)
     go false z false q = let x : _≡_ {A = ℕ} 0 1 = cc in absurd (omega arith)

@@ -1,15 +1,20 @@
 // Slot masks: ImmediateSlots of naga's valid/immediates.rs without the walk of a type.
 ghost use mathlib.Core.Path.{_≡_};
-ghost use Rattle.slots.specs.Slots.{rangeSlots, contains, difference, union, join, partAnswer};
+ghost use Prim.Native.Nat.{_≤_};
+ghost use Rattle.slots.specs.Slots.{slotCount, slotBytes, maskOf, cuts, rangeSlots, contains, difference, union, join, partAnswer};
 
-// The slots that a part covers. Past: number 25, a nonempty part ends past byte 256 or an offset sum leaves 32 bits.
+// The slots that a part touches, and those that it covers only in part.
+// Past: number 25, a nonempty part ends past byte 256 or an offset sum leaves 32 bits.
 pub enum Slots {
-    Mask(u64),
+    Mask { touched: u64, partly: u64 },
     Past,
 }
 
 pub enum SlotsAnswer {
-    Slots(u64),
+    Slots {
+        touched: u64,
+        partly: u64,
+    },
     Refused {
         number: u32,
         ty: u32,
@@ -22,12 +27,27 @@ const ALL: u64 = 18446744073709551615;
 
 const SLOT_BYTES: u64 = 256;
 
-// from_range: the slots of the bytes from offset on.
+// The slot that the border of a part lies inside; none where a slot begins or ends there, so that nothing is shifted by 64.
+fn cut_slot(border: u64) -> u64
+    requires { ⌜ border ≤ slotBytes ⌝ }
+    ensures { λ r. ⌜ r ≡ maskOf (cuts border) slotCount ⌝ }
+{
+    if border % 4 == 0 {
+        return 0;
+    }
+    let slot = border / 4;
+    1 << slot
+}
+
+// from_range: the slots of the bytes from offset on, and those that one of their two borders lies inside.
 pub fn range_slots(offset: u32, size: u32) -> Slots
     ensures { λ r. ⌜ r ≡ rangeSlots offset size ⌝ }
 {
     if size == 0 {
-        return Slots::Mask(0);
+        return Slots::Mask {
+            touched: 0,
+            partly: 0,
+        };
     }
     let end = (offset as u64) + (size as u64);
     if SLOT_BYTES < end {
@@ -38,7 +58,12 @@ pub fn range_slots(offset: u32, size: u32) -> Slots
     let from = ALL << lo;
     let rest = 64 - hi;
     let below = ALL >> rest;
-    Slots::Mask(from & below)
+    let first = cut_slot(offset as u64);
+    let last = cut_slot(end);
+    Slots::Mask {
+        touched: from & below,
+        partly: first | last,
+    }
 }
 
 // The slots of a range given as two numbers; it has no arena.
@@ -69,13 +94,22 @@ pub fn union_of(this: u64, other: u64) -> u64
     this | other
 }
 
-// Two parts together.
+// Two parts together: the union of each mask.
 pub fn join_parts(a: Slots, b: Slots) -> Slots
     ensures { λ r. ⌜ r ≡ join a b ⌝ }
 {
     match a {
-        Slots::Mask(x) => match b {
-            Slots::Mask(y) => Slots::Mask(union_of(x, y)),
+        Slots::Mask {
+            touched: x,
+            partly: p,
+        } => match b {
+            Slots::Mask {
+                touched: y,
+                partly: q,
+            } => Slots::Mask {
+                touched: union_of(x, y),
+                partly: union_of(p, q),
+            },
             Slots::Past => Slots::Past,
         },
         Slots::Past => Slots::Past,
@@ -87,7 +121,7 @@ pub fn part_answer(part: Slots) -> SlotsAnswer
     ensures { λ r. ⌜ r ≡ partAnswer part ⌝ }
 {
     match part {
-        Slots::Mask(mask) => SlotsAnswer::Slots(mask),
+        Slots::Mask { touched, partly } => SlotsAnswer::Slots { touched, partly },
         Slots::Past => SlotsAnswer::Refused {
             number: 25,
             ty: 0,

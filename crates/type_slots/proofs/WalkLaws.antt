@@ -19,7 +19,7 @@ use Rattle.type_slots.specs.Walk.{noSlots, slotsStep, slotsOf, slotsAt, 
 
 -- a part that is refused refuses both
 join-past : (a : Slots) → join a Past ≡ Past
-join-past (Mask m) = refl
+join-past (Mask m p) = refl
 join-past Past = refl
 
 module _ (earlier : ℕ → ℕ → Slots) (members : List ℕ) (offset : ℕ) where

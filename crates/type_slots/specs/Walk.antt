@@ -1,7 +1,7 @@
 -- 01, 'The slot word': the walk of a type from an offset. Structs are walked member by member; every other type is taken whole, by its measure.
 -- Assumes nothing.
 use mathlib.Core.Path.{_≡_}
-use mathlib.Core.Bool.{false}
+use mathlib.Core.Bool.{Bool, false}
 use mathlib.Core.List.{List}
 use Prim.Native.Nat.{ℕ, zero, suc, _+_, _<_}
 use lib.Dec.{T, leb}
@@ -16,12 +16,12 @@ use Rattle.type_methods.specs.TypeMethods.{sizeOf, trySize}
 use Rattle.type_flags.specs.TypeFlags.{isStruct}
 use Rattle.slots.specs.declared.Slots.{Slots}
 use Rattle.slots.specs.declared.Slots.the-variants.{Mask, Past}
-use Rattle.slots.specs.Slots.{covers, rangeSlots, join}
+use Rattle.slots.specs.Slots.{coversBy, rangeSlots, join}
 
 -- the first j members of a struct that stands at `offset`; number 25 where an offset sum leaves 32 bits.
 -- earlier: the slots of the types before it, each at an offset
 unfoldable pub membersSlots : (earlier : ℕ → ℕ → Slots) (members : List ℕ) (offset : ℕ) → ℕ → Slots
-membersSlots earlier members offset zero = Mask 0
+membersSlots earlier members offset zero = Mask 0 0
 membersSlots earlier members offset (suc j) =
     join (membersSlots earlier members offset j)
     (pick (leb (offset + memberOffset members j) most) (earlier (memberType members j) (offset + memberOffset members j)) Past)
@@ -51,9 +51,10 @@ pub record Measured (inner : TypeInner) : Type 0 where
   pub bounds : InnerBounds inner
   pub size : trySize inner ≡ ok (sizeOf inner)
 
--- a non-struct part of type ty, which stands at `offset`, covers slot k: the type itself where it is no struct, or a part of a member
-pub data CoveredBy (types : ℕ → Decoded) : (ty offset k : ℕ) → Type 0 where
-  by-whole : {ty offset k : ℕ} → isStruct (types ty .inner) ≡ false → T (covers offset (sizeOf (types ty .inner)) k) → CoveredBy types ty offset k
+-- a non-struct part of type ty, which stands at `offset`, covers slot k, by the test of one of the two masks: the type itself where it is no
+-- struct, or a part of a member
+pub data CoveredBy (partly : Bool) (types : ℕ → Decoded) : (ty offset k : ℕ) → Type 0 where
+  by-whole : {ty offset k : ℕ} → isStruct (types ty .inner) ≡ false → T (coversBy partly offset (sizeOf (types ty .inner)) k) → CoveredBy partly types ty offset k
   by-member : {ty offset k : ℕ} (count span j : ℕ) → types ty .inner ≡ Struct count span → j < count
-      → CoveredBy types (memberType (types ty .members) j) (offset + memberOffset (types ty .members) j) k
-      → CoveredBy types ty offset k
+      → CoveredBy partly types (memberType (types ty .members) j) (offset + memberOffset (types ty .members) j) k
+      → CoveredBy partly types ty offset k

@@ -46,7 +46,10 @@ fn members_slots(types: &[u32], members: &[u32], ty: u32, offset: u32, count: u3
     ensures { λ r. ⌜ r ≡ membersSlots (table noSlots (slotsStep (decoded (now (types .entry)) (now (members .entry)))) ty) (structMembers (now (types .entry)) (now (members .entry)) ty) offset count ⌝ }
 {
     let part = records::struct_members(types, members, ty);
-    let mut slots = Slots::Mask(0);
+    let mut slots = Slots::Mask {
+        touched: 0,
+        partly: 0,
+    };
     let mut j: u32 = 0;
     while j < count {
         let t = records::member_type(part, j);

@@ -76,6 +76,15 @@ pub struct Place {
     pub leaf: u32,
 }
 
+/// Immediate slots, bit k for bytes 4k to 4k + 3.
+#[derive(Clone, Copy, Debug, PartialEq, Eq)]
+pub struct Slots {
+    /// A part covers one of the slot's bytes.
+    pub touched: u64,
+    /// A part covers one of the slot's bytes and not all four.
+    pub partly: u64,
+}
+
 /// Sizes and alignments alone, with no capability asked for. Numbers 1 to 7.
 pub fn layout(types: &[u32], members: &[u32], rows: &mut [u32]) -> Result<(), Refusal> {
     let mut answer = [0; 4];
@@ -120,9 +129,9 @@ pub fn check(
     Refusal::of(answer)
 }
 
-/// The immediate slots of `size` bytes from `offset` on: bit k for bytes 4k to 4k + 3. Number 25.
-pub fn range(offset: u32, size: u32) -> Result<u64, Refusal> {
-    let (mut mask, mut answer) = ([0; 1], [0; 4]);
+/// The immediate slots of `size` bytes from `offset` on, which are one part. Number 25.
+pub fn range(offset: u32, size: u32) -> Result<Slots, Refusal> {
+    let (mut mask, mut answer) = ([0; 2], [0; 4]);
     // SAFETY: as in layout.
     unsafe {
         door::wuldazin_range(
@@ -134,10 +143,14 @@ pub fn range(offset: u32, size: u32) -> Result<u64, Refusal> {
             answer.len(),
         )
     }
-    Refusal::of(answer).map(|()| mask[0])
+    let [touched, partly] = mask;
+    Refusal::of(answer).map(|()| Slots { touched, partly })
 }
 
 /// The immediate slots of type `ty` that stands at `offset`. Judges the arena first. Numbers 1 to 26.
+///
+/// A part is what is no struct, arrays taken whole. Each mask has the slots of all parts: a slot of which two parts cover a
+/// half each is in `partly`.
 ///
 /// The walk visits every member of every nested struct anew: where structs hold others several times over, it may double
 /// with each level. Do not call it on tables of unknown origin without a limit on time. It recurses, at most once a type:
@@ -149,8 +162,8 @@ pub fn slots(
     rows: &mut [u32],
     ty: u32,
     offset: u32,
-) -> Result<u64, Refusal> {
-    let (mut mask, mut answer) = ([0; 1], [0; 4]);
+) -> Result<Slots, Refusal> {
+    let (mut mask, mut answer) = ([0; 2], [0; 4]);
     // SAFETY: as in layout.
     unsafe {
         door::wuldazin_slots(
@@ -169,7 +182,8 @@ pub fn slots(
             answer.len(),
         )
     }
-    Refusal::of(answer).map(|()| mask[0])
+    let [touched, partly] = mask;
+    Refusal::of(answer).map(|()| Slots { touched, partly })
 }
 
 /// The leaf that `steps`, member and element numbers, lead to from type `start`. Judges the arena first. Numbers 1 to 24

@@ -35,6 +35,10 @@ fn refused(number: u32, ty: u32, member: u32, detail: u32) -> Refusal {
     }
 }
 
+fn masks(touched: u64, partly: u64) -> Result<Slots, Refusal> {
+    Ok(Slots { touched, partly })
+}
+
 fn row(rows: &[u32], ty: u32) -> Row<'_> {
     Row::of(rows, ty).unwrap()
 }
@@ -58,7 +62,7 @@ fn m1_rows() {
 fn m2_slots() {
     let types = [E, V, structure(0, 2, 16)];
     let walk = |ty| slots(types.as_flattened(), &PAIR, 0, &mut [0; 42], ty, 0);
-    assert_eq!(walk(2), Ok(15));
+    assert_eq!(walk(2), masks(15, 0));
     assert_eq!(walk(3), Err(refused(26, 0, 0, 0)));
 }
 
@@ -133,10 +137,26 @@ fn m11_half_floats() {
 
 #[test]
 fn m12_ranges() {
-    assert_eq!(range(300, 0), Ok(0));
-    assert_eq!(range(3, 2), Ok(3));
-    assert_eq!(range(252, 4), Ok(1 << 63));
+    assert_eq!(range(300, 0), masks(0, 0));
+    assert_eq!(range(3, 2), masks(3, 3));
+    assert_eq!(range(252, 4), masks(1 << 63, 0));
     assert_eq!(range(252, 5), Err(refused(25, 0, 0, 0)));
+}
+
+#[test]
+fn slots_in_part() {
+    assert_eq!(range(1, 1), masks(1, 1));
+    let walk = |types: &[[u32; 6]], members: &[u32]| {
+        let ty = types.len() as u32 - 1;
+        let f16 = capabilities::SHADER_FLOAT16;
+        slots(types.as_flattened(), members, f16, &mut [0; 42], ty, 0)
+    };
+    assert_eq!(walk(&[F16, structure(0, 2, 4)], &[0, 0, 0, 2]), masks(1, 1));
+    assert_eq!(
+        walk(&[E, F16, structure(0, 2, 4)], &[0, 0, 1, 0]),
+        masks(1, 1)
+    );
+    assert_eq!(walk(&[F16, array(3, 2)], &[]), masks(3, 2));
 }
 
 #[test]
