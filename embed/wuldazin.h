@@ -1,4 +1,4 @@
-/* Type tables of naga 30.0.1: layouts, verdicts, immediate slots and places.
+/* Type tables of naga 30.0.1: layouts, verdicts, immediate slots and places; and plain types from a table.
  *
  * Link with libdoors.a (x86-64 Linux). Nothing is kept between calls, nothing is allocated.
  *
@@ -16,13 +16,14 @@
  *  - number 1: untouched.
  *  - numbers 2 to 24: n * WULDAZIN_ROW_WORDS zeros.
  *
- * answer takes WULDAZIN_ANSWER_WORDS words: number, type, member, detail; all 0 when accepted. Numbers 1, 25 and 26 have zeros after the
- * number. member is the position in the struct for 6 and 17 to 21, else 0; detail is the missing capability's bit for 8, else 0.
+ * answer takes WULDAZIN_ANSWER_WORDS words: number, type, member, detail; all 0 when accepted. Numbers 1, 25 and 26, and 2 of
+ * wuldazin_plain, have zeros after the number. member is the position in the struct for 6 and 17 to 21, else 0; detail is the missing
+ * capability's bit for 8, else 0.
  *
  * mask takes WULDAZIN_MASK_WORDS words, bit k of each for slot k, bytes 4k to 4k + 3: the slots that are touched, then those that a part
  * covers only in part, one of their bytes and not all four. Zeros on a refusal. A buffer of one word gets the first mask alone.
  *
- * An answer, place or part buffer that is too short for its words is left as it was. Words after its own are left in every buffer.
+ * An answer, place, numbers or part buffer that is too short for its words is left as it was. Words after its own are left in every buffer.
  */
 #ifndef WULDAZIN_H
 #define WULDAZIN_H
@@ -133,7 +134,7 @@ enum {
 enum {
     WULDAZIN_ACCEPTED = 0,
     WULDAZIN_TABLE_LENGTH = 1,             /* not whole records, too many, rows too short, or capability bits above 12 */
-    WULDAZIN_FIELD = 2,                    /* a field outside its set, or member rows past the member table */
+    WULDAZIN_FIELD = 2,                    /* a field outside its set, or member rows past the member table; no such plain shape or width */
     WULDAZIN_BASE_OUTSIDE = 3,             /* pointer or binding-array base outside the arena */
     WULDAZIN_ARRAY_TOO_LARGE = 4,          /* array's count or measure above 2,147,483,647 */
     WULDAZIN_ELEMENT_NOT_EARLIER = 5,      /* array element not an earlier type */
@@ -201,6 +202,13 @@ void wuldazin_place(const uint32_t *types, size_t types_length,
                     uint32_t start,
                     const uint32_t *steps, size_t steps_length,
                     uint64_t *place, size_t place_length,
+                    uint32_t *answer, size_t answer_length);
+
+/* Size, alignment and column step of a plain type, whatever its scalar kind. No arena is judged, and no capability asked for.
+ * shape: 0 is the scalar, 1 to 3 are vec2 to vec4, 4 to 12 the matrices: 4 + 3 * (columns - 2) + (rows - 2). width: 1, 2, 4 or 8.
+ * numbers: three words, the column step 0 for what is no matrix; zeros on a refusal. Number 2, another shape or width. */
+void wuldazin_plain(uint32_t shape, uint32_t width,
+                    uint32_t *numbers, size_t numbers_length,
                     uint32_t *answer, size_t answer_length);
 
 /* The member rows of struct ty, as a part of members: its first word and how many words it has. Judges nothing.

@@ -98,8 +98,16 @@ int main(void) {
     wuldazin_members(types, LENGTH(types), members, LENGTH(members), KERNEL, part, LENGTH(part));
     expect("first member word", part[0], 4);
     expect("member words", part[1], 6);
+    uint32_t numbers[3];
+    wuldazin_plain(8, 4, numbers, LENGTH(numbers), answer, LENGTH(answer));
+    expect("mat3x3 of f32", answer[0], WULDAZIN_ACCEPTED);
+    expect("its size", numbers[0], 48);
+    expect("its alignment", numbers[1], 16);
+    expect("its column step", numbers[2], 16);
 
-    /* Refusals: no such cell; then a moisture that stands in the temperature's bytes. */
+    /* Refusals: no such shape; no such cell; then a moisture that stands in the temperature's bytes. */
+    wuldazin_plain(13, 4, numbers, LENGTH(numbers), answer, LENGTH(answer));
+    expect("shape 13", answer[0], WULDAZIN_FIELD);
     wuldazin_place(types, LENGTH(types), members, LENGTH(members), 0, rows, LENGTH(rows), KERNEL, (uint32_t[]){1, 4, 0}, 3,
                    part, LENGTH(part), answer, LENGTH(answer));
     expect("cells[4]", answer[0], WULDAZIN_NO_SUCH_PLACE);

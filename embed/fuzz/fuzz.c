@@ -22,14 +22,14 @@ enum {
     MEMBERS_MOST = 2 * 4096 + 57,
     ROWS_MOST = 14 * (TYPES_MOST / 6) + 64,
     STEPS_MOST = 2048,
-    OUTPUT_MOST = 5, /* mask, place or part: 64-bit words */
+    OUTPUT_MOST = 5, /* mask, place or part: 64-bit words; numbers: 32-bit words */
     ANSWER_MOST = 8,
     PARTS_MOST = 100000, /* of a slot walk: longer ones are not asked for */
     TEMPLATES = 64
 };
 
-enum { LAYOUT, CHECK, RANGE, SLOTS, PLACE, MEMBERS, DOORS };
-static const char *const door_names[DOORS] = {"layout", "check", "range", "slots", "place", "members"};
+enum { LAYOUT, CHECK, RANGE, SLOTS, PLACE, PLAIN, MEMBERS, DOORS };
+static const char *const door_names[DOORS] = {"layout", "check", "range", "slots", "place", "plain", "members"};
 
 typedef struct {
     size_t types_length, members_length;
@@ -356,7 +356,7 @@ static uint32_t number_of(bool fits, uint32_t count) {
     require(a[0] <= 26, "number above 26");
     require((a[0] == 1) == !fits, "number 1 given or kept back wrongly");
     require(a[1] < count || a[1] == 0, "type outside the arena");
-    bool bare = a[0] <= 1 || a[0] >= 25;
+    bool bare = a[0] <= 1 || a[0] >= 25 || door == PLAIN;
     require(!bare || (a[1] | a[2] | a[3]) == 0, "words beside a number that has none");
     require(a[0] == 8 ? a[3] <= 12 : a[3] == 0, "detail");
     numbers[a[0]]++;
@@ -395,12 +395,36 @@ static void range_masks(uint32_t offset, uint32_t size, uint64_t *masks) {
     }
 }
 
+/* Shapes and widths of entries, near them, and any. */
+static void plain_call(size_t answer_length, size_t numbers_length) {
+    uint32_t n[3], shape = below(4) ? below(16) : wild(), width = below(4) ? 1u << below(5) : wild();
+    uint32_t *numbers = lend(&output, noise + below(1024), 4 * numbers_length);
+    uint32_t *a = lend(&answer, noise + below(1024), 4 * answer_length);
+    wuldazin_plain(shape, width, numbers, numbers_length, a, answer_length);
+    bool other = shape > 12 || (width != 1 && width != 2 && width != 4 && width != 8);
+    uint32_t number = number_of(true, 0);
+    require(number == 27 || number == (other ? 2 : 0), "plain");
+    if (numbers_length >= 3) {
+        memcpy(n, output.data, sizeof n);
+        require(!other || (n[0] | n[1] | n[2]) == 0, "numbers beside a refusal");
+        require(other || (n[0] && n[1] && !(n[1] & (n[1] - 1))), "size or alignment");
+        require(other || n[2] == (shape < 4 ? 0 : n[1]), "column step");
+    }
+    take_back(&output, numbers_length < 3 ? 0 : sizeof n);
+    take_back(&answer, answer_length < 4 ? 0 : 16);
+}
+
 static void one_call(void) {
     static uint32_t list[STEPS_MOST];
-    static const unsigned char choice[] = {LAYOUT, CHECK, CHECK, CHECK, RANGE, SLOTS, SLOTS, SLOTS, PLACE, PLACE, PLACE, MEMBERS};
+    static const unsigned char choice[] = {LAYOUT, CHECK, CHECK, CHECK, RANGE, SLOTS, SLOTS, SLOTS, PLACE, PLACE, PLACE, PLAIN, MEMBERS};
     size_t answer_length = below(16) ? 4 + below(ANSWER_MOST - 3) : below(4), output_length = below(OUTPUT_MOST + 1);
     uint64_t out[2] = {0, 0};
     door = choice[below(sizeof choice)];
+    if (door == PLAIN) {
+        plain_call(answer_length, output_length);
+        doors[door]++;
+        return;
+    }
     if (door == RANGE) {
         uint64_t *mask = lend(&output, noise + below(1024), 8 * output_length);
         uint32_t *a = lend(&answer, noise + below(1024), 4 * answer_length);

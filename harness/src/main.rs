@@ -6,7 +6,8 @@
         feature = "check",
         feature = "slots",
         feature = "place",
-        feature = "members"
+        feature = "members",
+        feature = "plain"
     )),
     allow(dead_code)
 )]
@@ -35,6 +36,9 @@ mod partly;
 mod place;
 #[cfg(feature = "place")]
 mod place_calls;
+mod plain;
+#[cfg(feature = "plain")]
+mod plain_calls;
 mod port;
 mod print;
 mod random;
@@ -63,6 +67,7 @@ const USAGE: &str = "usage: layout COUNT [SEED]
        range COUNT [SEED] | slots COUNT [SEED]  (feature slots)
        place COUNT [SEED]                       (feature place)
        members COUNT [SEED]                     (feature members)
+       plain COUNT [SEED]                       (feature plain)
        replay COUNT [SEED [STDIN STDOUT]]       (features slots, place, members)
        member_records COUNT SEED FOLDER         (features slots, place)
        bench                                    (features check, slots, place)
@@ -94,6 +99,8 @@ fn main() -> ExitCode {
         "place" => place_calls::place(first, seed),
         #[cfg(feature = "members")]
         "members" => member_calls::members(first, seed),
+        #[cfg(feature = "plain")]
+        "plain" => plain_calls::plain(first, seed),
         #[cfg(all(feature = "slots", feature = "place", feature = "members"))]
         "replay" => replay::replay(first, seed, words.get(3..).unwrap_or_default()),
         #[cfg(all(feature = "slots", feature = "place"))]

@@ -154,3 +154,20 @@ unsafe extern "C" fn wuldazin_members(
     let owed = crate::members::part(types, members, ty);
     from_raw_parts_mut(part, part_len).copy_from_slice(&owed);
 }
+
+#[cfg(feature = "plain")]
+#[no_mangle]
+unsafe extern "C" fn wuldazin_plain(
+    shape: u32,
+    width: u32,
+    numbers: *mut u32,
+    numbers_len: usize,
+    answer: *mut u32,
+    answer_len: usize,
+) {
+    let (owed, owed_numbers) = crate::plain::owed(shape, width);
+    from_raw_parts_mut(answer, answer_len).copy_from_slice(&owed);
+    if let Some(first) = from_raw_parts_mut(numbers, numbers_len).first_chunk_mut() {
+        *first = owed_numbers;
+    }
+}

@@ -78,6 +78,15 @@ extern "C" {
         part: *mut u64,
         part_len: usize,
     );
+    #[cfg(feature = "plain")]
+    fn wuldazin_plain(
+        shape: u32,
+        width: u32,
+        numbers: *mut u32,
+        numbers_len: usize,
+        answer: *mut u32,
+        answer_len: usize,
+    );
 }
 
 pub fn layout(arena: &Arena, lent: Lent) {
@@ -186,6 +195,21 @@ pub fn members(types: &[u32], members: &[u32], ty: u32, part: &mut [u64]) {
             ty,
             part.as_mut_ptr(),
             part.len(),
+        )
+    }
+}
+
+#[cfg(feature = "plain")]
+pub fn plain(shape: u32, width: u32, numbers: &mut [u32], answer: &mut [u32]) {
+    // As above.
+    unsafe {
+        wuldazin_plain(
+            shape,
+            width,
+            numbers.as_mut_ptr(),
+            numbers.len(),
+            answer.as_mut_ptr(),
+            answer.len(),
         )
     }
 }

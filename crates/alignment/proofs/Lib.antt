@@ -1,4 +1,4 @@
 pub mod PowerLaws
 pub mod RoundLaws
-mod Finite
+pub mod Finite
 mod MaskLaws

@@ -16,6 +16,7 @@ pub enum Command {
     Slots,
     Range,
     Place,
+    Plain,
     Clear,
     Unknown,
 }

@@ -1,4 +1,4 @@
--- Stores from the front of a list: four words, two words, and the masks.
+-- Stores from the front of a list: four words, three, two, and the masks.
 -- Assumes nothing.
 use mathlib.Core.Path.{_≡_, refl}
 use mathlib.Core.List.{List, [], _∷_}
@@ -14,6 +14,12 @@ four-stores (w ∷ []) a b c d h = absurd (omega arith)
 four-stores (w ∷ x ∷ []) a b c d h = absurd (omega arith)
 four-stores (w ∷ x ∷ y ∷ []) a b c d h = absurd (omega arith)
 four-stores (w ∷ x ∷ y ∷ z ∷ l) a b c d h = refl
+
+pub three-stores : (l : List ℕ) (a b c : ℕ) → 3 ≤ length l → set (set (set l 0 a) 1 b) 2 c ≡ a ∷ b ∷ c ∷ drop 3 l
+three-stores [] a b c h = absurd (omega arith)
+three-stores (w ∷ []) a b c h = absurd (omega arith)
+three-stores (w ∷ x ∷ []) a b c h = absurd (omega arith)
+three-stores (w ∷ x ∷ y ∷ l) a b c h = refl
 
 pub two-stores : (l : List ℕ) (a b : ℕ) → 2 ≤ length l → set (set l 0 a) 1 b ≡ a ∷ b ∷ drop 2 l
 two-stores [] a b h = absurd (omega arith)

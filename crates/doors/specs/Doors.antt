@@ -13,6 +13,8 @@ use Rattle.slots.specs.declared.SlotsAnswer.{SlotsAnswer}
 use Rattle.slots.specs.declared.SlotsAnswer.the-variants as slots
 use Rattle.place.specs.declared.PlaceAnswer.{PlaceAnswer}
 use Rattle.place.specs.declared.PlaceAnswer.the-variants as place
+use Rattle.plain_types.specs.declared.PlainAnswer.{PlainAnswer}
+use Rattle.plain_types.specs.declared.PlainAnswer.the-variants as plain
 
 -- ---- 01's number and values for each answer
 abbrev pub answerWords : Outcome → List ℕ
@@ -26,6 +28,10 @@ slotsOutcome (slots.Refused number ty member detail) = Refused number ty member 
 abbrev pub placeOutcome : PlaceAnswer → Outcome
 placeOutcome (place.Found byte leaf) = Accepted
 placeOutcome (place.Refused number ty member detail) = Refused number ty member detail
+
+abbrev pub plainOutcome : PlainAnswer → Outcome
+plainOutcome (plain.Found size alignment step) = Accepted
+plainOutcome (plain.Refused number ty member detail) = Refused number ty member detail
 
 -- ---- the words beside it; zeros on a refusal
 -- the two masks
@@ -46,6 +52,10 @@ abbrev pub leafOf : PlaceAnswer → ℕ
 leafOf (place.Found byte leaf) = leaf
 leafOf (place.Refused number ty member detail) = 0
 
+abbrev pub numbersOf : PlainAnswer → List ℕ
+numbersOf (plain.Found size alignment step) = size ∷ alignment ∷ step ∷ []
+numbersOf (plain.Refused number ty member detail) = 0 ∷ 0 ∷ 0 ∷ []
+
 -- the part of the member table that a struct's rows are: its first word, 0 for an empty part, and how many words it has
 abbrev pub partStart : (ts ms : List ℕ) → ℕ → ℕ
 partStart ts ms ty = pick (eqb (length (structMembers ts ms ty)) 0) 0 (typeWord ts ty 1 * memberWords)
@@ -59,6 +69,9 @@ withAnswer words outcome = pick (leb 4 (length words)) (answerWords outcome ++ d
 
 unfoldable pub withTwo : List ℕ → (a b : ℕ) → List ℕ
 withTwo words a b = pick (leb 2 (length words)) (a ∷ b ∷ drop 2 words) words
+
+unfoldable pub withNumbers : List ℕ → PlainAnswer → List ℕ
+withNumbers words found = pick (leb 3 (length words)) (numbersOf found ++ drop 3 words) words
 
 -- the first mask where there is one word, the second only where there are two
 unfoldable pub withMasks : List ℕ → SlotsAnswer → List ℕ

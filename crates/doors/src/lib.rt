@@ -1,5 +1,6 @@
 // The static library: the public calls with C's calling convention. A slice is a pointer and a length.
 use place::PlaceAnswer;
+use plain_types::PlainAnswer;
 use records::Outcome;
 use slots::SlotsAnswer;
 ghost use mathlib.Core.Path.{_≡_};
@@ -14,7 +15,8 @@ ghost use Rattle.valid.specs.Arena.{arenaAnswer, arenaWords};
 ghost use Rattle.slots.specs.Slots.{rangeSlots, partAnswer};
 ghost use Rattle.immediates.specs.Immediates.{slotsAnswer};
 ghost use Rattle.place.specs.Place.{lookupAnswer};
-ghost use Rattle.doors.specs.Doors.{slotsOutcome, placeOutcome, touchedOf, partlyOf, byteOf, leafOf, partStart, partLength, withAnswer, withTwo, withMasks};
+ghost use Rattle.plain_types.specs.PlainTypes.{plainAnswer};
+ghost use Rattle.doors.specs.Doors.{slotsOutcome, placeOutcome, plainOutcome, touchedOf, partlyOf, byteOf, leafOf, partStart, partLength, withAnswer, withTwo, withNumbers, withMasks};
 
 fn put_four(answer: &mut [u32], a: u32, b: u32, c: u32, d: u32)
     requires { ⌜ 4 ≤ length (now answer) ⌝ }
@@ -165,6 +167,60 @@ fn leaf_of(place: PlaceAnswer) -> u32
     }
 }
 
+fn plain_outcome(found: PlainAnswer) -> Outcome
+    ensures { λ r. ⌜ r ≡ plainOutcome found ⌝ }
+{
+    match found {
+        PlainAnswer::Found {
+            size: _,
+            alignment: _,
+            step: _,
+        } => Outcome::Accepted,
+        PlainAnswer::Refused {
+            number,
+            ty,
+            member,
+            detail,
+        } => Outcome::Refused {
+            number,
+            ty,
+            member,
+            detail,
+        },
+    }
+}
+
+fn put_three(words: &mut [u32], a: u32, b: u32, c: u32)
+    requires { ⌜ 3 ≤ length (now words) ⌝ }
+    ensures { λ _. ⌜ now (words .exit) ≡ a ∷ b ∷ c ∷ drop 3 (now (words .entry)) ⌝ }
+{
+    words[0] = a;
+    words[1] = b;
+    words[2] = c;
+}
+
+// Size, alignment and column step, zeros on a refusal; a buffer of fewer words is left as it was.
+fn put_numbers(numbers: &mut [u32], found: PlainAnswer)
+    ensures { λ _. ⌜ now (numbers .exit) ≡ withNumbers (now (numbers .entry)) found ⌝ }
+{
+    if numbers.len() < 3 {
+        return;
+    }
+    match found {
+        PlainAnswer::Found {
+            size,
+            alignment,
+            step,
+        } => put_three(numbers, size, alignment, step),
+        PlainAnswer::Refused {
+            number: _,
+            ty: _,
+            member: _,
+            detail: _,
+        } => put_three(numbers, 0, 0, 0),
+    }
+}
+
 // Sizes and alignments of an arena, in the first two words of the lent rows.
 #[no_mangle]
 pub extern "C" fn wuldazin_layout(
@@ -247,6 +303,17 @@ pub extern "C" fn wuldazin_place(
     let found = place::lookup(types, members, capabilities, rows, start, steps);
     put_two(place, byte_of(found), leaf_of(found) as u64);
     put_answer(answer, place_outcome(found));
+}
+
+// Size, alignment and column step of a shape at a width.
+#[no_mangle]
+pub extern "C" fn wuldazin_plain(shape: u32, width: u32, numbers: &mut [u32], answer: &mut [u32])
+    ensures { λ _. ⌜ now (numbers .exit) ≡ withNumbers (now (numbers .entry)) (plainAnswer shape width) ⌝ }
+    ensures { λ _. ⌜ now (answer .exit) ≡ withAnswer (now (answer .entry)) (plainOutcome (plainAnswer shape width)) ⌝ }
+{
+    let found = plain_types::plain(shape, width);
+    put_numbers(numbers, found);
+    put_answer(answer, plain_outcome(found));
 }
 
 // The part of the member table that the rows of struct ty are: its first word and how many words it has.

@@ -125,6 +125,10 @@ pub fn put_place(out: &mut Buffer, at: usize, byte: u64, leaf: u32) -> usize {
     put_byte(out, b, b'\n')
 }
 
+pub fn put_plain(out: &mut Buffer, at: usize, size: u32, alignment: u32, step: u32) -> usize {
+    put_words(out, at, b"plain", &[size, alignment, step], false)
+}
+
 // Why a session stops: the numbers of the lines of the text in `put_why`. The first two, 2 and 3, are FULL and FAILED of the crate input.
 pub const NOT_A_NUMBER: u32 = 4;
 
@@ -145,8 +149,9 @@ pub fn usage_line(command: arguments::Command) -> u32 {
         arguments::Command::Slots => 13,
         arguments::Command::Range => 14,
         arguments::Command::Place => 15,
-        arguments::Command::Clear => 16,
-        arguments::Command::Unknown => 17,
+        arguments::Command::Plain => 16,
+        arguments::Command::Clear => 17,
+        arguments::Command::Unknown => 18,
     }
 }
 
@@ -166,8 +171,9 @@ fn put_why(out: &mut Buffer, at: usize, why: u32) -> usize {
 : slots takes a type and an offset
 : range takes an offset and a size
 : place takes a type and at most 1024 steps
+: plain takes a shape and a width
 : clear takes no number
-: no such command; there are caps, type, member, check, members, slots, range, place and clear
+: no such command; there are caps, type, member, check, members, slots, range, place, plain and clear
 ";
     let mut end = at;
     let mut line: u32 = 2;

@@ -3,6 +3,7 @@ use commands::Arena;
 use commands::Session;
 use output::Buffer;
 use place::PlaceAnswer;
+use plain_types::PlainAnswer;
 use text::Line;
 
 fn put_check(
@@ -57,6 +58,22 @@ fn put_place(
     }
 }
 
+fn put_plain(out: &mut Buffer, at: usize, shape: u32, width: u32) -> usize {
+    match plain_types::plain(shape, width) {
+        PlainAnswer::Found {
+            size,
+            alignment,
+            step,
+        } => output::put_plain(out, at, size, alignment, step),
+        PlainAnswer::Refused {
+            number,
+            ty,
+            member,
+            detail,
+        } => output::put_refusal(out, at, number, ty, member, detail),
+    }
+}
+
 // Puts what a line asks for; any other puts nothing.
 fn put_answer(
     line: Line,
@@ -89,6 +106,7 @@ fn put_answer(
                 commands::part(numbers, 1, steps as usize + 1),
             )
         }
+        Line::Plain { shape, width } => put_plain(out, at, shape, width),
         _ => at,
     }
 }

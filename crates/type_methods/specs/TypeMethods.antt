@@ -18,14 +18,27 @@ use Rattle.type_methods.specs.declared.Size.the-variants.{Bytes, TooLarg
 abbrev pub mostSize : ℕ
 mostSize = 2147483647
 
--- a matrix has a column of vectorAlignment rows for each of its columns
+-- from a column of a matrix to the next: as far apart as a vector of its rows is aligned (02, E6)
+abbrev pub columnStep : (rows width : ℕ) → ℕ
+columnStep rows width = vectorAlignment rows * width
+
+-- a matrix has a column step for each of its columns
 abbrev pub leafSize : Leaf → ℕ
 leafSize (Scalar kind width) = width
 leafSize (Vector size kind width) = size * width
-leafSize (Matrix columns rows kind width) = vectorAlignment rows * width * columns
+leafSize (Matrix columns rows kind width) = columnStep rows width * columns
 leafSize (CooperativeMatrix columns rows kind width role) = columns * rows * width
 leafSize (Atomic kind width) = width
 leafSize (RayQuery vertexReturn) = 0
+
+-- the column step of a leaf; 0 for what has no columns. A cooperative matrix is one whole
+abbrev pub leafColumnStep : Leaf → ℕ
+leafColumnStep (Scalar kind width) = 0
+leafColumnStep (Vector size kind width) = 0
+leafColumnStep (Matrix columns rows kind width) = columnStep rows width
+leafColumnStep (CooperativeMatrix columns rows kind width role) = 0
+leafColumnStep (Atomic kind width) = 0
+leafColumnStep (RayQuery vertexReturn) = 0
 
 -- pointers measure 4, handles 0
 abbrev pub nonDataSize : NonData → ℕ

@@ -5,8 +5,7 @@ use records::TypeInner;
 ghost use mathlib.Core.Path.{_≡_};
 ghost use Prim.Native.Nat.{_*_, _≤_};
 ghost use Rattle.records.specs.Fields.{LeafBounds, InnerBounds};
-ghost use Rattle.alignment.specs.Alignment.{vectorAlignment};
-ghost use Rattle.type_methods.specs.TypeMethods.{leafSize, nonDataSize, arraySize, runtimeArraySize, sizeByForm, trySize, sizeResult};
+ghost use Rattle.type_methods.specs.TypeMethods.{columnStep, leafSize, nonDataSize, arraySize, runtimeArraySize, sizeByForm, trySize, sizeResult};
 
 // Number 4 is TooLarge.
 pub enum Size {
@@ -26,14 +25,14 @@ pub fn vector_size(size: u32, width: u32) -> u32
     vector
 }
 
-// A column for each, padded as a vector of its rows.
+// A column step for each.
 pub fn matrix_size(columns: u32, rows: u32, width: u32) -> u32
     requires { ⌜ columns ≤ 4 ⌝ }
     requires { ⌜ width ≤ 255 ⌝ }
-    ensures { λ r. ⌜ r ≡ vectorAlignment rows * width * columns ⌝ }
+    ensures { λ r. ⌜ r ≡ columnStep rows width * columns ⌝ }
 {
-    let column = alignment::vector_alignment(rows) * width;
-    let matrix = column * columns;
+    let step = alignment::vector_alignment(rows) * width;
+    let matrix = step * columns;
     matrix
 }
 

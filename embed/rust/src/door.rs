@@ -61,6 +61,14 @@ extern "C" {
         answer: *mut u32,
         answer_length: usize,
     );
+    pub fn wuldazin_plain(
+        shape: u32,
+        width: u32,
+        numbers: *mut u32,
+        numbers_length: usize,
+        answer: *mut u32,
+        answer_length: usize,
+    );
     pub fn wuldazin_members(
         types: *const u32,
         types_length: usize,

@@ -85,6 +85,14 @@ pub struct Slots {
     pub partly: u64,
 }
 
+/// What a plain type measures, and from a column of a matrix to the next; 0 for what is no matrix.
+#[derive(Clone, Copy, Debug, PartialEq, Eq)]
+pub struct Plain {
+    pub size: u32,
+    pub alignment: u32,
+    pub step: u32,
+}
+
 /// Sizes and alignments alone, with no capability asked for. Numbers 1 to 7.
 pub fn layout(types: &[u32], members: &[u32], rows: &mut [u32]) -> Result<(), Refusal> {
     let mut answer = [0; 4];
@@ -220,6 +228,30 @@ pub fn place(
     Refusal::of(answer).map(|()| Place {
         byte,
         leaf: leaf as u32,
+    })
+}
+
+/// Size, alignment and column step of a plain type, whatever its scalar kind. Shape 0 is the scalar, 1 to 3 are vec2 to
+/// vec4, 4 to 12 the matrices: 4 + 3 * (columns - 2) + (rows - 2). Widths are 1, 2, 4 and 8. Number 2 for another shape or
+/// width.
+pub fn plain(shape: u32, width: u32) -> Result<Plain, Refusal> {
+    let (mut numbers, mut answer) = ([0; 3], [0; 4]);
+    // SAFETY: as in layout.
+    unsafe {
+        door::wuldazin_plain(
+            shape,
+            width,
+            numbers.as_mut_ptr(),
+            numbers.len(),
+            answer.as_mut_ptr(),
+            answer.len(),
+        )
+    }
+    let [size, alignment, step] = numbers;
+    Refusal::of(answer).map(|()| Plain {
+        size,
+        alignment,
+        step,
     })
 }
 

@@ -1,4 +1,4 @@
-//! The marked examples M1 to M12, through the safe calls.
+//! The marked examples M1 to M12 and the standard's figures for plain types, through the safe calls.
 
 use crate::*;
 
@@ -183,6 +183,25 @@ fn empty_tables_places_and_parts() {
     assert_eq!(place(2, &[2]), Err(refused(26, 0, 0, 0)));
     assert_eq!(members(types, &PAIR, 2), PAIR);
     assert!(members(types, &PAIR, 1).is_empty() && members(types, &PAIR[..3], 2).is_empty());
+}
+
+/// AlignOf and SizeOf of the standard, the column step AlignOf(vecR).
+#[test]
+fn plain_types() {
+    let numbers = |shape, width| plain(shape, width).map(|p| [p.size, p.alignment, p.step]);
+    let f32_and_vectors = [[4, 4, 0], [8, 8, 0], [12, 16, 0], [16, 16, 0]];
+    let two_columns = [[16, 8, 8], [32, 16, 16], [32, 16, 16]];
+    let three_columns = [[24, 8, 8], [48, 16, 16], [48, 16, 16]];
+    let four_columns = [[32, 8, 8], [64, 16, 16], [64, 16, 16]];
+    let matrices = [two_columns, three_columns, four_columns];
+    let figures = f32_and_vectors.iter().chain(matrices.as_flattened());
+    for (shape, figures) in (0..).zip(figures) {
+        assert_eq!(numbers(shape, 4), Ok(*figures));
+        assert_eq!(numbers(shape, 2), Ok(figures.map(|n| n / 2)));
+    }
+    for (shape, width) in [(13, 4), (0, 3), (13, 3), (0, 0), (12, 16), (u32::MAX, 4)] {
+        assert_eq!(plain(shape, width), Err(refused(2, 0, 0, 0)));
+    }
 }
 
 #[test]

@@ -7,7 +7,7 @@ use std::fmt;
 pub struct Refusal {
     /// 1 to 26.
     pub number: u32,
-    /// The first type refused; 0 for 1, 25 and 26.
+    /// The first type refused; 0 for 1, 25 and 26, and for 2 of [`crate::plain`].
     pub ty: u32,
     /// Its position in the struct for 6 and 17 to 21, else 0.
     pub member: u32,
@@ -18,7 +18,7 @@ pub struct Refusal {
 const MEANINGS: [&str; 27] = [
     "accepted",
     "table length: not whole records, too many, rows too short, or capability bits above 12",
-    "field outside its set, or member rows past the member table",
+    "field outside its set, or member rows past the member table; no such plain shape or width",
     "pointer or binding-array base outside the arena",
     "array's count or measure above 2,147,483,647",
     "array element not an earlier type",

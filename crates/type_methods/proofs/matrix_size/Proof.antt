@@ -6,8 +6,8 @@ use Rattle.alignment.proofs.PowerLaws.{mul-within, vector-within}
 use Rattle.type_methods.proofs.matrix_size.Statement.{statement}
 use Rattle.type_methods.proofs.matrix_size.Tie as tie
 
-mul-column : tie.Need-mul-column
-mul-column c = let a = c .before .args in let w : c .vector-alignment .result ≤ 4 = rw (c .vector-alignment .ensures) (vector-within (a .rows)) in omega (arith, mul-within (c .vector-alignment .result) (a .width) w (c .before .pre .1))
+mul-step : tie.Need-mul-step
+mul-step c = let a = c .before .args in let w : c .vector-alignment .result ≤ 4 = rw (c .vector-alignment .ensures) (vector-within (a .rows)) in omega (arith, mul-within (c .vector-alignment .result) (a .width) w (c .before .pre .1))
 
 mul-matrix : tie.Need-mul-matrix
 mul-matrix c = let a = c .before .args in let w : c .vector-alignment .result ≤ 4 = rw (c .vector-alignment .ensures) (vector-within (a .rows)) in omega (arith, mul-within (c .vector-alignment .result * a .width) (a .columns) (mul-within (c .vector-alignment .result) (a .width) w (c .before .pre .1)) (c .before .pre .0))
@@ -20,6 +20,6 @@ matrix-size-spec =
     tie.close
     (tie.spec
     (λ c κs. search needs)
-    mul-column
+    mul-step
     mul-matrix
     returns)
