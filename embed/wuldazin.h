@@ -193,8 +193,10 @@ void wuldazin_slots(const uint32_t *types, size_t types_length,
                     uint64_t *mask, size_t mask_length,
                     uint32_t *answer, size_t answer_length);
 
-/* The leaf that steps (member and element numbers) lead to from type start. Judges the arena first.
- * place: two words, the leaf's first byte and its type; zeros on a refusal. Numbers 1 to 24 and 26. */
+/* The leaf that steps (member, element and column numbers) lead to from type start. Judges the arena first.
+ * A matrix takes one further step, its column, and the leaf is that column: rows * width bytes. The column step, from one to the next,
+ * is the matrix's alignment; the bytes between columns of three rows are in no leaf. Every other leaf is as long as its type's size.
+ * place: two words, the leaf's first byte and its type, of a column the matrix's; zeros on a refusal. Numbers 1 to 24 and 26. */
 void wuldazin_place(const uint32_t *types, size_t types_length,
                     const uint32_t *members, size_t members_length,
                     uint32_t capabilities,

@@ -1,7 +1,9 @@
 /* A host that fills a storage buffer by place lookups:
  *
  *   struct Cell { temperature: vec3<f32>, moisture: f32 }
- *   struct Kernel { steps: u32, cells: array<Cell, 4>, tail: array<f32> }
+ *   struct Kernel { turn: mat3x3<f32>, steps: u32, cells: array<Cell, 4>, tail: array<f32> }
+ *
+ * The matrix is filled column by column: 12 bytes at 0, 16 and 32. The host keeps a flag in the gap after each.
  */
 #include <stdio.h>
 #include <stdlib.h>
@@ -11,8 +13,9 @@
 
 #define LENGTH(array) (sizeof(array) / sizeof(array)[0])
 
-enum { F32, VEC3, CELL, CELLS, U32, TAIL, KERNEL, TYPES };
-enum { CELL_COUNT = 4, TAIL_COUNT = 8, TAIL_START = 80, BYTES = TAIL_START + 4 * TAIL_COUNT };
+enum { F32, VEC3, CELL, CELLS, U32, TAIL, MAT3X3, KERNEL, TYPES };
+enum { COLUMNS = 3, COLUMN_STEP = 16, STEPS_START = 48, CELLS_START = 64, CELL_COUNT = 4, TAIL_START = 128, TAIL_COUNT = 8 };
+enum { BYTES = TAIL_START + 4 * TAIL_COUNT };
 
 static uint32_t types[] = {
     WULDAZIN_SCALAR, WULDAZIN_FLOAT, 4, 0, 0, 0,
@@ -21,11 +24,12 @@ static uint32_t types[] = {
     WULDAZIN_ARRAY, CELL, WULDAZIN_CONSTANT, CELL_COUNT, 16, 0,
     WULDAZIN_SCALAR, WULDAZIN_UINT, 4, 0, 0, 0,
     WULDAZIN_ARRAY, F32, WULDAZIN_DYNAMIC, 0, 4, 0,
-    WULDAZIN_STRUCT, 2, 3, 96, 0, 0,
+    WULDAZIN_MATRIX, COLUMNS, 3, WULDAZIN_FLOAT, 4, 0,
+    WULDAZIN_STRUCT, 2, 4, 144, 0, 0,
 };
 static uint32_t members[] = {
     VEC3, 0, F32, 12,
-    U32, 0, CELLS, 16, TAIL, TAIL_START,
+    MAT3X3, 0, U32, STEPS_START, CELLS, CELLS_START, TAIL, TAIL_START,
 };
 static uint32_t rows[TYPES * WULDAZIN_ROW_WORDS];
 static uint32_t answer[WULDAZIN_ANSWER_WORDS];
@@ -45,6 +49,12 @@ static void check(uint32_t number) {
     expect("check", answer[0], number);
 }
 
+/* A column is rows times width bytes long, every other leaf as long as its type. */
+static uint32_t leaf_size(uint32_t leaf) {
+    const uint32_t *type = types + leaf * WULDAZIN_TYPE_WORDS;
+    return type[0] == WULDAZIN_MATRIX ? type[2] * type[4] : row(leaf)[WULDAZIN_ROW_SIZE];
+}
+
 /* Copies a value to the leaf that steps lead to, if it lies within the buffer. */
 static void put(const char *name, const uint32_t *steps, size_t count, uint32_t leaf, uint64_t byte, const void *value) {
     uint64_t place[2];
@@ -53,10 +63,33 @@ static void put(const char *name, const uint32_t *steps, size_t count, uint32_t 
     expect(name, answer[0], WULDAZIN_ACCEPTED);
     expect(name, place[0], byte);
     expect(name, place[1], leaf);
-    uint32_t size = row(leaf)[WULDAZIN_ROW_SIZE];
+    uint32_t size = leaf_size(leaf);
     expect(name, place[0] <= BYTES && size <= BYTES - place[0], 1);
     memcpy(buffer + place[0], value, size);
     printf("%-22s byte %3u, %2u bytes\n", name, (unsigned)place[0], size);
+}
+
+/* The byte after a column, which is in no leaf. */
+static unsigned char *flag(uint32_t column) { return buffer + COLUMN_STEP * column + leaf_size(MAT3X3); }
+
+/* Flags first: the columns spare them. */
+static void fill_turn(void) {
+    char name[64];
+    for (uint32_t i = 0; i < COLUMNS; i++) *flag(i) = 0xf0 + i;
+    for (uint32_t i = 0; i < COLUMNS; i++) {
+        float column[3] = {0};
+        column[i] = 1;
+        snprintf(name, sizeof name, "turn[%u]", i);
+        put(name, (uint32_t[]){0, i}, 2, MAT3X3, COLUMN_STEP * i, column);
+    }
+    for (uint32_t i = 0; i < COLUMNS; i++) expect("flag", *flag(i), 0xf0 + i);
+}
+
+static void refuse_place(const char *name, const uint32_t *steps, size_t count) {
+    uint64_t place[2];
+    wuldazin_place(types, LENGTH(types), members, LENGTH(members), 0, rows, LENGTH(rows), KERNEL, steps, count, place,
+                   LENGTH(place), answer, LENGTH(answer));
+    expect(name, answer[0], WULDAZIN_NO_SUCH_PLACE);
 }
 
 int main(void) {
@@ -66,17 +99,18 @@ int main(void) {
     expect("storage alignment", row(KERNEL)[WULDAZIN_ROW_STORAGE + 1], 16);
     expect("flags", row(KERNEL)[WULDAZIN_ROW_FLAGS] & WULDAZIN_HOST_SHAREABLE, WULDAZIN_HOST_SHAREABLE);
 
-    put("steps", (uint32_t[]){0}, 1, U32, 0, &(uint32_t){1000});
+    fill_turn();
+    put("steps", (uint32_t[]){1}, 1, U32, STEPS_START, &(uint32_t){1000});
     for (uint32_t i = 0; i < CELL_COUNT; i++) {
         float temperature[3] = {20 + i, 30 + i, 40 + i}, moisture = 0.25f * i;
         snprintf(name, sizeof name, "cells[%u].temperature", i);
-        put(name, (uint32_t[]){1, i, 0}, 3, VEC3, 16 + 16 * i, temperature);
+        put(name, (uint32_t[]){2, i, 0}, 3, VEC3, CELLS_START + 16 * i, temperature);
         snprintf(name, sizeof name, "cells[%u].moisture", i);
-        put(name, (uint32_t[]){1, i, 1}, 3, F32, 28 + 16 * i, &moisture);
+        put(name, (uint32_t[]){2, i, 1}, 3, F32, CELLS_START + 12 + 16 * i, &moisture);
     }
     for (uint32_t i = 0; i < TAIL_COUNT; i++) {
         snprintf(name, sizeof name, "tail[%u]", i);
-        put(name, (uint32_t[]){2, i}, 2, F32, TAIL_START + 4 * i, &(float){i});
+        put(name, (uint32_t[]){3, i}, 2, F32, TAIL_START + 4 * i, &(float){i});
     }
     for (size_t i = 0; i < BYTES; i++) printf("%02x%s", buffer[i], i % 16 == 15 ? "\n" : i % 4 == 3 ? "  " : " ");
 
@@ -97,7 +131,7 @@ int main(void) {
     expect("the word that was not lent", mask[1], 5);
     wuldazin_members(types, LENGTH(types), members, LENGTH(members), KERNEL, part, LENGTH(part));
     expect("first member word", part[0], 4);
-    expect("member words", part[1], 6);
+    expect("member words", part[1], 8);
     uint32_t numbers[3];
     wuldazin_plain(8, 4, numbers, LENGTH(numbers), answer, LENGTH(answer));
     expect("mat3x3 of f32", answer[0], WULDAZIN_ACCEPTED);
@@ -105,12 +139,11 @@ int main(void) {
     expect("its alignment", numbers[1], 16);
     expect("its column step", numbers[2], 16);
 
-    /* Refusals: no such shape; no such cell; then a moisture that stands in the temperature's bytes. */
+    /* Refusals: no such shape; no such cell, no such column; then a moisture that stands in the temperature's bytes. */
     wuldazin_plain(13, 4, numbers, LENGTH(numbers), answer, LENGTH(answer));
     expect("shape 13", answer[0], WULDAZIN_FIELD);
-    wuldazin_place(types, LENGTH(types), members, LENGTH(members), 0, rows, LENGTH(rows), KERNEL, (uint32_t[]){1, 4, 0}, 3,
-                   part, LENGTH(part), answer, LENGTH(answer));
-    expect("cells[4]", answer[0], WULDAZIN_NO_SUCH_PLACE);
+    refuse_place("cells[4]", (uint32_t[]){2, CELL_COUNT, 0}, 3);
+    refuse_place("turn[3]", (uint32_t[]){0, COLUMNS}, 2);
     members[3] = 8;
     check(WULDAZIN_MEMBER_OVERLAP);
     printf("moisture at byte 8: refused, number %u, type %u, member %u\n", answer[0], answer[1], answer[2]);

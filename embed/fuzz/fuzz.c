@@ -55,7 +55,7 @@ static uint32_t noise[ROWS_MOST + 1024];
 static unsigned char guard[GUARD];
 static uint64_t seed = 1, call, state;
 static int door;
-static uint64_t doors[DOORS], numbers[27], unanswered;
+static uint64_t doors[DOORS], numbers[27], unanswered, columns;
 static bool types_seen[TYPES_MOST + 1], members_seen[MEMBERS_MOST + 1];
 
 static void say_where(void) {
@@ -214,12 +214,12 @@ static void grow(Tables *t, uint32_t count) {
     }
 }
 
-/* Structs in structs, as deep as an arena can have them. */
+/* Structs in structs, as deep as an arena can have them, and in the last a mat2x2<f32>: no place has more steps. */
 static void nest(Tables *t) {
     t->types_length = 6 * 1024, t->members_length = 2 * 1023;
-    memcpy(t->types, (uint32_t[]){0, 2, 4, 0, 0, 0}, 24);
+    memcpy(t->types, (uint32_t[]){2, 2, 2, 2, 4, 0}, 24);
     for (uint32_t i = 1; i < 1024; i++) {
-        memcpy(t->types + 6 * i, (uint32_t[]){8, i - 1, 1, 4, 0, 0}, 24);
+        memcpy(t->types + 6 * i, (uint32_t[]){8, i - 1, 1, 16, 0, 0}, 24);
         memcpy(t->members + 2 * (i - 1), (uint32_t[]){i - 1, 0}, 8);
     }
 }
@@ -334,7 +334,10 @@ static size_t make_steps(uint32_t *list, uint32_t ty) {
         const uint32_t *r = now.types + 6 * ty, *m = member_rows(r);
         if (r[0] == 7) list[length++] = r[2] ? wild() : below(r[3]), ty = r[1];
         else if (m && r[2]) list[length] = below(r[2]), ty = m[2 * list[length++]];
-        else break;
+        else {
+            if (r[0] == 2) list[length++] = below(r[1]);
+            break;
+        }
     }
     switch (below(12)) {
     case 0: list[length++] = wild(); break;
@@ -361,6 +364,15 @@ static uint32_t number_of(bool fits, uint32_t count) {
     require(a[0] == 8 ? a[3] <= 12 : a[3] == 0, "detail");
     numbers[a[0]]++;
     return a[0];
+}
+
+/* A leaf is data, and neither array nor struct; of a matrix it is the column that the last step names. */
+static void look_at_leaf(uint64_t leaf, const uint32_t *list, size_t length) {
+    require(leaf < now.types_length / 6, "leaf outside the arena");
+    const uint32_t *r = now.types + 6 * leaf;
+    require(r[0] <= 4 || r[0] == 12, "leaf of a type that is none");
+    require(r[0] != 2 || (length && list[length - 1] < r[1]), "leaf that is no column");
+    if (r[0] == 2) columns++;
 }
 
 /* Zeros in refused rows, sane words in accepted ones. */
@@ -482,7 +494,7 @@ static void one_call(void) {
             require(out[0] % 2 == 0 && out[1] % 2 == 0 && out[0] <= ml && out[1] <= ml - out[0], "part outside the table");
         else if (number >= 1 && number <= 26) require((out[0] | out[1]) == 0, "words beside a refusal");
         else if (door == SLOTS && written == 2) require((out[1] & ~out[0]) == 0, "slots covered in part and not touched");
-        else if (written && door == PLACE && number == 0) require(out[1] < count, "leaf outside the arena");
+        else if (written && door == PLACE && number == 0) look_at_leaf(out[1], list, sl);
         take_back(&output, 8 * written);
     }
     if (door == PLACE) take_back(&steps, 0);
@@ -524,6 +536,7 @@ int main(int words, char **word_list) {
     for (int d = 0; d < DOORS; d++) printf("%-8s %9llu calls\n", door_names[d], (unsigned long long)doors[d]);
     for (int n = 0; n <= 26; n++) printf("number %2d %9llu\n", n, (unsigned long long)numbers[n]);
     printf("answer too short %llu\n", (unsigned long long)unanswered);
+    printf("places that are columns %llu\n", (unsigned long long)columns);
     printf("lengths met: types %zu of %d, members %zu of %d\n", seen(types_seen, TYPES_MOST + 1), TYPES_MOST + 1,
            seen(members_seen, MEMBERS_MOST + 1), MEMBERS_MOST + 1);
     printf("%.1f s, %.0f calls a second\n%llu calls, 0 faults\n", seconds, count / seconds, (unsigned long long)count);

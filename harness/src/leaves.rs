@@ -14,6 +14,8 @@ pub struct Leaf {
     pub place: u64,
     pub ty: u32,
     pub size: u32,
+    /// The bytes after a column that no leaf has.
+    pub gap: u32,
     /// Whether it stands in a runtime element past the first.
     pub past_first: bool,
 }
@@ -25,9 +27,18 @@ impl Leaf {
 
     /// The bytes of it that a buffer of this length has.
     pub fn bytes_in(&self, length: usize) -> Range<usize> {
-        let most = length as u64;
-        self.place.min(most) as usize..self.end().min(most) as usize
+        within(self.place..self.end(), length)
     }
+
+    /// The bytes of the gap after it that a buffer of this length has.
+    pub fn gap_in(&self, length: usize) -> Range<usize> {
+        within(self.end()..self.end() + u64::from(self.gap), length)
+    }
+}
+
+fn within(bytes: Range<u64>, length: usize) -> Range<usize> {
+    let most = length as u64;
+    bytes.start.min(most) as usize..bytes.end.min(most) as usize
 }
 
 /// How many leaves each type has.
@@ -38,6 +49,7 @@ pub fn leaf_counts(arena: &Arena) -> Vec<u64> {
         let count = match w[0] {
             kind::ARRAY => counts[w[1] as usize].saturating_mul(u64::from(element_count(w))),
             kind::STRUCT => rows.fold(0, u64::saturating_add),
+            kind::MATRIX => u64::from(w[1]),
             _ => 1,
         };
         counts.push(count);
@@ -58,16 +70,29 @@ pub fn leaves_of(arena: &Arena, start: u32, size: impl Fn(usize) -> u32) -> Vec<
     let leaf = |(steps, past_first): (Vec<u32>, bool)| {
         let found = place::of(&arena.types, &arena.members, start, &steps);
         let (place, ty) = found.expect("the steps lead to a leaf");
-        let size = size(ty as usize);
+        let (size, gap) = measure(arena, ty, size(ty as usize));
         Leaf {
             steps,
             place,
             ty,
             size,
+            gap,
             past_first,
         }
     };
     lists.into_iter().map(leaf).collect()
+}
+
+/// The bytes of a leaf, and of the gap after it.
+fn measure(arena: &Arena, ty: u32, size: u32) -> (u32, u32) {
+    let w = &arena.types[TYPE_WORDS * ty as usize..][..TYPE_WORDS];
+    match w[0] {
+        kind::MATRIX => {
+            let length = place::column_length(w);
+            (length, place::column_step(w) - length)
+        }
+        _ => (size, 0),
+    }
 }
 
 /// All ways on from a type, each with whether it goes past a first runtime element.
@@ -79,15 +104,20 @@ fn step_lists(
     lists: &mut Vec<(Vec<u32>, bool)>,
 ) {
     let w = &arena.types[TYPE_WORDS * number as usize..][..TYPE_WORDS];
-    let next: Vec<u32> = match w[0] {
-        kind::ARRAY => vec![w[1]; element_count(w) as usize],
-        kind::STRUCT => arena.rows_of(w).map(|(ty, _)| ty).collect(),
+    let next: Vec<Option<u32>> = match w[0] {
+        kind::ARRAY => vec![Some(w[1]); element_count(w) as usize],
+        kind::STRUCT => arena.rows_of(w).map(|(ty, _)| Some(ty)).collect(),
+        kind::MATRIX => vec![None; w[1] as usize],
         _ => return lists.push((steps.clone(), past_first)),
     };
     let runtime = w[0] == kind::ARRAY && w[2] == DYNAMIC;
     for (step, &ty) in next.iter().enumerate() {
+        let past_first = past_first || (runtime && step > 0);
         steps.push(step as u32);
-        step_lists(arena, ty, past_first || (runtime && step > 0), steps, lists);
+        match ty {
+            Some(ty) => step_lists(arena, ty, past_first, steps, lists),
+            None => lists.push((steps.clone(), past_first)),
+        }
         steps.pop();
     }
 }

@@ -161,3 +161,59 @@ fn places_and_parts_of_m1() {
     assert_eq!([part(2), part(1), part(4)], [[0, 4], [0, 0], [0, 0]]);
     assert_eq!(members::part(types, &rows[..3], 2), [0, 0]);
 }
+
+/// E6 of 02: a matrix takes one step more, its column.
+#[test]
+fn places_of_columns() {
+    let float = [kind::MATRIX, 3, 3, 2, 4, 0];
+    let half = [kind::MATRIX, 4, 3, 2, 2, 0];
+    let cooperative = [kind::COOPERATIVE_MATRIX, 8, 8, 2, 4, 0];
+    let types = [
+        float,
+        half,
+        cooperative,
+        structure(0, 2, 80),
+        array(3, 2, 80),
+    ];
+    let types = types.as_flattened();
+    let members = [1, 0, 0, 32];
+    let place = |start, steps: &[u32]| place::of(types, &members, start, steps);
+    assert_eq!(
+        [0, 1, 2].map(|s| place(0, &[s])),
+        [0, 16, 32].map(|b| Some((b, 0)))
+    );
+    assert_eq!(place(1, &[3]), Some((24, 1)));
+    assert_eq!(place(2, &[]), Some((0, 2)));
+    assert_eq!(place(4, &[1, 1, 2]), Some((80 + 32 + 32, 0)));
+    let none = [
+        (0, &[][..]),
+        (0, &[3]),
+        (0, &[2, 0]),
+        (1, &[4]),
+        (2, &[0]),
+        (4, &[1, 1]),
+    ];
+    for (start, steps) in none {
+        assert_eq!(place(start, steps), None);
+    }
+    assert_eq!(place::column_length(&float), 12);
+    assert_eq!(place::column_length(&half), 6);
+}
+
+/// The columns of every matrix, one column step each, are all of it, and the
+/// step is its alignment.
+#[test]
+fn columns_by_the_sizes_of_naga() {
+    for columns in 2..=4 {
+        for rows in 2..=4 {
+            for width in [2, 4, 8] {
+                let matrix = [kind::MATRIX, columns, rows, 2, width, 0];
+                let row = check(&[matrix], &[], ALL_CAPABILITIES).unwrap()[0];
+                let step = place::column_step(&matrix);
+                assert_eq!([row[0], row[1]], [columns * step, step]);
+                assert_eq!([row[4], row[9]], [step, step]);
+                assert!(place::column_length(&matrix) <= step);
+            }
+        }
+    }
+}

@@ -22,9 +22,10 @@ pub fn place(count: u64, seed: u64) -> bool {
         |arena, random, histogram| {
             let (start, steps) = start_and_steps(random, arena);
             let outcome = print::reference_of(arena);
-            assert_data_is_by_kind(arena, &outcome);
+            assert_reading(arena, &outcome);
             let expected = place::look_up(outcome, &arena.types, &arena.members, start, &steps);
             count_place(histogram, &expected, &steps);
+            count_columns(histogram, &expected, arena, start, &steps);
             let mut asked = vec![start];
             asked.extend(&steps);
             Case {
@@ -36,11 +37,15 @@ pub fn place(count: u64, seed: u64) -> bool {
     )
 }
 
-/// The reading by kinds agrees with the Rust's flags.
-pub fn assert_data_is_by_kind(arena: &Arena, outcome: &Outcome) {
+/// The reading of kinds and columns agrees with the Rust's flags and sizes.
+pub fn assert_reading(arena: &Arena, outcome: &Outcome) {
     let records = arena.types.chunks_exact(TYPE_WORDS);
     for (record, row) in records.zip(outcome.rows.iter().flatten()) {
         assert_eq!(place::is_data(record[0]), row[2] & DATA_FLAG != 0);
+        if record[0] == kind::MATRIX {
+            let (columns, step) = (record[1], place::column_step(record));
+            assert_eq!([columns * step, step], [row[0], row[1]]);
+        }
     }
 }
 
@@ -57,6 +62,26 @@ fn count_place(histogram: &mut Histogram, expected: &Expected, steps: &[u32]) {
     });
     if expected.output[0] > u64::from(u32::MAX) {
         histogram.note("place above 32 bits");
+    }
+}
+
+/// The calls that come to a matrix, by their answers.
+fn count_columns(
+    histogram: &mut Histogram,
+    expected: &Expected,
+    arena: &Arena,
+    start: u32,
+    steps: &[u32],
+) {
+    let Some(left) = place::steps_at_a_matrix(arena, start, steps) else {
+        return;
+    };
+    match (expected.answer[0], left) {
+        (0, _) => histogram.note("at a matrix: a column"),
+        (NO_SUCH, []) => histogram.note("at a matrix: 26, no column"),
+        (NO_SUCH, [_]) => histogram.note("at a matrix: 26, a column past the last"),
+        (NO_SUCH, _) => histogram.note("at a matrix: 26, steps after the column"),
+        _ => {}
     }
 }
 
@@ -113,6 +138,10 @@ pub fn steps_to_a_leaf(random: &mut Random, arena: &Arena, start: u32) -> Vec<St
             kind::ARRAY if w[2] == DYNAMIC => (runtime_element(random), None),
             kind::ARRAY => (element(random, w[3]), Some(w[3])),
             kind::STRUCT => (element(random, w[2]), Some(w[2])),
+            kind::MATRIX => {
+                steps.push((element(random, w[1]), Some(w[1])));
+                break;
+            }
             _ => break,
         };
         let row = u64::from(w[1]) + u64::from(step.0);

@@ -67,6 +67,7 @@ fn head(script: &mut Script, count: u64, seed: u64) {
         "checks; numbers 1 to 3, place and members by the harness's reading of 01,",
         "the second mask of slots and range by its reading of 02, over bytes.",
         "The port is not called.",
+        "A place in a matrix is that of a column, by E6 of 02.",
     ];
     for line in lines {
         script.comment(line);
@@ -123,7 +124,7 @@ fn is_small(arena: &Arena, index: u64) -> bool {
 /// refusal.
 fn write_case(script: &mut Script, arena: &Arena, random: &mut Random) {
     let outcome = print::reference_of(arena);
-    place_calls::assert_data_is_by_kind(arena, &outcome);
+    place_calls::assert_reading(arena, &outcome);
     script.arenas += 1;
     script.comment(format!("arena {}", script.arenas));
     write_tables(script, arena, random);

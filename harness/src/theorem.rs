@@ -7,6 +7,8 @@ use crate::leaves::{leaf_counts, leaves_of, Leaf};
 use crate::random::Random;
 use crate::records::*;
 use crate::{generator, print};
+use std::collections::BTreeSet;
+use std::ops::Range;
 
 const LARGEST_TYPE: u32 = 256;
 const MOST_LEAVES: u64 = 64;
@@ -44,12 +46,33 @@ pub fn theorem(count: u64, seed: u64) -> bool {
     }
     histogram.print();
     println!("{count} arenas, no type within the hypotheses fails");
+    count < ENOUGH_ARENAS || (overlaps_seen(&histogram) && gaps_seen(&histogram))
+}
+
+/// Whether types outside the hypotheses overlap, for either cause.
+fn overlaps_seen(histogram: &Histogram) -> bool {
     let overlap = |sort| histogram.noted(&format!("{sort}: overlap")) > 0;
-    let shown = count < ENOUGH_ARENAS || (overlap(NARROW) && overlap(NOT_SHAREABLE));
-    if !shown {
+    let seen = overlap(NARROW) && overlap(NOT_SHAREABLE);
+    if !seen {
         println!("but no type outside them overlaps: the arenas show nothing");
     }
-    shown
+    seen
+}
+
+/// Whether every matrix with gaps was met, of f32 and of f16.
+fn gaps_seen(histogram: &Histogram) -> bool {
+    let shapes = (2..=4).flat_map(|columns| [(columns, 2), (columns, 4)]);
+    let mut unseen = shapes.filter(|&(columns, width)| histogram.noted(&gaps(columns, width)) == 0);
+    let first = unseen.next();
+    if let Some((columns, width)) = first {
+        println!("but {} is never met", gaps(columns, width));
+    }
+    first.is_none()
+}
+
+/// The name of a matrix with gaps: it has three rows.
+fn gaps(columns: u32, width: u32) -> String {
+    format!("{WITHIN}: with gaps of mat{columns}x3, width {width}")
 }
 
 fn try_arena(arena: &Arena, random: &mut Random, histogram: &mut Histogram) -> Result<(), String> {
@@ -109,12 +132,12 @@ impl Accepted<'_> {
             (false, true) => NOT_SHAREABLE,
             (false, false) => NEITHER,
         };
-        histogram.note(sort);
         let leaves = leaves_of(self.arena, number as u32, |ty| self.rows[ty][SIZE]);
-        if sort == WITHIN && leaves.iter().any(|leaf| leaf.past_first) {
-            histogram.note(&format!("{sort}: with runtime elements"));
-        }
         let owed = sort == WITHIN;
+        histogram.note(sort);
+        if owed {
+            self.note_leaves(&leaves, histogram);
+        }
         judge(
             histogram,
             sort,
@@ -142,6 +165,17 @@ impl Accepted<'_> {
             name,
             self.misaligned(&leaves),
         )
+    }
+
+    /// Runtime elements past the first, and each sort of matrix that leaves gaps.
+    fn note_leaves(&self, leaves: &[Leaf], histogram: &mut Histogram) {
+        if leaves.iter().any(|leaf| leaf.past_first) {
+            histogram.note(&format!("{WITHIN}: with runtime elements"));
+        }
+        let with_gaps = leaves.iter().filter(|leaf| leaf.gap > 0);
+        let matrices = with_gaps.filter_map(|leaf| type_record(&self.arena.types, leaf.ty));
+        let names: BTreeSet<String> = matrices.map(|w| gaps(w[1], w[4])).collect();
+        names.iter().for_each(|name| histogram.note(name));
     }
 
     /// A leaf that is not at a multiple of its own storage alignment.
@@ -195,13 +229,15 @@ fn rewriting(leaves: &[Leaf], size: u32, random: &mut Random) -> Option<String> 
             // Never the old byte, so that every change is seen.
             buffer[byte] ^= random.between(1, 255) as u8;
         }
-        let changed = |other: &&Leaf| {
-            let bytes = other.bytes_in(length);
-            buffer[bytes.clone()] != before[bytes]
-        };
-        let others = leaves[..at].iter().chain(&leaves[at + 1..]);
-        if let Some(other) = others.clone().find(changed) {
+        let changed = |bytes: Range<usize>| buffer[bytes.clone()] != before[bytes];
+        let mut others = leaves[..at].iter().chain(&leaves[at + 1..]);
+        if let Some(other) = others.find(|other| changed(other.bytes_in(length))) {
             return Some(format!("rewriting {leaf:?} changes {other:?}"));
+        }
+        if let Some(column) = leaves.iter().find(|column| changed(column.gap_in(length))) {
+            return Some(format!(
+                "rewriting {leaf:?} changes the gap after {column:?}"
+            ));
         }
     }
     None

@@ -9,10 +9,11 @@ use lib.ListN.{length, getD, drop, drop-of-length-le}
 use lib.Seq.{drop-cons}
 use borrow.Author.Tests.{le-ltb}
 use Rattle.records.specs.Result.{pick}
-use Rattle.records.specs.Record.{typeCount, decoded}
-use Rattle.steps.specs.declared.Step.the-variants.{To, NoStep}
+use Rattle.records.specs.Record.{typeCount, typeInner, decoded}
+use Rattle.records.specs.Fields.{InnerBounds}
+use Rattle.steps.specs.declared.Step.the-variants.{To, Column, NoStep}
 use Rattle.descent.specs.declared.Place.the-variants.{At, NoPlace}
-use Rattle.descent.specs.Place.{follow, stepIn, leafIn, placeIn, placeOf, Descends}
+use Rattle.descent.specs.Place.{ended, follow, stepIn, leafIn, placeIn, placeOf, Descends}
 use Rattle.descent.proofs.WalkLaws.{place-from}
 
 -- where the loop stands after i steps: the rest of the steps from here lead where all of them lead from the start
@@ -39,13 +40,17 @@ module _ {ts ms : List ℕ} {start : ℕ} {steps : List ℕ} {i ty byte : ℕ} (
   pub looking-fits : byte < 2 ^ 64
   looking-fits = omega (arith, l .bound)
 
+  -- the type's fields are within the bounds that number 2 leaves
+  pub looking-bounds : InnerBounds (typeInner ts ty)
+  looking-bounds = l .descends .bounds ty (l .isType)
+
   -- at the byte place that the code holds
   pub looking-at : (held : ℕ) → byte ≡ held → Looking ts ms start steps i ty held
   looking-at held e = rw e at l
 
   -- the next step is followed
   next : i < length steps
-      → follow (stepIn (decoded ts ms) ty (getD steps i 0)) (λ next bytes. placeIn (decoded ts ms) next (byte + bytes) (drop (i + 1) steps))
+      → follow (stepIn (decoded ts ms) ty (getD steps i 0)) (λ bytes. ended (byte + bytes) ty (drop (i + 1) steps)) (λ next bytes. placeIn (decoded ts ms) next (byte + bytes) (drop (i + 1) steps))
       ≡ placeIn (decoded ts ms) start 0 steps
   next h = rw add-one (rw (drop-cons steps i 0 h) at (l .same))
 
@@ -65,6 +70,20 @@ module _ {ts ms : List ℕ} {start : ℕ} {steps : List ℕ} {i ty byte : ℕ} (
         bound = omega (arith, l .bound, d .1);
         same = rw (← e) at (next h);
       }
+
+  -- a step to a column: its place fits 64 bits
+  pub column-fits : {bytes : ℕ} → Column bytes ≡ stepIn (decoded ts ms) ty (getD steps i 0) → byte + bytes < 2 ^ 64
+  column-fits {bytes = bytes} e = omega (arith, l .bound, l .descends .column ty (getD steps i 0) bytes (l .isType) (sym e))
+
+  -- it is the place, where the steps end
+  pub column-last : {bytes : ℕ} → i < length steps → length steps ≤ i + 1 → Column bytes ≡ stepIn (decoded ts ms) ty (getD steps i 0)
+      → At (byte + bytes) ty ≡ placeOf ts ms start steps
+  column-last h k e = (rw (← e, drop-of-length-le steps k) at (next h)) ∙ sym (place-from ts ms start (l .started) steps)
+
+  -- and no place, where they go on
+  pub column-passed : {bytes : ℕ} → i < length steps → i + 1 < length steps → Column bytes ≡ stepIn (decoded ts ms) ty (getD steps i 0)
+      → NoPlace ≡ placeOf ts ms start steps
+  column-passed h k e = (rw (← e, drop-cons steps (i + 1) 0 k) at (next h)) ∙ sym (place-from ts ms start (l .started) steps)
 
   -- after the last step: the place, where the type is a leaf
   pub looking-done : length steps ≤ i → pick (leafIn (decoded ts ms) ty) (At byte ty) NoPlace ≡ placeOf ts ms start steps

@@ -1,5 +1,5 @@
--- 01, 'The place': steps (member numbers, element numbers) lead from a DATA type to a leaf. Fed the type and member records, the start
--- and the steps, never a row.
+-- 01, 'The place', with E6 of 02: steps (member numbers, element numbers, column numbers) lead from a DATA type to a leaf. Fed the type
+-- and member records, the start and the steps, never a row.
 -- Assumes nothing.
 use mathlib.Core.Bool.{Bool}
 use mathlib.Core.Path.{_≡_}
@@ -8,20 +8,28 @@ use Prim.Native.Nat.{ℕ, _+_, _^_, _≤_, _<_}
 use lib.Dec.{ltb}
 use Rattle.records.specs.Result.{pick}
 use Rattle.records.specs.Record.{typeCount, Decoded, decoded}
+use Rattle.records.specs.Fields.{InnerBounds}
 use Rattle.steps.specs.Steps.{isLeaf, stepOf}
 use Rattle.steps.specs.declared.Step.{Step}
-use Rattle.steps.specs.declared.Step.the-variants.{To, NoStep}
+use Rattle.steps.specs.declared.Step.the-variants.{To, Column, NoStep}
 use Rattle.descent.specs.declared.Place.{Place}
 use Rattle.descent.specs.declared.Place.the-variants.{At, NoPlace}
 
-abbrev pub follow : Step → (ℕ → ℕ → Place) → Place
-follow (To ty bytes) rest = rest ty bytes
-follow NoStep rest = NoPlace
+-- a column is reached: there the steps must end. The answered type is the matrix's
+abbrev pub ended : (byte ty : ℕ) → (rest : List ℕ) → Place
+ended byte ty [] = At byte ty
+ended byte ty (s ∷ steps) = NoPlace
+
+abbrev pub follow : Step → (column : ℕ → Place) (rest : ℕ → ℕ → Place) → Place
+follow (To ty bytes) column rest = rest ty bytes
+follow (Column bytes) column rest = column bytes
+follow NoStep column rest = NoPlace
 
 -- a type and a byte place are held; at a leaf the steps must end
 abbrev pub walk : (step : ℕ → ℕ → Step) (leaf : ℕ → Bool) → (ty byte : ℕ) → List ℕ → Place
 walk step leaf ty byte [] = pick (leaf ty) (At byte ty) NoPlace
-walk step leaf ty byte (s ∷ steps) = follow (step ty s) (λ next bytes. walk step leaf next (byte + bytes) steps)
+walk step leaf ty byte (s ∷ steps) =
+    follow (step ty s) (λ bytes. ended (byte + bytes) ty steps) (λ next bytes. walk step leaf next (byte + bytes) steps)
 
 -- in an arena of decoded records
 abbrev pub stepIn : (types : ℕ → Decoded) → ℕ → ℕ → Step
@@ -39,8 +47,10 @@ placeOf ts ms start steps = pick (ltb start (typeCount ts)) (placeIn (decoded ts
 
 -- ---- what the code asks of the n types of an arena, so that no byte place passes 64 bits
 -- most t: the bytes that steps from type t add at most, in all. A step leads to a type of the arena, and what it adds and the most from
--- there are within the most from here
+-- there are within the most from here; so is what a step to a column adds. The fields are within the bounds that number 2 leaves
 pub record Descends (types : ℕ → Decoded) (n : ℕ) : Type 0 where
   pub most : ℕ → ℕ
   pub fits : (t : ℕ) → t < n → most t < 2 ^ 64
   pub step : (t s ty bytes : ℕ) → t < n → stepIn types t s ≡ To ty bytes → (ty < n) × (bytes + most ty ≤ most t)
+  pub column : (t s bytes : ℕ) → t < n → stepIn types t s ≡ Column bytes → bytes ≤ most t
+  pub bounds : (t : ℕ) → t < n → InnerBounds (types t .inner)

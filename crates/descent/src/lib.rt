@@ -2,10 +2,11 @@
 use steps::Step;
 ghost use mathlib.Core.Path.{_≡_};
 ghost use Rattle.records.specs.Record.{typeCount, typeInner, decoded};
+ghost use Rattle.records.specs.Fields.{InnerBounds};
 ghost use Rattle.steps.specs.Steps.{isLeaf};
 ghost use Rattle.descent.specs.Place.{stepIn, placeOf, Descends};
 
-// The byte place of a leaf and its type.
+// The byte place of a leaf and its type; of a column, the matrix's type.
 pub enum Place {
     At { byte: u64, leaf: u32 },
     NoPlace,
@@ -13,6 +14,7 @@ pub enum Place {
 
 // One step from type ty.
 fn step_at(types: &[u32], members: &[u32], ty: u32, step: u32) -> Step
+    requires { ⌜ InnerBounds (typeInner (now types) ty) ⌝ }
     ensures { λ r. ⌜ r ≡ stepIn (decoded (now (types .entry)) (now (members .entry))) ty step ⌝ }
 {
     let inner = records::type_inner(types, ty);
@@ -42,6 +44,17 @@ pub fn place_of(types: &[u32], members: &[u32], start: u32, steps: &[u32]) -> Pl
             Step::To { ty: next, bytes } => {
                 ty = next;
                 byte += bytes;
+            }
+            Step::Column { bytes } => {
+                // At a column the steps must end.
+                if i + 1 < steps.len() {
+                    return Place::NoPlace;
+                }
+                let column = byte + bytes;
+                return Place::At {
+                    byte: column,
+                    leaf: ty,
+                };
             }
             Step::NoStep => {
                 return Place::NoPlace;

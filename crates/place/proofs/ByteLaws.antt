@@ -1,6 +1,6 @@
 -- Accepted types descend: a byte place fits 64 bits, wherever a walk in them stands.
 -- Assumes nothing.
-use mathlib.Core.Path.{_≡_, refl}
+use mathlib.Core.Path.{_≡_, refl, subst}
 use mathlib.Core.Bool.{Bool, true, false, _&&_}
 use mathlib.Core.Logic.{_⊎_, inl, inr}
 use Prim.Native.Nat.{ℕ, _+_, _*_, _^_, _≤_, _<_}
@@ -9,13 +9,16 @@ use native.Mathlib.Omega.{arith}
 use lib.Dec.{T, leb, leb→le}
 use Rattle.records.specs.Result.{ok, pick}
 use Rattle.records.specs.Record.{Decoded}
-use Rattle.records.specs.Fields.{mostTypes}
+use Rattle.records.specs.Fields.{mostTypes, LeafBounds, InnerBounds}
 use Rattle.records.specs.Table.{table}
+use Rattle.records.specs.declared.Leaf.{Leaf}
+use Rattle.records.specs.declared.Leaf.the-variants.{Scalar, Vector, Matrix, CooperativeMatrix, Atomic, RayQuery}
 use Rattle.records.specs.declared.TypeInner.{TypeInner}
 use Rattle.records.specs.declared.TypeInner.the-variants.{Plain, Array, RuntimeArray, Struct, Other}
 use Rattle.records.proofs.ResultLaws.{required, and-right}
-use Rattle.alignment.proofs.PowerLaws.{mul-within}
-use Rattle.type_methods.specs.TypeMethods.{mostSize, trySize}
+use Rattle.alignment.specs.Alignment.{vectorAlignment}
+use Rattle.alignment.proofs.PowerLaws.{mul-within, vector-within}
+use Rattle.type_methods.specs.TypeMethods.{mostSize, leafColumnStep, trySize}
 use Rattle.layouter.specs.Layouter.{noLayout, layoutStep, layout}
 use Rattle.type_layout.proofs.AcceptedParts.{layout-parts}
 use Rattle.layouter.proofs.LayoutAccepted.{accepted-step}
@@ -23,10 +26,11 @@ use Rattle.flags.specs.Flags.{bit, sizedBit}
 use Rattle.flags.proofs.BitLaws.{bit-and}
 use Rattle.valid.specs.Arena.{row}
 use Rattle.valid.proofs.AcceptedLaws.{AcceptedTypes, base-sized, runtime-array-row, struct-member}
-use Rattle.steps.specs.declared.Step.the-variants.{To}
+use Rattle.steps.specs.declared.Step.the-variants.{To, Column}
+use Rattle.steps.specs.Columns.{columnCount}
 use Rattle.steps.specs.Steps.{stepOf}
 use Rattle.descent.specs.Place.{stepIn, Descends}
-use Rattle.descent.proofs.WalkLaws.{plain-step, array-step, runtime-array-step, struct-step, other-step}
+use Rattle.descent.proofs.WalkLaws.{plain-step, array-step, runtime-array-step, struct-step, other-step, column-step}
 use Rattle.place.proofs.DescentLaws.{descent}
 
 -- whether type t is SIZED
@@ -37,10 +41,10 @@ isSized c types t = bit (row c types t .flags) sizedBit
 abbrev Added : (sized sized′ : Bool) (bytes : ℕ) → Type 0
 Added sized sized′ bytes = (bytes < 2 ^ 32) ⊎ (¬ T sized × T sized′ × (bytes < 2 ^ 63))
 
--- what steps from type t add at most: a 32-bit number for each type number below, and, where t is not SIZED, the bytes of one runtime
--- array, after which types are SIZED
+-- what steps from type t add at most: a 32-bit number for t, which may be a matrix, and for each type number below, and, where t is not
+-- SIZED, the bytes of one runtime array, after which types are SIZED
 abbrev mostFrom : (sized : Bool) → ℕ → ℕ
-mostFrom sized t = pick sized 0 (2 ^ 63) + t * 2 ^ 32
+mostFrom sized t = pick sized 0 (2 ^ 63) + (t + 1) * 2 ^ 32
 
 -- one step is within that, by whether the two types are SIZED
 step-within : (sized sized′ : Bool) (t ty bytes : ℕ) → ty < t → (T sized → T sized′) → Added sized sized′ bytes → bytes + mostFrom sized′ ty ≤ mostFrom sized t
@@ -51,6 +55,24 @@ step-within false true t ty bytes l z (inl x) = omega arith
 step-within false true t ty bytes l z (inr x) = omega (arith, x .2)
 step-within false false t ty bytes l z (inl x) = omega arith
 step-within false false t ty bytes l z (inr x) = absurd (x .1)
+
+-- a 32-bit number is within that
+number-within : (sized : Bool) (t bytes : ℕ) → bytes < 2 ^ 32 → bytes ≤ mostFrom sized t
+number-within true t bytes l = omega arith
+number-within false t bytes l = omega arith
+
+-- a step to a column adds a 32-bit number
+column-small : (leaf : Leaf) → LeafBounds leaf → (s : ℕ) → s < columnCount leaf → s * leafColumnStep leaf < 2 ^ 32
+column-small (Scalar k w) b s h = absurd (omega arith)
+column-small (Vector n k w) b s h = absurd (omega arith)
+column-small (Matrix cs rs k w) b s h =
+    let few : s ≤ 4 = omega (arith, b .0) in
+    let step = mul-within (vectorAlignment rs) w (vector-within rs) (b .2) in
+    let place = mul-within s (vectorAlignment rs * w) few step in
+    omega arith
+column-small (CooperativeMatrix cs rs k w o) b s h = absurd (omega arith)
+column-small (Atomic k w) b s h = absurd (omega arith)
+column-small (RayQuery v) b s h = absurd (omega arith)
 
 -- there are at most 1,024 types, so it fits 64 bits
 most-fits : (sized : Bool) (t : ℕ) → t < mostTypes → mostFrom sized t < 2 ^ 64
@@ -81,7 +103,7 @@ module _ (c : ℕ) (types : ℕ → Decoded) (n : ℕ) (acc : AcceptedTypes c ty
 
   -- what a step adds, by what the record says
   added-of : (t : ℕ) → t < n → (this : TypeInner) → types t .inner ≡ this → (s ty bytes : ℕ) → stepOf this (types t .members) s ≡ To ty bytes → Added (isSized c types t) (isSized c types ty) bytes
-  added-of t l (Plain leaf) e s ty bytes q = plain-step (Plain leaf) (types t .members) s ty bytes tt q
+  added-of t l (Plain leaf) e s ty bytes q = plain-step leaf (types t .members) s ty bytes q
   added-of t l (Array base count stride) e s ty bytes q =
       let g = array-step base count stride (types t .members) s ty bytes q in
       let m = array-small t l base count stride e in
@@ -100,6 +122,12 @@ module _ (c : ℕ) (types : ℕ → Decoded) (n : ℕ) (acc : AcceptedTypes c ty
       inl (rw (← g .2) (omega arith))
   added-of t l (Other o) e s ty bytes q = other-step o (types t .members) s ty bytes q
 
+  -- what a step to a column adds
+  column-added : (t : ℕ) → t < n → (s bytes : ℕ) → stepIn types t s ≡ Column bytes → bytes < 2 ^ 32
+  column-added t l s bytes q =
+      let g = column-step (types t .inner) (types t .members) s bytes q in
+      rw (← g .3) (column-small (g .0) (subst (λ (x : TypeInner). InnerBounds x) (g .1) (acc .bounds t l)) s (g .2))
+
   -- accepted types descend
   pub accepted-descends : n ≤ mostTypes → Descends types n
   accepted-descends few =
@@ -110,4 +138,6 @@ module _ (c : ℕ) (types : ℕ → Decoded) (n : ℕ) (acc : AcceptedTypes c ty
             let k = descent c types n acc t l s ty bytes q in
             let a = added-of t l (types t .inner) refl s ty bytes q in
             (omega (arith, k .earlier), step-within (isSized c types t) (isSized c types ty) t ty bytes (k .earlier) (k .sized) a);
+        column = λ t s bytes l q. number-within (isSized c types t) t bytes (column-added t l s bytes q);
+        bounds = acc .bounds;
       }

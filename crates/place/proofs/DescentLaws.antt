@@ -22,7 +22,7 @@ pub record Descent (c : ℕ) (types : ℕ → Decoded) (t ty : ℕ) : Type 0 whe
 module _ (c : ℕ) (types : ℕ → Decoded) (n : ℕ) (acc : AcceptedTypes c types n) where
   -- by what the record says
   descent-of : (t : ℕ) → t < n → (this : TypeInner) → types t .inner ≡ this → (s ty bytes : ℕ) → stepOf this (types t .members) s ≡ To ty bytes → Descent c types t ty
-  descent-of t l (Plain leaf) e s ty bytes q = plain-step (Plain leaf) (types t .members) s ty bytes tt q
+  descent-of t l (Plain leaf) e s ty bytes q = plain-step leaf (types t .members) s ty bytes q
   descent-of t l (Array base count stride) e s ty bytes q =
       let g = array-step base count stride (types t .members) s ty bytes q in
       let a = array-row c types n acc t l base count stride e in

@@ -1,21 +1,71 @@
-// One step of a place: from a type to an element or a member.
+// One step of a place: from a type to an element, a member or a column.
+use records::Leaf;
 use records::TypeInner;
 ghost use mathlib.Core.Path.{_≡_};
 ghost use Prim.Native.Nat.{_*_};
+ghost use Rattle.records.specs.Fields.{LeafBounds, InnerBounds};
 ghost use Rattle.steps.specs.declared.Step.the-variants.{To};
+ghost use Rattle.type_methods.specs.TypeMethods.{leafColumnStep};
+ghost use Rattle.steps.specs.Columns.{isWhole, columnCount, columnOf};
 ghost use Rattle.steps.specs.Steps.{isLeaf, stepOf};
 
-// What one step does: the next type and the bytes added.
+// What one step does: the next type and the bytes added; or the bytes to a column, where the steps end.
 pub enum Step {
     To { ty: u32, bytes: u64 },
+    Column { bytes: u64 },
     NoStep,
+}
+
+// Whether a type is itself a leaf, and not its columns.
+fn is_whole(leaf: Leaf) -> bool
+    ensures { λ r. ⌜ r ≡ isWhole leaf ⌝ }
+{
+    match leaf {
+        Leaf::Scalar(_, _) => true,
+        Leaf::Vector(_, _, _) => true,
+        Leaf::Matrix(_, _, _, _) => false,
+        Leaf::CooperativeMatrix(_, _, _, _, _) => true,
+        Leaf::Atomic(_, _) => true,
+        Leaf::RayQuery(_) => true,
+    }
+}
+
+fn column_count(leaf: Leaf) -> u32
+    ensures { λ r. ⌜ r ≡ columnCount leaf ⌝ }
+{
+    match leaf {
+        Leaf::Scalar(_, _) => 0,
+        Leaf::Vector(_, _, _) => 0,
+        Leaf::Matrix(columns, _, _, _) => columns,
+        Leaf::CooperativeMatrix(_, _, _, _, _) => 0,
+        Leaf::Atomic(_, _) => 0,
+        Leaf::RayQuery(_) => 0,
+    }
+}
+
+// From a column of a matrix to the next.
+fn column_step(leaf: Leaf) -> u32
+    requires { ⌜ LeafBounds leaf ⌝ }
+    ensures { λ r. ⌜ r ≡ leafColumnStep leaf ⌝ }
+{
+    match leaf {
+        Leaf::Scalar(_, _) => 0,
+        Leaf::Vector(_, _, _) => 0,
+        Leaf::Matrix(_, rows, _, width) => {
+            let step = alignment::vector_alignment(rows) * width;
+            step
+        }
+        Leaf::CooperativeMatrix(_, _, _, _, _) => 0,
+        Leaf::Atomic(_, _) => 0,
+        Leaf::RayQuery(_) => 0,
+    }
 }
 
 pub fn is_leaf(inner: TypeInner) -> bool
     ensures { λ r. ⌜ r ≡ isLeaf inner ⌝ }
 {
     match inner {
-        TypeInner::Plain(_) => true,
+        TypeInner::Plain(leaf) => is_whole(leaf),
         TypeInner::Array {
             base: _,
             count: _,
@@ -35,12 +85,26 @@ fn element(base: u32, stride: u32, step: u32) -> Step
     Step::To { ty: base, bytes }
 }
 
-// One step from a type whose member rows are in part.
+// Column `step` of a matrix.
+fn column(leaf: Leaf, step: u32) -> Step
+    requires { ⌜ LeafBounds leaf ⌝ }
+    ensures { λ r. ⌜ r ≡ columnOf leaf step ⌝ }
+{
+    if step < column_count(leaf) {
+        let bytes = (step as u64) * (column_step(leaf) as u64);
+        Step::Column { bytes }
+    } else {
+        Step::NoStep
+    }
+}
+
+// One step from a type whose member rows are in part. It asks for the bounds that number 2 leaves, so that a column step fits 32 bits.
 pub fn step_of(inner: TypeInner, part: &[u32], step: u32) -> Step
+    requires { ⌜ InnerBounds inner ⌝ }
     ensures { λ r. ⌜ r ≡ stepOf inner (now (part .entry)) step ⌝ }
 {
     match inner {
-        TypeInner::Plain(_) => Step::NoStep,
+        TypeInner::Plain(leaf) => column(leaf, step),
         TypeInner::Array {
             base,
             count,

@@ -1,4 +1,5 @@
--- The hypotheses of term 3 can be met: a struct with an array of structs, a struct and a runtime array, its places computed.
+-- The hypotheses of term 3 can be met: a struct with an array of structs, a struct and a runtime array, and a struct with a matrix, their
+-- places computed.
 -- Assumes nothing.
 use mathlib.Core.Path.{_≡_, refl}
 use mathlib.Core.Logic.{_≢_}
@@ -25,10 +26,10 @@ use Rattle.validate_type.specs.ValidateType.{flagsOf, uniformOf, storageOf, imm
 use Rattle.valid.specs.Arena.{row, judgeOutcome, arenaOutcome, arena}
 use Rattle.valid.proofs.AcceptedLaws.{AcceptedTypes, array-row, runtime-array-row, member-earlier}
 use Rattle.valid.proofs.ArenaLaws.{accepted-types}
-use Rattle.descent.specs.declared.Place.the-variants.{At}
+use Rattle.descent.specs.declared.Place.the-variants.{At, NoPlace}
 use Rattle.steps.specs.Steps.{stepOf}
 use Rattle.descent.specs.Place.{placeOf}
-use Rattle.term3.specs.Term3.{rowIn, HostShareableData, Reached, itself, element, runtimeElement, member, strideCovers, StridesCover, rewrite}
+use Rattle.term3.specs.Term3.{rowIn, InLeaf, HostShareableData, Reached, itself, element, runtimeElement, member, strideCovers, StridesCover, rewrite}
 use Rattle.term3.proofs.Term3Proof.{term3}
 
 -- ---- what is reached from an accepted type is an accepted type
@@ -47,7 +48,7 @@ pub strides-cover : (c : ℕ) (types : ℕ → Decoded) (n : ℕ) → AcceptedTy
 strides-cover c types n acc each t h a r = each a (reached-within c types n acc r h)
 
 -- ---- the arena: 0 is f32, 1 is vec3<f32>, 2 is struct { vec3<f32> at 0, f32 at 12 }, 3 is array<2, 2>, 4 is array<f32>,
--- 5 is struct { 3 at 0, 2 at 32, 4 at 48 }
+-- 5 is struct { 3 at 0, 2 at 32, 4 at 48 }, 6 is mat3x3<f32>, 7 is struct { f32 at 0, 6 at 16 }
 abbrev pub types : List ℕ
 types =
     0 ∷ 2 ∷ 4 ∷ 0 ∷ 0 ∷ 0
@@ -56,11 +57,13 @@ types =
     ∷ 7 ∷ 2 ∷ 0 ∷ 2 ∷ 16 ∷ 0
     ∷ 7 ∷ 0 ∷ 1 ∷ 0 ∷ 4 ∷ 0
     ∷ 8 ∷ 2 ∷ 3 ∷ 64 ∷ 0 ∷ 0
+    ∷ 2 ∷ 3 ∷ 3 ∷ 2 ∷ 4 ∷ 0
+    ∷ 8 ∷ 5 ∷ 2 ∷ 64 ∷ 0 ∷ 0
     ∷ []
 
--- two rows of struct 2, three of struct 5
+-- two rows of struct 2, three of struct 5, two of struct 7
 abbrev pub members : List ℕ
-members = 1 ∷ 0 ∷ 0 ∷ 12 ∷ 3 ∷ 0 ∷ 2 ∷ 32 ∷ 4 ∷ 48 ∷ []
+members = 1 ∷ 0 ∷ 0 ∷ 12 ∷ 3 ∷ 0 ∷ 2 ∷ 32 ∷ 4 ∷ 48 ∷ 0 ∷ 0 ∷ 6 ∷ 16 ∷ []
 
 -- it is accepted with no capability
 pub accepted : arena 0 types members ≡ Accepted
@@ -77,6 +80,10 @@ pub flags : rowIn 0 types members 5 .flags ≡ 149
 unfolding typeInner innerOf structMembers resultAt valueAt trySize membersAlignment alignmentOf layoutOf integerWidth floatWidth checkWidth arrayVerdict shareVerdict memberVerdict distanceVerdict distanceOk unsizedVerdict spanVerdict previousOf memberBounds boundsAfter uniformAfter storageAfter immediatesAfter leafFlags flagsOf uniformOf storageOf immediatesOf rowOf judge
 flags = refl
 
+pub flags-7 : rowIn 0 types members 7 .flags ≡ 247
+unfolding typeInner innerOf structMembers resultAt valueAt trySize membersAlignment alignmentOf layoutOf integerWidth floatWidth checkWidth arrayVerdict shareVerdict memberVerdict distanceVerdict distanceOk unsizedVerdict spanVerdict previousOf memberBounds boundsAfter uniformAfter storageAfter immediatesAfter leafFlags flagsOf uniformOf storageOf immediatesOf rowOf judge
+flags-7 = refl
+
 -- its storage verdict: Ok with alignment 16
 pub storage : (rowIn 0 types members 5 .storage .code ≡ 0) × (rowIn 0 types members 5 .storage .ty ≡ 16)
 unfolding typeInner innerOf structMembers resultAt valueAt trySize membersAlignment alignmentOf layoutOf integerWidth floatWidth checkWidth arrayVerdict shareVerdict memberVerdict distanceVerdict distanceOk unsizedVerdict spanVerdict previousOf memberBounds boundsAfter uniformAfter storageAfter immediatesAfter leafFlags flagsOf uniformOf storageOf immediatesOf rowOf judge
@@ -92,8 +99,17 @@ shareable =
       hostShareable = rw flags tt;
     }
 
+pub shareable-7 : HostShareableData 0 types members 7
+shareable-7 =
+    record {
+      accepted = accepted;
+      within = omega arith;
+      isData = rw flags-7 tt;
+      hostShareable = rw flags-7 tt;
+    }
+
 -- each array of the arena has a stride of at least its element's size
-each-covers : (a : ℕ) → a < 6 → strideCovers (rowIn 0 types members) (decoded types members a .inner)
+each-covers : (a : ℕ) → a < 8 → strideCovers (rowIn 0 types members) (decoded types members a .inner)
 unfolding typeInner innerOf
 each-covers zero h = tt
 each-covers (suc zero) h = tt
@@ -101,11 +117,16 @@ each-covers (suc (suc zero)) h = tt
 each-covers (suc (suc (suc zero))) h = rw (sizes .2) (le-refl 16)
 each-covers (suc (suc (suc (suc zero)))) h = rw (sizes .0) (le-refl 4)
 each-covers (suc (suc (suc (suc (suc zero))))) h = tt
-each-covers (suc (suc (suc (suc (suc (suc a)))))) h = absurd (omega arith)
+each-covers (suc (suc (suc (suc (suc (suc zero)))))) h = tt
+each-covers (suc (suc (suc (suc (suc (suc (suc zero))))))) h = tt
+each-covers (suc (suc (suc (suc (suc (suc (suc (suc a)))))))) h = absurd (omega arith)
 
--- so has each array that is reached from the struct
+-- so has each array that is reached from the structs
 pub covers : StridesCover (rowIn 0 types members) (decoded types members) 5
-covers = strides-cover 0 (decoded types members) 6 (accepted-types 0 types members accepted) each-covers 5 (omega arith)
+covers = strides-cover 0 (decoded types members) 8 (accepted-types 0 types members accepted) each-covers 5 (omega arith)
+
+pub covers-7 : StridesCover (rowIn 0 types members) (decoded types members) 7
+covers-7 = strides-cover 0 (decoded types members) 8 (accepted-types 0 types members accepted) each-covers 7 (omega arith)
 
 -- ---- places
 -- the f32 of the second struct of the array; the vec3<f32> of the struct after it; the fourth element of the runtime array
@@ -121,13 +142,31 @@ pub in-tail : placeOf types members 5 (2 ∷ 3 ∷ []) ≡ At 60 0
 unfolding placeOf stepOf typeInner innerOf structMembers
 in-tail = refl
 
--- the steps of the first two differ
+-- the second and the third column of the matrix
+pub second-column : placeOf types members 7 (1 ∷ 1 ∷ []) ≡ At 32 6
+unfolding placeOf stepOf typeInner innerOf structMembers
+second-column = refl
+
+pub third-column : placeOf types members 7 (1 ∷ 2 ∷ []) ≡ At 48 6
+unfolding placeOf stepOf typeInner innerOf structMembers
+third-column = refl
+
+-- the matrix without a column, a fourth column and a step after a column are no places
+pub no-places : (placeOf types members 7 (1 ∷ []) ≡ NoPlace) × (placeOf types members 7 (1 ∷ 3 ∷ []) ≡ NoPlace) × (placeOf types members 7 (1 ∷ 1 ∷ 0 ∷ []) ≡ NoPlace)
+unfolding placeOf stepOf typeInner innerOf structMembers
+no-places = (refl, refl, refl)
+
+-- the steps of the first two differ, and those of the columns
 pub different : _≢_ {A = List ℕ} (0 ∷ 1 ∷ 1 ∷ []) (1 ∷ 0 ∷ [])
 different e = let z : _≡_ {A = ℕ} 0 1 = cc in omega arith
+
+pub different-columns : _≢_ {A = List ℕ} (1 ∷ 1 ∷ []) (1 ∷ 2 ∷ [])
+different-columns e = let z : _≡_ {A = ℕ} 1 2 = cc in omega arith
 
 -- ---- what term 3 says of them
 -- whatever is written to the f32, the twelve bytes of the vec3<f32> stay
 pub stays : (buffer bytes : List ℕ) (k : ℕ) → 32 ≤ k → k < 44 → getElem? (rewrite buffer 28 4 bytes) k ≡ getElem? buffer k
+unfolding typeInner innerOf
 stays buffer bytes k low high =
     rw (sizes .0) at
     (term3 .others 0 types members 5 shareable covers (0 ∷ 1 ∷ 1 ∷ []) (1 ∷ 0 ∷ []) 28 0 32 1 in-array in-struct different buffer bytes k low (rw (sizes .1) high))
@@ -139,3 +178,21 @@ inside = term3 .within 0 types members 5 shareable covers (1 ∷ 0 ∷ []) 32 1 
 
 pub multiple : alignmentIn (rowIn 0 types members 1 .storage) ∣ 32
 multiple = term3 .aligned 0 types members 5 shareable (rw (storage .0) tt) (1 ∷ 0 ∷ []) 32 1 in-struct .1
+
+-- a column has 12 bytes: whatever is written to those of the second, those of the third stay
+pub column-stays : (buffer bytes : List ℕ) (k : ℕ) → 48 ≤ k → k < 60 → getElem? (rewrite buffer 32 12 bytes) k ≡ getElem? buffer k
+unfolding typeInner innerOf
+column-stays buffer bytes k low high =
+    term3 .others 0 types members 7 shareable-7 covers-7 (1 ∷ 1 ∷ []) (1 ∷ 2 ∷ []) 32 6 48 6 second-column third-column different-columns buffer bytes k low high
+
+-- the four bytes between the two are in no leaf of the struct
+pub gap : (k : ℕ) → 44 ≤ k → k < 48 → ¬ InLeaf 0 types members 7 k
+unfolding typeInner innerOf
+gap k low high =
+    term3 .gaps 0 types members 7 k .1 shareable-7 covers-7
+    (record { steps = 1 ∷ 1 ∷ []; byte = 32; leaf = 6; place = second-column; columns = 3; rows = 3; kind = 2; width = 4; matrix = refl; past = low; below = high })
+
+-- so they stay too
+pub gap-stays : (buffer bytes : List ℕ) (k : ℕ) → 44 ≤ k → k < 48 → getElem? (rewrite buffer 32 12 bytes) k ≡ getElem? buffer k
+unfolding typeInner innerOf
+gap-stays buffer bytes k low high = term3 .gaps 0 types members 7 k .0 (gap k low high) (1 ∷ 1 ∷ []) 32 6 second-column buffer bytes

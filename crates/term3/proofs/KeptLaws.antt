@@ -8,7 +8,7 @@ use Rattle.records.specs.Result.{pick}
 use Rattle.records.specs.Record.{Decoded}
 use Rattle.valid.proofs.AcceptedLaws.{AcceptedTypes}
 use Rattle.steps.specs.declared.Step.{Step}
-use Rattle.steps.specs.declared.Step.the-variants.{To, NoStep}
+use Rattle.steps.specs.declared.Step.the-variants.{To, Column, NoStep}
 use Rattle.descent.specs.declared.Place.the-variants.{At, NoPlace}
 use Rattle.steps.specs.Steps.{isLeaf, stepOf}
 use Rattle.descent.specs.Place.{stepIn, placeIn}
@@ -28,4 +28,5 @@ module _ (c : ℕ) (types types′ : ℕ → Decoded) (n : ℕ) (acc : AcceptedT
       go : (o : Step) → stepIn types t s ≡ o → ((u q : ℕ) → u < n → placeIn types u q steps ≡ placeIn types′ u q steps)
           → placeIn types t p (s ∷ steps) ≡ placeIn types′ t p (s ∷ steps)
       go NoStep e ih = rw (← same-step t s h, e) refl
+      go (Column bytes) e ih = rw (← same-step t s h, e) refl
       go (To ty bytes) e ih = let d = descent c types n acc t h s ty bytes e in rw (← same-step t s h, e) (ih ty (p + bytes) (omega (arith, d .earlier)))

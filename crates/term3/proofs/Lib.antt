@@ -1,4 +1,5 @@
 pub mod BufferLaws
+pub mod ColumnLaws
 pub mod StepLaws
 pub mod KeptLaws
 pub mod Term3Proof

@@ -1,10 +1,10 @@
 -- What one step says where the types are accepted, and from it what a walk says: alignment, containment, order.
 -- Assumes nothing.
 use mathlib.Core.Path.{_≡_, refl, sym, _∙_, ap, subst}
-use mathlib.Core.Logic.{_⊎_, inl, inr, _≢_}
+use mathlib.Core.Logic.{_⊎_, inl, inr, ⊎-elim}
 use mathlib.Core.List.{List, [], _∷_}
 use Prim.Native.Nat.{ℕ, suc, _+_, _*_, _≤_, _<_, _∣_}
-use native.Mathlib.Nat.{dvd-zero, dvd-trans, dvd-add, dvd-mul-left-of-dvd, mul-le-mul-right, le-refl}
+use native.Mathlib.Nat.{dvd-zero, dvd-trans, dvd-add, dvd-mul-left-of-dvd, dvd-mul-left, mul-le-mul-right, mul-comm, le-refl}
 use native.Mathlib.Decide.{decLt}
 use native.Mathlib.Omega.{arith}
 use lib.Dec.{T}
@@ -12,6 +12,7 @@ use Rattle.records.specs.Record.{Decoded, memberType, memberOffset}
 use Rattle.records.specs.declared.TypeInner.{TypeInner}
 use Rattle.records.specs.declared.TypeInner.the-variants.{Plain, Array, RuntimeArray, Struct, Other}
 use Rattle.alignment.proofs.PowerLaws.{power-divides}
+use Rattle.type_methods.specs.TypeMethods.{leafColumnStep}
 use Rattle.layouter.specs.Layouter.{layout}
 use Rattle.flags.specs.Flags.{bit, sizedBit, hostShareableBit}
 use Rattle.flags.proofs.BitLaws.{bit-and}
@@ -22,15 +23,16 @@ use Rattle.member_bounds.specs.MemberBounds.{isArray}
 use Rattle.member_rules.specs.MemberRules.{storageAfter}
 use Rattle.member_rules.proofs.MemberLaws.{storage-members}
 use Rattle.valid.specs.Arena.{row}
-use Rattle.valid.proofs.AcceptedLaws.{AcceptedTypes, ArrayRow, base-sized, array-row, runtime-array-row, member-earlier, struct-row, struct-member, row-power}
+use Rattle.valid.proofs.AcceptedLaws.{AcceptedTypes, ArrayRow, base-sized, array-row, runtime-array-row, member-earlier, struct-row, struct-member, row-power, plain-row}
 use Rattle.steps.specs.declared.Step.{Step}
-use Rattle.steps.specs.declared.Step.the-variants.{To, NoStep}
-use Rattle.descent.specs.declared.Place.the-variants.{At}
+use Rattle.steps.specs.declared.Step.the-variants.{To, Column, NoStep}
+use Rattle.steps.specs.Columns.{columnCount}
 use Rattle.steps.specs.Steps.{stepOf}
-use Rattle.descent.specs.Place.{stepIn, leafIn, placeIn}
-use Rattle.term3.specs.Term3.{itself, element, runtimeElement, member, strideCovers, StridesCover, firstElement, after, FirstElements}
+use Rattle.descent.specs.Place.{stepIn, leafIn}
+use Rattle.term3.specs.Term3.{lengthIn, itself, element, runtimeElement, member, strideCovers, StridesCover, firstElement, after, FirstElements}
 use Rattle.place.proofs.DescentLaws.{descent}
-use Rattle.descent.proofs.WalkLaws.{followed, at-leaf, along, after-start, plain-step, array-step, runtime-array-step, struct-step, other-step}
+use Rattle.descent.proofs.WalkLaws.{Way, whole, column, onward, along, after-start, no-step, no-column, plain-step, array-step, runtime-array-step, struct-step, other-step, column-step, leaf-step}
+use Rattle.term3.proofs.ColumnLaws.{reachIn, length-reach, whole-reach, columned}
 
 -- the first, where the second is not so
 unless {ℓ κ} : {A : Type ℓ} {B : Type κ} → A ⊎ B → ¬ B → A
@@ -96,7 +98,7 @@ module _ (c : ℕ) (types : ℕ → Decoded) (n : ℕ) (acc : AcceptedTypes c ty
 
   -- a step, by what the record says
   step-of : (t : ℕ) → t < n → (this : TypeInner) → types t .inner ≡ this → (s ty bytes : ℕ) → stepOf this (types t .members) s ≡ To ty bytes → Stepped c types t ty bytes
-  step-of t l (Plain leaf) e s ty bytes q = plain-step (Plain leaf) (types t .members) s ty bytes tt q
+  step-of t l (Plain leaf) e s ty bytes q = plain-step leaf (types t .members) s ty bytes q
   step-of t l (Array base count stride) e s ty bytes q =
       let g = array-step base count stride (types t .members) s ty bytes q in
       let a = array-row c types n acc t l base count stride e in
@@ -114,6 +116,16 @@ module _ (c : ℕ) (types : ℕ → Decoded) (n : ℕ) (acc : AcceptedTypes c ty
   pub stepped : (t : ℕ) → t < n → (s ty bytes : ℕ) → stepIn types t s ≡ To ty bytes → Stepped c types t ty bytes
   stepped t l s ty bytes q = step-of t l (types t .inner) refl s ty bytes q
 
+  -- ---- ways
+  abbrev pub WayIn : (t p : ℕ) → List ℕ → (byte leaf : ℕ) → Type 0
+  WayIn = Way (stepIn types) (leafIn types)
+
+  -- a leaf's type is one of the arena
+  leaf-within : {steps : List ℕ} {t p byte leaf : ℕ} → WayIn t p steps byte leaf → t < n → leaf < n
+  leaf-within w l =
+      along (stepIn types) (leafIn types) (λ (u q : ℕ). u < n) (λ u q s ty bytes o i. omega (arith, descent c types n acc u i s ty bytes o .earlier))
+      (λ u q s bytes o i. i) w l
+
   -- ---- alignment: a leaf's own alignment divides its place
   -- the type is one of the arena, its storage verdict is Ok and its alignment divides the place
   abbrev Held : ℕ → ℕ → Type 0
@@ -128,18 +140,26 @@ module _ (c : ℕ) (types : ℕ → Decoded) (n : ℕ) (acc : AcceptedTypes c ty
       let x = alignmentIn (row c types ty .storage) in
       (omega (arith, d .earlier, i .0), v .0, dvd-add x (dvd-trans x (v .2) (i .2)) (v .1))
 
+  -- and so does a step to a column: a matrix's alignment is its column step
+  held-column : (t p s bytes : ℕ) → stepIn types t s ≡ Column bytes → Held t p → Held t (p + bytes)
+  held-column t p s bytes q i =
+      let g = column-step (types t .inner) (types t .members) s bytes q in
+      let x = alignmentIn (row c types t .storage) in
+      let e : x ≡ leafColumnStep (g .0) = ap (λ (v : Verdict). alignmentIn v) (plain-row c types n acc t (i .0) (g .0) (g .1) .storage) ∙ columned (g .0) s (g .2) .alignment in
+      (i .0, i .1, dvd-add x (i .2) (rw (← g .3, e) (dvd-mul-left (leafColumnStep (g .0)) s)))
+
   -- so a leaf stands at a multiple of its own alignment
-  pub place-aligned : (t : ℕ) → t < n → T (isOk (row c types t .storage)) → (steps : List ℕ) (byte leaf : ℕ) → placeIn types t 0 steps ≡ At byte leaf
+  pub place-aligned : {t : ℕ} {steps : List ℕ} {byte leaf : ℕ} → t < n → T (isOk (row c types t .storage)) → WayIn t 0 steps byte leaf
       → T (isOk (row c types leaf .storage)) × (alignmentIn (row c types leaf .storage) ∣ byte)
-  place-aligned t l k steps byte leaf q =
-      let r = along (stepIn types) (leafIn types) Held held-step steps t 0 byte leaf q (l, k, dvd-zero (alignmentIn (row c types t .storage))) in
+  place-aligned {t = t} l k w =
+      let r = along (stepIn types) (leafIn types) Held held-step held-column w (l, k, dvd-zero (alignmentIn (row c types t .storage))) in
       (r .1, r .2)
 
   -- ---- containment: a step leads to a part within the type
   -- the part that a step leads to ends within the type
   within-of : (t : ℕ) → t < n → (this : TypeInner) → types t .inner ≡ this → strideCovers (row c types) this
       → (s ty bytes : ℕ) → stepOf this (types t .members) s ≡ To ty bytes → firstElement this s → bytes + row c types ty .size ≤ row c types t .size
-  within-of t l (Plain leaf) e w s ty bytes q f = plain-step (Plain leaf) (types t .members) s ty bytes tt q
+  within-of t l (Plain leaf) e w s ty bytes q f = plain-step leaf (types t .members) s ty bytes q
   within-of t l (Array base count stride) e w s ty bytes q f =
       let g = array-step base count stride (types t .members) s ty bytes q in
       let a = array-row c types n acc t l base count stride e .1 .size in
@@ -172,18 +192,51 @@ module _ (c : ℕ) (types : ℕ → Decoded) (n : ℕ) (acc : AcceptedTypes c ty
       go : (o : Step) → stepIn types t s ≡ o → ((u : ℕ) → u < n → T (bit (row c types u .flags) sizedBit) → FirstElements types u steps)
           → after o (λ next. FirstElements types next steps)
       go NoStep e ih = tt
+      go (Column bytes) e ih = tt
       go (To ty bytes) e ih = let d = descent c types n acc t l s ty bytes e in ih ty (omega (arith, d .earlier)) (d .sized z)
 
-  -- a leaf that is reached by first elements ends within the type
-  pub contained : (steps : List ℕ) (t p byte leaf : ℕ) → t < n → StridesCover (row c types) types t → FirstElements types t steps
-      → placeIn types t p steps ≡ At byte leaf → byte + row c types leaf .size ≤ p + row c types t .size
-  contained [] t p byte leaf l v f e = let g = at-leaf (leafIn types t) p t byte leaf e in rw (← g .1, ← g .2) (le-refl _)
-  contained (s ∷ steps) t p byte leaf l v f e =
-      let g = followed (stepIn types t s) (λ next bytes. placeIn types next (p + bytes) steps) byte leaf e in
-      let d = descent c types n acc t l s (g .0) (g .1) (g .2) in
-      let k = stepped t l s (g .0) (g .1) (g .2) in
-      let i = within-of t l (types t .inner) refl (v t itself) s (g .0) (g .1) (g .2) (f .0) in
-      let r = contained steps (g .0) (p + g .1) byte leaf (omega (arith, d .earlier)) (k .covers v) (rw (g .2) at (f .1)) (g .3) in
+  -- how far a leaf of a type reaches
+  abbrev pub reach : ℕ → ℕ
+  reach leaf = reachIn (types leaf .inner) (row c types leaf .size)
+
+  -- a column that a step leads to: it is s column steps on, and reaches a column step
+  record ColumnAt (t s bytes : ℕ) : Type 0 where
+    step : ℕ
+    count : ℕ
+    below : s < count
+    at : bytes ≡ s * step
+    reaches : reach t ≡ step
+    size : row c types t .size ≡ step * count
+
+  column-at : (t : ℕ) → t < n → (s bytes : ℕ) → stepIn types t s ≡ Column bytes → ColumnAt t s bytes
+  column-at t l s bytes q =
+      let g = column-step (types t .inner) (types t .members) s bytes q in
+      let m = columned (g .0) s (g .2) in
+      record {
+        step = leafColumnStep (g .0);
+        count = columnCount (g .0);
+        below = g .2;
+        at = sym (g .3);
+        reaches = ap (λ (x : TypeInner). reachIn x (row c types t .size)) (g .1) ∙ m .reach (row c types t .size);
+        size = plain-row c types n acc t l (g .0) (g .1) .size ∙ m .size;
+      }
+
+  -- a column with the gap after it lies within the matrix
+  column-inside : (t s bytes : ℕ) → ColumnAt t s bytes → bytes + reach t ≤ row c types t .size
+  column-inside t s bytes m =
+      let p = mul-le-mul-right (m .step) (m .below) in
+      rw (m .at, m .reaches, m .size) (omega (arith, mul-comm (m .step) (m .count)))
+
+  -- a leaf that is reached by first elements ends within the type, with the gap after it
+  pub contained : {steps : List ℕ} {t p byte leaf : ℕ} → WayIn t p steps byte leaf → t < n → StridesCover (row c types) types t → FirstElements types t steps
+      → byte + reach leaf ≤ p + row c types t .size
+  contained {t = t} {p = p} (whole e) l v f = rw (whole-reach (types t .inner) e (row c types t .size)) (le-refl _)
+  contained {t = t} {p = p} (column s bytes o) l v f = omega (arith, column-inside t s bytes (column-at t l s bytes o))
+  contained {t = t} {p = p} (onward s ty bytes o w) l v f =
+      let d = descent c types n acc t l s ty bytes o in
+      let k = stepped t l s ty bytes o in
+      let i = within-of t l (types t .inner) refl (v t itself) s ty bytes o (f .0) in
+      let r = contained w (omega (arith, d .earlier)) (k .covers v) (rw o at (f .1)) in
       omega arith
 
   -- ---- order
@@ -196,7 +249,7 @@ module _ (c : ℕ) (types : ℕ → Decoded) (n : ℕ) (acc : AcceptedTypes c ty
   before-of : (t : ℕ) → t < n → (this : TypeInner) → types t .inner ≡ this → T (bit (row c types t .flags) hostShareableBit) → strideCovers (row c types) this
       → (s s′ ty bytes ty′ bytes′ : ℕ) → stepOf this (types t .members) s ≡ To ty bytes → stepOf this (types t .members) s′ ≡ To ty′ bytes′ → s < s′
       → Before c types ty bytes bytes′
-  before-of t l (Plain leaf) e o w s s′ ty bytes ty′ bytes′ q q′ lt = plain-step (Plain leaf) (types t .members) s ty bytes tt q
+  before-of t l (Plain leaf) e o w s s′ ty bytes ty′ bytes′ q q′ lt = plain-step leaf (types t .members) s ty bytes q
   before-of t l (Array base count stride) e o w s s′ ty bytes ty′ bytes′ q q′ lt =
       let g = array-step base count stride (types t .members) s ty bytes q in
       let g′ = array-step base count stride (types t .members) s′ ty′ bytes′ q′ in
@@ -216,54 +269,81 @@ module _ (c : ℕ) (types : ℕ → Decoded) (n : ℕ) (acc : AcceptedTypes c ty
   before-of t l (Other x) e o w s s′ ty bytes ty′ bytes′ q q′ lt = other-step x (types t .members) s ty bytes q
 
   -- the lesser of two steps from one type leads to the lesser place
-  lesser : (t p s s′ : ℕ) (steps steps′ : List ℕ) (byte leaf byte′ leaf′ ty bytes ty′ bytes′ : ℕ) → t < n
+  lesser : (t p s s′ ty bytes ty′ bytes′ : ℕ) {steps steps′ : List ℕ} {byte leaf byte′ leaf′ : ℕ} → t < n
       → T (bit (row c types t .flags) hostShareableBit) → StridesCover (row c types) types t → s < s′
       → stepIn types t s ≡ To ty bytes → stepIn types t s′ ≡ To ty′ bytes′
-      → placeIn types ty (p + bytes) steps ≡ At byte leaf → placeIn types ty′ (p + bytes′) steps′ ≡ At byte′ leaf′
-      → byte + row c types leaf .size ≤ byte′
-  lesser t p s s′ steps steps′ byte leaf byte′ leaf′ ty bytes ty′ bytes′ l o v lt q q′ e e′ =
+      → WayIn ty (p + bytes) steps byte leaf → WayIn ty′ (p + bytes′) steps′ byte′ leaf′
+      → byte + reach leaf ≤ byte′
+  lesser t p s s′ ty bytes ty′ bytes′ {steps = steps} l o v lt q q′ w w′ =
       let b = before-of t l (types t .inner) refl o (v t itself) s s′ ty bytes ty′ bytes′ q q′ lt in
       let k = stepped t l s ty bytes q in
       let h : ty < n = omega (arith, descent c types n acc t l s ty bytes q .earlier) in
-      let i = contained steps ty (p + bytes) byte leaf h (k .covers v) (sized-firsts steps ty h (b .sized)) e in
-      let j = after-start (stepIn types) (leafIn types) steps′ ty′ (p + bytes′) byte′ leaf′ e′ in
+      let i = contained w h (k .covers v) (sized-firsts steps ty h (b .sized)) in
+      let j = after-start (stepIn types) (leafIn types) w′ in
       let x = b .ends in
       omega arith
 
+  -- and so does the lesser of two columns
+  lesser-column : (t p s s′ bytes bytes′ : ℕ) → t < n → s < s′ → stepIn types t s ≡ Column bytes → stepIn types t s′ ≡ Column bytes′
+      → (p + bytes) + reach t ≤ p + bytes′
+  lesser-column t p s s′ bytes bytes′ l lt q q′ =
+      let m = column-at t l s bytes q in
+      let m′ = column-at t l s′ bytes′ q′ in
+      let e : m .step ≡ m′ .step = sym (m .reaches) ∙ m′ .reaches in
+      let k : suc s * m .step ≤ s′ * m′ .step = rw (← e) (mul-le-mul-right (m .step) lt) in
+      omega (arith, m .at, m′ .at, m .reaches)
+
   -- steps end at a leaf, so no list of steps goes on from where another ends
-  leaf-ends {ℓ} : {A : Type ℓ} (t p s : ℕ) (steps : List ℕ) (byte leaf byte′ leaf′ : ℕ)
-      → placeIn types t p [] ≡ At byte leaf → placeIn types t p (s ∷ steps) ≡ At byte′ leaf′ → A
-  leaf-ends t p s steps byte leaf byte′ leaf′ e e′ =
-      let g = followed (stepIn types t s) (λ next bytes. placeIn types next (p + bytes) steps) byte′ leaf′ e′ in
-      plain-step (types t .inner) (types t .members) s (g .0) (g .1) (at-leaf (leafIn types t) p t byte leaf e .0) (g .2)
+  leaf-to {ℓ} : {A : Type ℓ} (t s ty bytes : ℕ) → T (leafIn types t) → stepIn types t s ≡ To ty bytes → A
+  leaf-to t s ty bytes e o = no-step ty bytes (sym (leaf-step (types t .inner) (types t .members) s e) ∙ o)
 
-  -- two leaves lie one after the other
+  leaf-column {ℓ} : {A : Type ℓ} (t s bytes : ℕ) → T (leafIn types t) → stepIn types t s ≡ Column bytes → A
+  leaf-column t s bytes e o = no-column bytes (sym (leaf-step (types t .inner) (types t .members) s e) ∙ o)
+
+  -- nor has a matrix steps to a type
+  column-to {ℓ} : {A : Type ℓ} (t s bytes s′ ty bytes′ : ℕ) → stepIn types t s ≡ Column bytes → stepIn types t s′ ≡ To ty bytes′ → A
+  column-to t s bytes s′ ty bytes′ o o′ =
+      let g = column-step (types t .inner) (types t .members) s bytes o in
+      plain-step (g .0) (types t .members) s′ ty bytes′ (subst (λ (x : TypeInner). stepOf x (types t .members) s′ ≡ To ty bytes′) (g .1) o′)
+
+  -- two leaves lie one after the other, each with the gap after it
   abbrev pub Apart : (byte leaf byte′ leaf′ : ℕ) → Type 0
-  Apart byte leaf byte′ leaf′ = (byte + row c types leaf .size ≤ byte′) ⊎ (byte′ + row c types leaf′ .size ≤ byte)
+  Apart byte leaf byte′ leaf′ = (byte + reach leaf ≤ byte′) ⊎ (byte′ + reach leaf′ ≤ byte)
 
-  -- two lists of steps from one type lead to leaves that are apart
-  pub disjoint : (steps steps′ : List ℕ) (t p byte leaf byte′ leaf′ : ℕ) → t < n
-      → T (bit (row c types t .flags) hostShareableBit) → StridesCover (row c types) types t
-      → placeIn types t p steps ≡ At byte leaf → placeIn types t p steps′ ≡ At byte′ leaf′ → steps ≢ steps′ → Apart byte leaf byte′ leaf′
-  disjoint [] [] t p byte leaf byte′ leaf′ l o v e e′ ne = absurd (ne refl)
-  disjoint [] (s ∷ steps) t p byte leaf byte′ leaf′ l o v e e′ ne = leaf-ends t p s steps byte leaf byte′ leaf′ e e′
-  disjoint (s ∷ steps) [] t p byte leaf byte′ leaf′ l o v e e′ ne = leaf-ends t p s steps byte′ leaf′ byte leaf e′ e
-  disjoint (s ∷ steps) (s′ ∷ steps′) t p byte leaf byte′ leaf′ l o v e e′ ne =
-      let g = followed (stepIn types t s) (λ next bytes. placeIn types next (p + bytes) steps) byte leaf e in
-      let g′ = followed (stepIn types t s′) (λ next bytes. placeIn types next (p + bytes) steps′) byte′ leaf′ e′ in
-      go (g .0) (g .1) (g .2) (g .3) (g′ .0) (g′ .1) (g′ .2) (g′ .3) (λ u q. disjoint steps steps′ u q byte leaf byte′ leaf′) (decLt s s′) (decLt s′ s)
+  -- two lists of steps from one type are the same, or lead to leaves that are apart
+  pub disjoint : {steps steps′ : List ℕ} {t p byte leaf byte′ leaf′ : ℕ} → WayIn t p steps byte leaf → WayIn t p steps′ byte′ leaf′ → t < n
+      → T (bit (row c types t .flags) hostShareableBit) → StridesCover (row c types) types t → (steps ≡ steps′) ⊎ Apart byte leaf byte′ leaf′
+  disjoint (whole e) (whole e′) l h v = inl refl
+  disjoint {t = t} (whole e) (column s bytes o) l h v = leaf-column t s bytes e o
+  disjoint {t = t} (whole e) (onward s ty bytes o w) l h v = leaf-to t s ty bytes e o
+  disjoint {t = t} (column s bytes o) (whole e) l h v = leaf-column t s bytes e o
+  disjoint {t = t} {p = p} (column s bytes o) (column s′ bytes′ o′) l h v = go (decLt s s′) (decLt s′ s)
     where
-      go : (ty bytes : ℕ) → stepIn types t s ≡ To ty bytes → placeIn types ty (p + bytes) steps ≡ At byte leaf
-          → (ty′ bytes′ : ℕ) → stepIn types t s′ ≡ To ty′ bytes′ → placeIn types ty′ (p + bytes′) steps′ ≡ At byte′ leaf′
-          → ((u q : ℕ) → u < n → T (bit (row c types u .flags) hostShareableBit) → StridesCover (row c types) types u
-          → placeIn types u q steps ≡ At byte leaf → placeIn types u q steps′ ≡ At byte′ leaf′ → steps ≢ steps′ → Apart byte leaf byte′ leaf′)
-          → Dec (s < s′) → Dec (s′ < s) → Apart byte leaf byte′ leaf′
-      go ty bytes a b ty′ bytes′ a′ b′ ih (yes lt) d = inl (lesser t p s s′ steps steps′ byte leaf byte′ leaf′ ty bytes ty′ bytes′ l o v lt a a′ b b′)
-      go ty bytes a b ty′ bytes′ a′ b′ ih (no x) (yes lt) = inr (lesser t p s′ s steps′ steps byte′ leaf′ byte leaf ty′ bytes′ ty bytes l o v lt a′ a b′ b)
-      go ty bytes a b ty′ bytes′ a′ b′ ih (no x) (no y) =
+      go : Dec (s < s′) → Dec (s′ < s) → ((s ∷ []) ≡ (s′ ∷ [])) ⊎ Apart (p + bytes) t (p + bytes′) t
+      go (yes lt) d = inr (inl (lesser-column t p s s′ bytes bytes′ l lt o o′))
+      go (no x) (yes lt) = inr (inr (lesser-column t p s′ s bytes′ bytes l lt o′ o))
+      go (no x) (no y) = let z : s ≡ s′ = omega arith in inl (ap (λ (r : ℕ). r ∷ []) z)
+  disjoint {t = t} (column s bytes o) (onward s′ ty bytes′ o′ w) l h v = column-to t s bytes s′ ty bytes′ o o′
+  disjoint {t = t} (onward s ty bytes o w) (whole e) l h v = leaf-to t s ty bytes e o
+  disjoint {t = t} (onward s ty bytes o w) (column s′ bytes′ o′) l h v = column-to t s′ bytes′ s ty bytes o′ o
+  disjoint {t = t} {p = p} {byte = byte} {leaf = leaf} {byte′ = byte′} {leaf′ = leaf′} (onward {steps = steps} s ty bytes o w) (onward {steps = steps′} s′ ty′ bytes′ o′ w′) l h v =
+      go (decLt s s′) (decLt s′ s) (λ u m f g. disjoint w u m f g)
+    where
+      go : Dec (s < s′) → Dec (s′ < s)
+          → (WayIn ty (p + bytes) steps′ byte′ leaf′ → ty < n → T (bit (row c types ty .flags) hostShareableBit) → StridesCover (row c types) types ty
+          → (steps ≡ steps′) ⊎ Apart byte leaf byte′ leaf′)
+          → ((s ∷ steps) ≡ (s′ ∷ steps′)) ⊎ Apart byte leaf byte′ leaf′
+      go (yes lt) d ih = inr (inl (lesser t p s s′ ty bytes ty′ bytes′ l h v lt o o′ w w′))
+      go (no x) (yes lt) ih = inr (inr (lesser t p s′ s ty′ bytes′ ty bytes l h v lt o′ o w′ w))
+      go (no x) (no y) ih =
           let z : s ≡ s′ = omega arith in
-          let d = descent c types n acc t l s ty bytes a in
-          let k = stepped t l s ty bytes a in
+          let d = descent c types n acc t l s ty bytes o in
+          let k = stepped t l s ty bytes o in
           let same-type : ty ≡ ty′ = cc in
           let same-bytes : bytes ≡ bytes′ = cc in
-          ih ty (p + bytes) (omega (arith, d .earlier)) (k .hostShareable o) (k .covers v) b (rw (same-type, same-bytes) b′) (λ r. ne (cc))
+          ⊎-elim (λ (e : steps ≡ steps′). inl (rw (z, e) refl)) (λ a. inr a)
+          (ih (rw (same-type, same-bytes) w′) (omega (arith, d .earlier)) (k .hostShareable h) (k .covers v))
+
+  -- a leaf is no longer than it reaches
+  pub leaf-reaches : {steps : List ℕ} {t p byte leaf : ℕ} → WayIn t p steps byte leaf → t < n → lengthIn (types leaf .inner) (row c types leaf .size) ≤ reach leaf
+  leaf-reaches {leaf = leaf} w l = length-reach (types leaf .inner) (acc .bounds leaf (leaf-within w l)) (row c types leaf .size)

@@ -62,11 +62,11 @@ Others : Type 0
 Others = (c : ℕ) (ts ms : List ℕ) (t : ℕ) → HostShareableData c ts ms t
     → (steps steps′ : List ℕ) (byte leaf byte′ leaf′ : ℕ)
     → placeOf ts ms t steps ≡ At byte leaf → placeOf ts ms t steps′ ≡ At byte′ leaf′ → steps ≢ steps′
-    → (buffer bytes : List ℕ) (k : ℕ) → byte′ ≤ k → k < byte′ + leafMeasure (rowIn c ts ms) leaf′
-    → getElem? (rewrite buffer byte (leafMeasure (rowIn c ts ms) leaf) bytes) k ≡ getElem? buffer k
+    → (buffer bytes : List ℕ) (k : ℕ) → byte′ ≤ k → k < byte′ + leafMeasure c ts ms leaf′
+    → getElem? (rewrite buffer byte (leafMeasure c ts ms leaf) bytes) k ≡ getElem? buffer k
 
 false-without : Others → ⊥
-unfolding Others
+unfolding Others typeInner innerOf
 false-without f =
     let h = f 0 types [] 1 shareable (0 ∷ []) (1 ∷ []) 0 0 4 0 first second different (7 ∷ 7 ∷ 7 ∷ 7 ∷ 7 ∷ []) (8 ∷ 8 ∷ 8 ∷ 8 ∷ 8 ∷ []) 4 (omega arith) (rw size (omega arith)) in
     let g = rw size at h in

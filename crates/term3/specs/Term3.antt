@@ -1,24 +1,27 @@
--- Term 3 of the terms of acceptance: the statement, of the arena's and the place's definitions.
+-- Term 3 of the terms of acceptance, with E6 of 02: the statement, of the arena's and the place's definitions.
 -- Assumes nothing.
 use mathlib.Core.Path.{_≡_}
 use mathlib.Core.Bool.{Bool, true, false}
 use mathlib.Core.Logic.{_≢_}
 use mathlib.Core.List.{List, [], _∷_, _++_}
-use Prim.Native.Nat.{ℕ, _+_, _≤_, _<_, _∣_}
+use Prim.Native.Nat.{ℕ, _+_, _*_, _≤_, _<_, _∣_}
 use lib.Dec.{T}
 use lib.ListN.{length, take, getElem?}
 use lib.Seq.{sets}
 use Rattle.records.specs.Record.{Decoded, decoded, typeCount, memberType}
 use Rattle.records.specs.Fields.{capabilitiesKnown}
 use Rattle.records.specs.declared.Outcome.the-variants.{Accepted}
+use Rattle.records.specs.declared.Leaf.the-variants.{Matrix}
 use Rattle.records.specs.declared.TypeInner.{TypeInner}
 use Rattle.records.specs.declared.TypeInner.the-variants.{Plain, Array, RuntimeArray, Struct, Other}
+use Rattle.type_methods.specs.TypeMethods.{columnStep}
 use Rattle.flags.specs.Flags.{bit, dataBit, hostShareableBit}
 use Rattle.type_info.specs.declared.Row.{Row}
 use Rattle.type_info.specs.Verdict.{isOk, alignmentIn}
 use Rattle.valid.specs.Arena.{arena, row}
 use Rattle.steps.specs.declared.Step.{Step}
-use Rattle.steps.specs.declared.Step.the-variants.{To, NoStep}
+use Rattle.steps.specs.declared.Step.the-variants.{To, Column, NoStep}
+use Rattle.steps.specs.Columns.{leafLength}
 use Rattle.descent.specs.declared.Place.the-variants.{At}
 use Rattle.descent.specs.Place.{stepIn, placeOf}
 
@@ -26,9 +29,39 @@ use Rattle.descent.specs.Place.{stepIn, placeOf}
 abbrev pub rowIn : (c : ℕ) (ts ms : List ℕ) → ℕ → Row
 rowIn c ts ms t = row c (decoded ts ms) t
 
--- a leaf's bytes are those from its place on, as many as it measures
-abbrev pub leafMeasure : (ℕ → Row) → (leaf : ℕ) → ℕ
-leafMeasure rows leaf = rows leaf .size
+-- a leaf's bytes are those from its place on, as many as it measures: its type's size, or rows times width for a column
+abbrev pub lengthIn : TypeInner → (size : ℕ) → ℕ
+lengthIn (Plain leaf) size = leafLength leaf size
+lengthIn (Array base count stride) size = size
+lengthIn (RuntimeArray base stride) size = size
+lengthIn (Struct count span) size = size
+lengthIn (Other o) size = size
+
+abbrev pub leafMeasure : (c : ℕ) (ts ms : List ℕ) → (leaf : ℕ) → ℕ
+leafMeasure c ts ms leaf = lengthIn (decoded ts ms leaf .inner) (rowIn c ts ms leaf .size)
+
+-- byte k of type t lies in a leaf
+pub record InLeaf (c : ℕ) (ts ms : List ℕ) (t k : ℕ) : Type 0 where
+  pub steps : List ℕ
+  pub byte : ℕ
+  pub leaf : ℕ
+  pub place : placeOf ts ms t steps ≡ At byte leaf
+  pub from : byte ≤ k
+  pub below : k < byte + leafMeasure c ts ms leaf
+
+-- byte k of type t lies between columns: past the end of a column, and within a column step of its start
+pub record BetweenColumns (ts ms : List ℕ) (t k : ℕ) : Type 0 where
+  pub steps : List ℕ
+  pub byte : ℕ
+  pub leaf : ℕ
+  pub place : placeOf ts ms t steps ≡ At byte leaf
+  pub columns : ℕ
+  pub rows : ℕ
+  pub kind : ℕ
+  pub width : ℕ
+  pub matrix : decoded ts ms leaf .inner ≡ Plain (Matrix columns rows kind width)
+  pub past : byte + rows * width ≤ k
+  pub below : k < byte + columnStep rows width
 
 -- a host-shareable data type of an accepted arena: flags DATA and HOST_SHAREABLE
 pub record HostShareableData (c : ℕ) (ts ms : List ℕ) (t : ℕ) : Type 0 where
@@ -66,6 +99,7 @@ firstElement (Other o) step = Unit {0}
 
 abbrev pub after : Step → (ℕ → Type 0) → Type 0
 after (To ty bytes) rest = rest ty
+after (Column bytes) rest = Unit {0}
 after NoStep rest = Unit {0}
 
 abbrev pub FirstElements : (types : ℕ → Decoded) → ℕ → List ℕ → Type 0
@@ -85,12 +119,19 @@ pub record Term3 : Type 0 where
   pub others : (c : ℕ) (ts ms : List ℕ) (t : ℕ) → HostShareableData c ts ms t → StridesCover (rowIn c ts ms) (decoded ts ms) t
       → (steps steps′ : List ℕ) (byte leaf byte′ leaf′ : ℕ)
       → placeOf ts ms t steps ≡ At byte leaf → placeOf ts ms t steps′ ≡ At byte′ leaf′ → steps ≢ steps′
-      → (buffer bytes : List ℕ) (k : ℕ) → byte′ ≤ k → k < byte′ + leafMeasure (rowIn c ts ms) leaf′
-      → getElem? (rewrite buffer byte (leafMeasure (rowIn c ts ms) leaf) bytes) k ≡ getElem? buffer k
+      → (buffer bytes : List ℕ) (k : ℕ) → byte′ ≤ k → k < byte′ + leafMeasure c ts ms leaf′
+      → getElem? (rewrite buffer byte (leafMeasure c ts ms leaf) bytes) k ≡ getElem? buffer k
+  -- E6 of 02: a write to one column spares the others and the gaps. A byte in no leaf is changed by no rewriting, whatever the flags and
+  -- strides, and a byte between columns is in no leaf
+  pub gaps : (c : ℕ) (ts ms : List ℕ) (t k : ℕ)
+      → (¬ InLeaf c ts ms t k
+      → (steps : List ℕ) (byte leaf : ℕ) → placeOf ts ms t steps ≡ At byte leaf
+      → (buffer bytes : List ℕ) → getElem? (rewrite buffer byte (leafMeasure c ts ms leaf) bytes) k ≡ getElem? buffer k)
+      × (HostShareableData c ts ms t → StridesCover (rowIn c ts ms) (decoded ts ms) t → BetweenColumns ts ms t k → ¬ InLeaf c ts ms t k)
   -- every leaf lies within the type's size, those in runtime elements past the first aside
   pub within : (c : ℕ) (ts ms : List ℕ) (t : ℕ) → HostShareableData c ts ms t → StridesCover (rowIn c ts ms) (decoded ts ms) t
       → (steps : List ℕ) (byte leaf : ℕ) → placeOf ts ms t steps ≡ At byte leaf → FirstElements (decoded ts ms) t steps
-      → byte + leafMeasure (rowIn c ts ms) leaf ≤ rowIn c ts ms t .size
+      → byte + leafMeasure c ts ms leaf ≤ rowIn c ts ms t .size
   -- whatever the strides, if the storage verdict is Ok, every leaf stands at a multiple of the leaf's own storage alignment
   pub aligned : (c : ℕ) (ts ms : List ℕ) (t : ℕ) → HostShareableData c ts ms t → T (isOk (rowIn c ts ms t .storage))
       → (steps : List ℕ) (byte leaf : ℕ) → placeOf ts ms t steps ≡ At byte leaf

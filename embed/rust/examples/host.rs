@@ -1,7 +1,9 @@
 //! A host that fills a storage buffer by place lookups:
 //!
 //!   struct Cell { temperature: vec3<f32>, moisture: f32 }
-//!   struct Kernel { steps: u32, cells: array<Cell, 4>, tail: array<f32> }
+//!   struct Kernel { turn: mat3x3<f32>, steps: u32, cells: array<Cell, 4>, tail: array<f32> }
+//!
+//! The matrix is filled column by column: 12 bytes at 0, 16 and 32. The host keeps a flag in the gap after each.
 
 use std::ops::Range;
 use wuldazin::{flags, form, kind, scalar, Refusal, Row};
@@ -12,47 +14,84 @@ const CELL: u32 = 2;
 const CELLS: u32 = 3;
 const U32: u32 = 4;
 const TAIL: u32 = 5;
-const KERNEL: u32 = 6;
+const MAT3X3: u32 = 6;
+const KERNEL: u32 = 7;
 
 #[rustfmt::skip]
-const TYPES: [u32; 7 * wuldazin::TYPE_WORDS] = [
+const TYPES: [u32; 8 * wuldazin::TYPE_WORDS] = [
     kind::SCALAR, scalar::FLOAT, 4, 0, 0, 0,
     kind::VECTOR, 3, scalar::FLOAT, 4, 0, 0,
     kind::STRUCT, 0, 2, 16, 0, 0,
     kind::ARRAY, CELL, form::CONSTANT, 4, 16, 0,
     kind::SCALAR, scalar::UINT, 4, 0, 0, 0,
     kind::ARRAY, F32, form::DYNAMIC, 0, 4, 0,
-    kind::STRUCT, 2, 3, 96, 0, 0,
+    kind::MATRIX, 3, 3, scalar::FLOAT, 4, 0,
+    kind::STRUCT, 2, 4, 144, 0, 0,
 ];
-const MEMBERS: [u32; 10] = [VEC3, 0, F32, 12, U32, 0, CELLS, 16, TAIL, 80];
+#[rustfmt::skip]
+const MEMBERS: [u32; 12] = [
+    VEC3, 0, F32, 12,
+    MAT3X3, 0, U32, 48, CELLS, 64, TAIL, 128,
+];
 const TAIL_COUNT: u32 = 8;
-const BYTES: usize = 80 + 4 * TAIL_COUNT as usize;
+const BYTES: usize = 128 + 4 * TAIL_COUNT as usize;
+/// The first byte after each column.
+const FLAGS: [usize; 3] = [12, 28, 44];
 
-/// The bytes of the leaf that steps lead to.
+/// The bytes of the leaf that steps lead to: of a matrix a column, rows times width; of another type its size.
 fn bytes(steps: &[u32]) -> Result<Range<usize>, Refusal> {
-    let mut rows = [0; 7 * wuldazin::ROW_WORDS];
+    let mut rows = [0; 8 * wuldazin::ROW_WORDS];
     let place = wuldazin::place(&TYPES, &MEMBERS, 0, &mut rows, KERNEL, steps)?;
-    let size = Row::of(&rows, place.leaf).unwrap().size() as usize;
+    let record = &TYPES[place.leaf as usize * wuldazin::TYPE_WORDS..];
+    let size = match record[0] {
+        kind::MATRIX => record[2] * record[4],
+        _ => Row::of(&rows, place.leaf).unwrap().size(),
+    };
     let start = place.byte as usize;
-    Ok(start..start + size)
+    Ok(start..start + size as usize)
+}
+
+fn floats(values: [f32; 3]) -> Vec<u8> {
+    values.map(f32::to_le_bytes).concat()
 }
 
 /// Each leaf, with what to put there.
 fn leaves() -> Vec<(Vec<u32>, Vec<u8>)> {
-    let mut leaves = vec![(vec![0], 1000u32.to_le_bytes().to_vec())];
+    let mut leaves = vec![
+        (vec![0, 0], floats([1.0, 0.0, 0.0])),
+        (vec![0, 1], floats([0.0, 1.0, 0.0])),
+        (vec![0, 2], floats([0.0, 0.0, 1.0])),
+        (vec![1], 1000u32.to_le_bytes().to_vec()),
+    ];
     for i in 0..4 {
-        let heat = [20 + i, 30 + i, 40 + i].map(|degrees| (degrees as f32).to_le_bytes());
-        leaves.push((vec![1, i, 0], heat.concat()));
-        leaves.push((vec![1, i, 1], (0.25 * i as f32).to_le_bytes().to_vec()));
+        let heat = [20 + i, 30 + i, 40 + i].map(|degrees| degrees as f32);
+        leaves.push((vec![2, i, 0], floats(heat)));
+        leaves.push((vec![2, i, 1], (0.25 * i as f32).to_le_bytes().to_vec()));
     }
     for i in 0..TAIL_COUNT {
-        leaves.push((vec![2, i], (i as f32).to_le_bytes().to_vec()));
+        leaves.push((vec![3, i], (i as f32).to_le_bytes().to_vec()));
     }
     leaves
 }
 
+/// Rewriting one leaf spares all others, and the flags.
+fn rewrite_each(buffer: &[u8; BYTES], leaves: &[(Vec<u32>, Vec<u8>)]) -> Result<(), Refusal> {
+    for (rewritten, _) in leaves {
+        let mut other = *buffer;
+        for byte in &mut other[bytes(rewritten)?] {
+            *byte = !*byte;
+        }
+        for (steps, value) in leaves {
+            let now = &other[bytes(steps)?];
+            assert_eq!(now == value, steps != rewritten, "{rewritten:?} {steps:?}");
+        }
+        assert_eq!(FLAGS.map(|at| other[at]), [0xff; 3]);
+    }
+    Ok(())
+}
+
 fn main() -> Result<(), Refusal> {
-    let mut rows = [0; 7 * wuldazin::ROW_WORDS];
+    let mut rows = [0; 8 * wuldazin::ROW_WORDS];
     wuldazin::check(&TYPES, &MEMBERS, 0, &mut rows)?;
     let kernel = Row::of(&rows, KERNEL).unwrap();
     assert!(kernel.has(flags::DATA | flags::HOST_SHAREABLE));
@@ -60,6 +99,9 @@ fn main() -> Result<(), Refusal> {
     assert_eq!(wuldazin::members(&TYPES, &MEMBERS, KERNEL), &MEMBERS[4..]);
 
     let mut buffer = [0; BYTES];
+    for at in FLAGS {
+        buffer[at] = 0xff;
+    }
     let leaves = leaves();
     for (steps, value) in &leaves {
         let at = bytes(steps)?;
@@ -70,19 +112,11 @@ fn main() -> Result<(), Refusal> {
         println!("{line:02x?}");
     }
 
-    // Rewriting one leaf spares all others.
-    for (rewritten, _) in &leaves {
-        let mut other = buffer;
-        for byte in &mut other[bytes(rewritten)?] {
-            *byte = !*byte;
-        }
-        for (steps, value) in &leaves {
-            let now = &other[bytes(steps)?];
-            assert_eq!(now == value, steps != rewritten, "{rewritten:?} {steps:?}");
-        }
-    }
-    println!("{} leaves, each rewritten: the others stay", leaves.len());
+    rewrite_each(&buffer, &leaves)?;
+    let count = leaves.len();
+    println!("{count} leaves, each rewritten: the others and the flags stay");
 
-    println!("cells[4]: {}", bytes(&[1, 4, 0]).unwrap_err());
+    println!("cells[4]: {}", bytes(&[2, 4, 0]).unwrap_err());
+    println!("turn[3]: {}", bytes(&[0, 3]).unwrap_err());
     Ok(())
 }

@@ -69,7 +69,7 @@ pub mod capabilities {
     pub const ALL: u32 = 8191;
 }
 
-/// A leaf: its first byte and its type.
+/// A leaf: its first byte and its type, of a column the matrix's.
 #[derive(Clone, Copy, Debug, PartialEq, Eq)]
 pub struct Place {
     pub byte: u64,
@@ -194,8 +194,12 @@ pub fn slots(
     Refusal::of(answer).map(|()| Slots { touched, partly })
 }
 
-/// The leaf that `steps`, member and element numbers, lead to from type `start`. Judges the arena first. Numbers 1 to 24
-/// and 26.
+/// The leaf that `steps`, member, element and column numbers, lead to from type `start`. Judges the arena first. Numbers 1
+/// to 24 and 26.
+///
+/// A matrix takes one further step, its column, and the leaf is that column: rows times width bytes. The column step, from
+/// one to the next, is the matrix's alignment; the bytes between columns of three rows are in no leaf. Every other leaf is
+/// as long as its type's size.
 pub fn place(
     types: &[u32],
     members: &[u32],

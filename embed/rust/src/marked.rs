@@ -1,4 +1,4 @@
-//! The marked examples M1 to M12 and the standard's figures for plain types, through the safe calls.
+//! The marked examples M1 to M12, the standard's figures for plain types and the columns of matrices, through the safe calls.
 
 use crate::*;
 
@@ -201,6 +201,39 @@ fn plain_types() {
     }
     for (shape, width) in [(13, 4), (0, 3), (13, 3), (0, 0), (12, 16), (u32::MAX, 4)] {
         assert_eq!(plain(shape, width), Err(refused(2, 0, 0, 0)));
+    }
+}
+
+#[test]
+fn columns() {
+    let mat3x3 = |width| [kind::MATRIX, 3, 3, scalar::FLOAT, width, 0];
+    let cooperative = [kind::COOPERATIVE_MATRIX, 8, 8, scalar::FLOAT, 4, 0];
+    let types = [mat3x3(4), mat3x3(2), cooperative, structure(0, 1, 64)];
+    let place = |start, steps: &[u32]| {
+        let mut rows = [0; 4 * ROW_WORDS];
+        place(
+            types.as_flattened(),
+            &[0, 16],
+            capabilities::ALL,
+            &mut rows,
+            start,
+            steps,
+        )
+    };
+    for column in 0..3 {
+        let found = |step, byte| {
+            Ok(Place {
+                byte: byte + step * u64::from(column),
+                leaf: 0,
+            })
+        };
+        assert_eq!(place(0, &[column]), found(16, 0));
+        assert_eq!(place(3, &[0, column]), found(16, 16));
+    }
+    assert_eq!(place(1, &[2]), Ok(Place { byte: 16, leaf: 1 }));
+    assert_eq!(place(2, &[]), Ok(Place { byte: 0, leaf: 2 }));
+    for (start, steps) in [(0, &[][..]), (0, &[3]), (0, &[2, 0]), (2, &[0]), (3, &[0])] {
+        assert_eq!(place(start, steps), Err(refused(26, 0, 0, 0)));
     }
 }
 

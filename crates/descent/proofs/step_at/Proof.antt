@@ -2,6 +2,9 @@ use borrow.Author.Needs.{needs}
 use Rattle.descent.proofs.step_at.Statement.{statement}
 use Rattle.descent.proofs.step_at.Tie as tie
 
+step-of-requires : tie.Need-step-of-requires
+step-of-requires c κs = rw (c .before .type-inner .ensures) (c .before .before .before .before .pre)
+
 returns : tie.Need-returns
 returns c = rw (c .before .struct-members .ensures, c .before .before .type-inner .ensures) at (c .step-of .ensures)
 
@@ -11,5 +14,5 @@ step-at-spec =
     (tie.spec
     (λ c κs. search needs)
     (λ c κs. search needs)
-    (λ c κs. search needs)
+    step-of-requires
     returns)

@@ -6,39 +6,43 @@ use Rattle.steps.specs.Steps.{stepOf}
 use Rattle.steps.proofs.step_of.Statement.{statement}
 use Rattle.steps.proofs.step_of.Tie as tie
 
+column-requires : tie.Need-column-requires
+column-requires c κs = rw (c .before .inner .given .1) at (c .before .before .before .before .pre)
+
 returns : tie.Need-returns
 unfolding stepOf
-returns c = rw (c .enum-told .given .1)
+returns c = rw (c .before .before .inner .given .1) (c .column .ensures)
 
 returns-2 : tie.Need-returns-2
 unfolding stepOf
-returns-2 c = rw (c .before .before .before .inner .given .1, lt-ltb _ _ (c .before .if1 .taken)) (c .element .ensures)
+returns-2 c = rw (c .before .before .before .inner2 .given .1, lt-ltb _ _ (c .before .if1 .taken)) (c .element .ensures)
 
 returns-3 : tie.Need-returns-3
 unfolding stepOf
-returns-3 c = rw (c .before .before .inner .given .1, le-ltb _ _ (c .if1 .left))
+returns-3 c = rw (c .before .before .inner2 .given .1, le-ltb _ _ (c .if1 .left))
 
 returns-4 : tie.Need-returns-4
 unfolding stepOf
-returns-4 c = rw (c .before .before .inner2 .given .1, lt-ltb _ (2 ^ 32) (c .before .before .before .before .before .fits .step .fits)) (c .element2 .ensures)
+returns-4 c = rw (c .before .before .inner3 .given .1, lt-ltb _ (2 ^ 32) (c .before .before .before .before .before .fits .step .fits)) (c .element2 .ensures)
 
 returns-5 : tie.Need-returns-5
 unfolding stepOf
-returns-5 c = rw (c .before .before .before .before .inner3 .given .1, lt-ltb _ _ (c .before .before .if2 .taken), c .member-type .ensures, c .before .member-offset .ensures)
+returns-5 c = rw (c .before .before .before .before .inner4 .given .1, lt-ltb _ _ (c .before .before .if2 .taken), c .member-type .ensures, c .before .member-offset .ensures)
 
 returns-6 : tie.Need-returns-6
 unfolding stepOf
-returns-6 c = rw (c .before .before .inner3 .given .1, le-ltb _ _ (c .if2 .left))
+returns-6 c = rw (c .before .before .inner4 .given .1, le-ltb _ _ (c .if2 .left))
 
 returns-7 : tie.Need-returns-7
 unfolding stepOf
-returns-7 c = rw (c .enum-told2 .given .1)
+returns-7 c = rw (c .enum-told .given .1)
 
 pub step-of-spec : {M : Type 1} → statement M
 step-of-spec =
     tie.close
     (tie.spec
     (λ c. search needs)
+    column-requires
     (λ c. search needs)
     (λ c κs. search needs)
     (λ c. search needs)
