@@ -1,4 +1,4 @@
-/* Type tables of naga 30.0.1: layouts, verdicts, immediate slots and places; and plain types from a table.
+/* Type tables of naga 30.0.1: layouts, verdicts, immediate slots, places and a report of bytes; and plain types from a table.
  *
  * Link with libdoors.a (x86-64 Linux). Nothing is kept between calls, nothing is allocated.
  *
@@ -12,7 +12,7 @@
  * members: WULDAZIN_MEMBER_WORDS words a member, its type and its offset; structs may share rows.
  *
  * rows takes WULDAZIN_ROW_WORDS words a type; n types need n * WULDAZIN_ROW_WORDS words, and no word after them is ever written.
- *  - accepted: the row of each type. Also with numbers 25 and 26, which come after the arena was accepted.
+ *  - accepted: the row of each type. Also with numbers 25 to 27, which come after the arena was accepted.
  *  - number 1: untouched.
  *  - numbers 2 to 24: n * WULDAZIN_ROW_WORDS zeros.
  *
@@ -23,7 +23,7 @@
  * mask takes WULDAZIN_MASK_WORDS words, bit k of each for slot k, bytes 4k to 4k + 3: the slots that are touched, then those that a part
  * covers only in part, one of their bytes and not all four. Zeros on a refusal. A buffer of one word gets the first mask alone.
  *
- * An answer, place, numbers or part buffer that is too short for its words is left as it was. Words after its own are left in every buffer.
+ * An answer, place, totals, numbers or part buffer that is too short for its words is left as it was. Words after its own are left in every buffer.
  */
 #ifndef WULDAZIN_H
 #define WULDAZIN_H
@@ -41,6 +41,7 @@ enum {
     WULDAZIN_ROW_WORDS = 14,
     WULDAZIN_ANSWER_WORDS = 4,
     WULDAZIN_MASK_WORDS = 2,
+    WULDAZIN_REPORT_WORDS = 2,
     WULDAZIN_MOST_TYPES = 1024,
     WULDAZIN_MOST_MEMBERS = 4096,
     WULDAZIN_ALL_CAPABILITIES = 8191
@@ -133,7 +134,7 @@ enum {
 /* Word 0 of an answer. */
 enum {
     WULDAZIN_ACCEPTED = 0,
-    WULDAZIN_TABLE_LENGTH = 1,             /* not whole records, too many, rows too short, or capability bits above 12 */
+    WULDAZIN_TABLE_LENGTH = 1,             /* not whole records, too many, rows or report too short, or capability bits above 12 */
     WULDAZIN_FIELD = 2,                    /* a field outside its set, or member rows past the member table; no such plain shape or width */
     WULDAZIN_BASE_OUTSIDE = 3,             /* pointer or binding-array base outside the arena */
     WULDAZIN_ARRAY_TOO_LARGE = 4,          /* array's count or measure above 2,147,483,647 */
@@ -158,7 +159,8 @@ enum {
     WULDAZIN_BINDING_ARRAY_BASE = 23,      /* binding array of data that is no struct */
     WULDAZIN_BINDING_ARRAY_EXTERNAL = 24,  /* binding array of external images */
     WULDAZIN_SLOTS_PAST = 25,              /* slots: a part ends past byte 256, or an offset sum leaves 32 bits */
-    WULDAZIN_NO_SUCH_PLACE = 26            /* no such type or place */
+    WULDAZIN_NO_SUCH_PLACE = 26,           /* no such type or place */
+    WULDAZIN_NARROW_STRIDE = 27            /* host-shareable struct reaches an array with a stride below its element's size */
 };
 
 /* Sizes and alignments alone: rows get size, alignment and twelve zeros a type. Numbers 1 to 7; asks for no capability. */
@@ -205,6 +207,23 @@ void wuldazin_place(const uint32_t *types, size_t types_length,
                     const uint32_t *steps, size_t steps_length,
                     uint64_t *place, size_t place_length,
                     uint32_t *answer, size_t answer_length);
+
+/* The bytes that lie in leaves and those of the span that lie in none, for each struct with WULDAZIN_HOST_SHAREABLE. A runtime array
+ * counts as one element. Judges the arena first. Numbers 1 to 24 and 27.
+ * report takes WULDAZIN_REPORT_WORDS words a type, bytes carried and bytes wasted; n types need n * WULDAZIN_REPORT_WORDS words, and no
+ * word after them is ever written.
+ *  - accepted: the words of each type, zeros for a type that is no such struct.
+ *  - number 1: untouched.
+ *  - every other number: n * WULDAZIN_REPORT_WORDS zeros.
+ * totals: two words, the bytes carried and the bytes wasted over all such structs; zeros on a refusal. A struct in a struct has its
+ * own share in them. The time is linear in types and members. */
+void wuldazin_report(const uint32_t *types, size_t types_length,
+                     const uint32_t *members, size_t members_length,
+                     uint32_t capabilities,
+                     uint32_t *rows, size_t rows_length,
+                     uint64_t *report, size_t report_length,
+                     uint64_t *totals, size_t totals_length,
+                     uint32_t *answer, size_t answer_length);
 
 /* Size, alignment and column step of a plain type, whatever its scalar kind. No arena is judged, and no capability asked for.
  * shape: 0 is the scalar, 1 to 3 are vec2 to vec4, 4 to 12 the matrices: 4 + 3 * (columns - 2) + (rows - 2). width: 1, 2, 4 or 8.

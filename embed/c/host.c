@@ -92,6 +92,19 @@ static void refuse_place(const char *name, const uint32_t *steps, size_t count) 
     expect(name, answer[0], WULDAZIN_NO_SUCH_PLACE);
 }
 
+/* A cell carries all of its 16 bytes, the kernel 36 of its matrix and 4 + 64 + 4 of the rest, of 144. */
+static void look_at_report(void) {
+    uint64_t report[TYPES * WULDAZIN_REPORT_WORDS], totals[2], *kernel = report + KERNEL * WULDAZIN_REPORT_WORDS;
+    wuldazin_report(types, LENGTH(types), members, LENGTH(members), 0, rows, LENGTH(rows), report, LENGTH(report), totals,
+                    LENGTH(totals), answer, LENGTH(answer));
+    expect("report", answer[0], WULDAZIN_ACCEPTED);
+    expect("carried by the kernel", kernel[0], 108);
+    expect("wasted in the kernel", kernel[1], 36);
+    expect("carried in all", totals[0], 16 + 108);
+    expect("wasted in all", totals[1], 36);
+    printf("the kernel carries %u bytes and wastes %u\n", (unsigned)kernel[0], (unsigned)kernel[1]);
+}
+
 int main(void) {
     char name[64];
     check(WULDAZIN_ACCEPTED);
@@ -138,6 +151,8 @@ int main(void) {
     expect("its size", numbers[0], 48);
     expect("its alignment", numbers[1], 16);
     expect("its column step", numbers[2], 16);
+
+    look_at_report();
 
     /* Refusals: no such shape; no such cell, no such column; then a moisture that stands in the temperature's bytes. */
     wuldazin_plain(13, 4, numbers, LENGTH(numbers), answer, LENGTH(answer));

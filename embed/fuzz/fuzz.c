@@ -22,14 +22,17 @@ enum {
     MEMBERS_MOST = 2 * 4096 + 57,
     ROWS_MOST = 14 * (TYPES_MOST / 6) + 64,
     STEPS_MOST = 2048,
-    OUTPUT_MOST = 5, /* mask, place or part: 64-bit words; numbers: 32-bit words */
+    REPORT_MOST = 2 * (TYPES_MOST / 6) + 64, /* 64-bit words */
+    OUTPUT_MOST = 5, /* mask, place, totals or part: 64-bit words; numbers: 32-bit words */
     ANSWER_MOST = 8,
     PARTS_MOST = 100000, /* of a slot walk: longer ones are not asked for */
     TEMPLATES = 64
 };
 
-enum { LAYOUT, CHECK, RANGE, SLOTS, PLACE, PLAIN, MEMBERS, DOORS };
-static const char *const door_names[DOORS] = {"layout", "check", "range", "slots", "place", "plain", "members"};
+enum { LAST_NUMBER = 27, UNANSWERED }; /* UNANSWERED: the buffer was too short for an answer */
+
+enum { LAYOUT, CHECK, RANGE, SLOTS, PLACE, REPORT, PLAIN, MEMBERS, DOORS };
+static const char *const door_names[DOORS] = {"layout", "check", "range", "slots", "place", "report", "plain", "members"};
 
 typedef struct {
     size_t types_length, members_length;
@@ -50,12 +53,12 @@ typedef struct {
 } Lent;
 
 static Tables templates[TEMPLATES], now;
-static Lent types, members, steps, rows, output, answer;
+static Lent types, members, steps, rows, report, output, answer;
 static uint32_t noise[ROWS_MOST + 1024];
 static unsigned char guard[GUARD];
 static uint64_t seed = 1, call, state;
 static int door;
-static uint64_t doors[DOORS], numbers[27], unanswered, columns;
+static uint64_t doors[DOORS], numbers[LAST_NUMBER + 1], unanswered, columns;
 static bool types_seen[TYPES_MOST + 1], members_seen[MEMBERS_MOST + 1];
 
 static void say_where(void) {
@@ -240,10 +243,18 @@ static void hand_made(Tables *t) {
     t->types_length = sizeof records / 4, t->members_length = 4;
 }
 
+/* A host-shareable struct that reaches an array with a stride below its element's size, which only the report refuses. */
+static void narrow(Tables *t) {
+    memcpy(t->types, (uint32_t[]){0, 2, 4, 0, 0, 0, 7, 0, 0, 3, 2, 0, 8, 0, 1, 8, 0, 0}, 72);
+    memcpy(t->members, (uint32_t[]){1, 0}, 8);
+    t->types_length = 18, t->members_length = 2;
+}
+
 /* Templates 0 to 2 are full, up to 11 of middle size, the others small. */
 static void make_templates(void) {
     nest(templates);
-    for (uint32_t k = 1; k < TEMPLATES - 1; k++) grow(templates + k, k < 3 ? 1024 : k < 12 ? 30 * k : 1 + below(20));
+    for (uint32_t k = 1; k < TEMPLATES - 2; k++) grow(templates + k, k < 3 ? 1024 : k < 12 ? 30 * k : 1 + below(20));
+    narrow(templates + TEMPLATES - 2);
     hand_made(templates + TEMPLATES - 1);
     for (Tables *t = templates; t < templates + TEMPLATES; t++) {
         static uint32_t row[ROWS_MOST];
@@ -300,6 +311,16 @@ static size_t rows_length(void) {
     }
 }
 
+static size_t report_length(void) {
+    size_t needed = now.types_length / 6 * 2;
+    switch (below(16)) {
+    case 0: return below(needed + 1);
+    case 1: return needed ? needed - 1 : 0;
+    case 2: case 3: case 4: return needed + below(60);
+    default: return needed;
+    }
+}
+
 static uint32_t type_number(void) { return below(8) ? below(now.types_length / 6 + 1) : wild(); }
 
 /* The member rows of a record, or none. */
@@ -348,19 +369,20 @@ static size_t make_steps(uint32_t *list, uint32_t ty) {
 }
 
 /* ---- calls */
-/* The number of an answer, after what the header says of every answer; 27 where the buffer was too short for it. */
+/* The number of an answer, after what the header says of every answer. */
 static uint32_t number_of(bool fits, uint32_t count) {
     uint32_t a[4];
     if (answer.bytes < sizeof a) {
         unanswered++;
-        return 27;
+        return UNANSWERED;
     }
     memcpy(a, answer.data, sizeof a);
-    require(a[0] <= 26, "number above 26");
+    require(a[0] <= LAST_NUMBER, "number above the last");
     require((a[0] == 1) == !fits, "number 1 given or kept back wrongly");
     require(a[1] < count || a[1] == 0, "type outside the arena");
-    bool bare = a[0] <= 1 || a[0] >= 25 || door == PLAIN;
+    bool bare = a[0] <= 1 || a[0] == 25 || a[0] == 26 || door == PLAIN;
     require(!bare || (a[1] | a[2] | a[3]) == 0, "words beside a number that has none");
+    require(a[0] != 27 || a[2] == 0, "member beside a number that has none");
     require(a[0] == 8 ? a[3] <= 12 : a[3] == 0, "detail");
     numbers[a[0]]++;
     return a[0];
@@ -383,14 +405,14 @@ static void look_at_rows(uint32_t number, uint32_t count) {
         memcpy(r, rows.data + i * sizeof r, sizeof r);
         for (int k = refused ? 0 : 2; k < 14; k++) all |= r[k];
         if (refused || door == LAYOUT) require(all == 0, "words that are to be 0");
-        if (number == 0 || number == 25 || number == 26) {
+        if (number == 0 || (number >= 25 && number <= LAST_NUMBER)) {
             require(r[1] && !(r[1] & (r[1] - 1)), "alignment no power of two");
             require(r[2] <= 255 && r[3] <= 6 && r[8] <= 6 && r[13] <= 6, "flags, codes or immediates word");
         }
     }
 }
 
-/* How many 64-bit words the door writes: as many of the two masks as there is room for; a place or a part whole or not at all. */
+/* How many 64-bit words the door writes: as many of the two masks as there is room for; a place, totals or a part whole or not at all. */
 static size_t words_written(size_t length) {
     if (length >= 2) return 2;
     return door == RANGE || door == SLOTS ? length : 0;
@@ -415,7 +437,7 @@ static void plain_call(size_t answer_length, size_t numbers_length) {
     wuldazin_plain(shape, width, numbers, numbers_length, a, answer_length);
     bool other = shape > 12 || (width != 1 && width != 2 && width != 4 && width != 8);
     uint32_t number = number_of(true, 0);
-    require(number == 27 || number == (other ? 2 : 0), "plain");
+    require(number == UNANSWERED || number == (other ? 2 : 0), "plain");
     if (numbers_length >= 3) {
         memcpy(n, output.data, sizeof n);
         require(!other || (n[0] | n[1] | n[2]) == 0, "numbers beside a refusal");
@@ -426,9 +448,26 @@ static void plain_call(size_t answer_length, size_t numbers_length) {
     take_back(&answer, answer_length < 4 ? 0 : 16);
 }
 
+/* The two words of a host-shareable struct make up its size, others are 0, and the totals are the sums. Takes the report back. */
+static void look_at_report(uint32_t number, bool fits, uint32_t count) {
+    bool told = fits && number != UNANSWERED;
+    uint64_t sums[2] = {0, 0};
+    for (uint32_t i = 0; told && i < count; i++) {
+        uint32_t r[14];
+        uint64_t w[2];
+        memcpy(r, rows.data + i * sizeof r, sizeof r);
+        memcpy(w, report.data + i * sizeof w, sizeof w);
+        bool reported = number == 0 && now.types[6 * i] == WULDAZIN_STRUCT && r[2] & WULDAZIN_HOST_SHAREABLE;
+        require(reported ? w[0] + w[1] == r[0] : (w[0] | w[1]) == 0, "words of the report");
+        sums[0] += w[0], sums[1] += w[1];
+    }
+    if (told && output.bytes >= sizeof sums) require(!memcmp(output.data, sums, sizeof sums), "totals");
+    take_back(&report, fits ? 16 * count : 0);
+}
+
 static void one_call(void) {
     static uint32_t list[STEPS_MOST];
-    static const unsigned char choice[] = {LAYOUT, CHECK, CHECK, CHECK, RANGE, SLOTS, SLOTS, SLOTS, PLACE, PLACE, PLACE, PLAIN, MEMBERS};
+    static const unsigned char choice[] = {LAYOUT, CHECK, CHECK, CHECK, RANGE, SLOTS, SLOTS, SLOTS, PLACE, PLACE, PLACE, REPORT, REPORT, PLAIN, MEMBERS};
     size_t answer_length = below(16) ? 4 + below(ANSWER_MOST - 3) : below(4), output_length = below(OUTPUT_MOST + 1);
     uint64_t out[2] = {0, 0};
     door = choice[below(sizeof choice)];
@@ -445,7 +484,7 @@ static void one_call(void) {
         doors[door]++;
         bool past = size && (uint64_t)offset + size > 256;
         uint32_t number = number_of(true, 0);
-        require(number == 27 || number == (past ? 25 : 0), "range");
+        require(number == UNANSWERED || number == (past ? 25 : 0), "range");
         size_t written = words_written(output_length);
         if (!past) range_masks(offset, size, out);
         require(!memcmp(output.data, out, 8 * written), "masks of a range");
@@ -459,31 +498,38 @@ static void one_call(void) {
     if (door == SLOTS && parts(ty) >= PARTS_MOST) door = CHECK;
     types_seen[now.types_length] = members_seen[now.members_length] = true;
     size_t tl = now.types_length, ml = now.members_length, rl = rows_length(), sl = door == PLACE ? make_steps(list, ty) : 0;
+    size_t pl = door == REPORT ? report_length() : 0;
     bool fits = tl % 6 == 0 && tl <= 6 * 1024 && ml % 2 == 0 && ml <= 2 * 4096 && rl / 14 >= count;
     if (door != LAYOUT) fits = fits && capabilities <= 8191;
-    bool has_rows = door != MEMBERS, has_output = door == SLOTS || door == PLACE || door == MEMBERS;
+    if (door == REPORT) fits = fits && pl / 2 >= count;
+    bool has_rows = door != MEMBERS, has_output = door == SLOTS || door == PLACE || door == REPORT || door == MEMBERS;
 
     const uint32_t *t = lend(&types, now.types, 4 * tl), *m = lend(&members, now.members, 4 * ml), *s = NULL;
     uint32_t *r = NULL, *a = NULL;
-    uint64_t *o = NULL;
+    uint64_t *o = NULL, *p = NULL;
     if (has_rows) r = lend(&rows, noise + below(1024), 4 * rl), a = lend(&answer, noise + below(1024), 4 * answer_length);
     if (has_output) o = lend(&output, noise + below(1024), 8 * output_length);
     if (door == PLACE) s = lend(&steps, list, 4 * sl);
+    if (door == REPORT) p = lend(&report, noise + below(1024), 8 * pl);
     switch (door) {
     case LAYOUT: wuldazin_layout(t, tl, m, ml, r, rl, a, answer_length); break;
     case CHECK: wuldazin_check(t, tl, m, ml, capabilities, r, rl, a, answer_length); break;
     case SLOTS: wuldazin_slots(t, tl, m, ml, capabilities, r, rl, ty, wild(), o, output_length, a, answer_length); break;
     case PLACE: wuldazin_place(t, tl, m, ml, capabilities, r, rl, ty, s, sl, o, output_length, a, answer_length); break;
+    case REPORT: wuldazin_report(t, tl, m, ml, capabilities, r, rl, p, pl, o, output_length, a, answer_length); break;
     case MEMBERS: wuldazin_members(t, tl, m, ml, ty, o, output_length);
     }
     doors[door]++;
 
-    uint32_t number = 27;
+    uint32_t number = UNANSWERED;
     if (has_rows) {
         number = number_of(fits, count);
-        require(number == 27 || number <= (door == LAYOUT ? 7 : door == CHECK ? 24 : 26), "number of another door");
-        require(door != PLACE || number != 25, "number of another door");
+        uint32_t last = door == LAYOUT ? 7 : door == CHECK ? 24 : door == REPORT ? 27 : 26;
+        require(number == UNANSWERED || number <= last, "number of another door");
+        require(number != 25 || door == SLOTS, "number of another door");
+        require(number != 26 || door != REPORT, "number of another door");
         if (fits) look_at_rows(number, count);
+        if (door == REPORT) look_at_report(number, fits, count);
         take_back(&rows, fits ? 56 * count : 0);
         take_back(&answer, answer_length < 4 ? 0 : 16);
     }
@@ -492,7 +538,7 @@ static void one_call(void) {
         memcpy(out, output.data, 8 * written);
         if (door == MEMBERS)
             require(out[0] % 2 == 0 && out[1] % 2 == 0 && out[0] <= ml && out[1] <= ml - out[0], "part outside the table");
-        else if (number >= 1 && number <= 26) require((out[0] | out[1]) == 0, "words beside a refusal");
+        else if (number >= 1 && number <= LAST_NUMBER) require((out[0] | out[1]) == 0, "words beside a refusal");
         else if (door == SLOTS && written == 2) require((out[1] & ~out[0]) == 0, "slots covered in part and not touched");
         else if (written && door == PLACE && number == 0) look_at_leaf(out[1], list, sl);
         take_back(&output, 8 * written);
@@ -517,6 +563,7 @@ int main(int words, char **word_list) {
     build(&members, 4 * MEMBERS_MOST);
     build(&rows, 4 * ROWS_MOST);
     build(&steps, 4 * STEPS_MOST);
+    build(&report, 8 * REPORT_MOST);
     build(&output, 8 * OUTPUT_MOST);
     build(&answer, 4 * ANSWER_MOST);
     state = seed;
@@ -534,7 +581,7 @@ int main(int words, char **word_list) {
     double seconds = (end.tv_sec - start.tv_sec) + 1e-9 * (end.tv_nsec - start.tv_nsec);
 
     for (int d = 0; d < DOORS; d++) printf("%-8s %9llu calls\n", door_names[d], (unsigned long long)doors[d]);
-    for (int n = 0; n <= 26; n++) printf("number %2d %9llu\n", n, (unsigned long long)numbers[n]);
+    for (int n = 0; n <= LAST_NUMBER; n++) printf("number %2d %9llu\n", n, (unsigned long long)numbers[n]);
     printf("answer too short %llu\n", (unsigned long long)unanswered);
     printf("places that are columns %llu\n", (unsigned long long)columns);
     printf("lengths met: types %zu of %d, members %zu of %d\n", seen(types_seen, TYPES_MOST + 1), TYPES_MOST + 1,

@@ -123,11 +123,11 @@ fn difference(arena: &Arena, case: &Case, pattern: &mut Random) -> Option<String
     row_difference(&rows, arena, expected)
 }
 
-fn two<W: std::fmt::Debug>(name: &str, port: &[W], reference: &[W]) -> String {
+pub fn two<W: std::fmt::Debug>(name: &str, port: &[W], reference: &[W]) -> String {
     format!("{name} of the port {port:?}, of the reference {reference:?}")
 }
 
-fn row_difference(rows: &Guarded<u32>, arena: &Arena, expected: &Expected) -> Option<String> {
+pub fn row_difference(rows: &Guarded<u32>, arena: &Arena, expected: &Expected) -> Option<String> {
     let owed = owed_words(rows.before(), arena, expected);
     let words = rows.now();
     let at = words

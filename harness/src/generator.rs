@@ -1,6 +1,6 @@
 //! One arena for a seed and an index: sound, damaged, or made for a number.
 
-use crate::builder::Builder;
+use crate::builder::{Builder, FLOAT};
 use crate::damage;
 use crate::random::Random;
 use crate::recipes::{self, Finish};
@@ -51,6 +51,56 @@ fn small(random: &mut Random) -> Arena {
     grown(builder, plain, composite)
 }
 
+/// For the report: mostly sound, of types that hosts may share.
+pub fn mostly_shareable(seed: u64, index: u64) -> Arena {
+    let random = &mut Random::new(seed, index);
+    match random.weighted(&[70, 8, 22]) {
+        0 => shareable(random),
+        1 => {
+            let mut arena = shareable(random);
+            damage::at_random(random, &mut arena);
+            arena
+        }
+        _ => mostly_sound(seed, index),
+    }
+}
+
+/// A sound arena with arrays and structs in one another, several over the same
+/// members.
+fn shareable(random: &mut Random) -> Arena {
+    let (plain, composite) = (random.between(1, 4), random.between(2, 12));
+    let largest_member = random.pick(&[16, 64, 256, 2048, 1 << 20]);
+    let mut builder = Builder::new(random);
+    builder.usual_members = 4;
+    builder.largest_member = largest_member;
+    for _ in 0..plain {
+        match builder.random.below(4) {
+            0 => builder.word_scalar(),
+            1 => builder.atomic(),
+            2 => builder.vector(),
+            _ => builder.matrix(),
+        };
+    }
+    with_composites(builder, composite)
+}
+
+/// A float, then structs that each hold the type before them twice.
+pub fn doubled(levels: u32) -> Arena {
+    let mut types = vec![kind::SCALAR, FLOAT, 4, 0, 0, 0];
+    let mut members = Vec::new();
+    for level in 0..levels {
+        let size = 4 << level;
+        types.extend([kind::STRUCT, 2 * level, 2, 2 * size, 0, 0]);
+        members.extend([level, 0, level, size]);
+    }
+    Arena {
+        rows_len: ROW_WORDS * types.len() / TYPE_WORDS,
+        types,
+        members,
+        capabilities: 0,
+    }
+}
+
 /// A sound arena with arrays and structs in one another.
 fn nested(random: &mut Random) -> Arena {
     let (plain, composite) = (random.between(1, 4), random.between(4, 16));
@@ -64,6 +114,11 @@ fn grown(mut builder: Builder, plain: u32, composite: u32) -> Arena {
     for _ in 0..plain {
         builder.grow();
     }
+    with_composites(builder, composite)
+}
+
+/// So many arrays and structs after the others.
+fn with_composites(mut builder: Builder, composite: u32) -> Arena {
     for _ in 0..composite {
         match builder.random.one_in(3) {
             true => builder.array(),

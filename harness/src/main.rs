@@ -7,6 +7,7 @@
         feature = "slots",
         feature = "place",
         feature = "members",
+        feature = "report",
         feature = "plain"
     )),
     allow(dead_code)
@@ -47,6 +48,9 @@ mod records;
 mod reference;
 #[cfg(all(feature = "slots", feature = "place", feature = "members"))]
 mod replay;
+mod report;
+#[cfg(feature = "report")]
+mod report_calls;
 #[cfg(all(feature = "check", feature = "slots", feature = "place"))]
 mod sides;
 mod sized;
@@ -67,6 +71,7 @@ const USAGE: &str = "usage: layout COUNT [SEED]
        range COUNT [SEED] | slots COUNT [SEED]  (feature slots)
        place COUNT [SEED]                       (feature place)
        members COUNT [SEED]                     (feature members)
+       report COUNT [SEED]                      (feature report)
        plain COUNT [SEED]                       (feature plain)
        replay COUNT [SEED [STDIN STDOUT]]       (features slots, place, members)
        member_records COUNT SEED FOLDER         (features slots, place)
@@ -99,6 +104,8 @@ fn main() -> ExitCode {
         "place" => place_calls::place(first, seed),
         #[cfg(feature = "members")]
         "members" => member_calls::members(first, seed),
+        #[cfg(feature = "report")]
+        "report" => report_calls::report(first, seed),
         #[cfg(feature = "plain")]
         "plain" => plain_calls::plain(first, seed),
         #[cfg(all(feature = "slots", feature = "place", feature = "members"))]

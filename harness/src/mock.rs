@@ -138,6 +138,39 @@ unsafe extern "C" fn wuldazin_place(
     deliver(owed, types, rows, place, answer);
 }
 
+#[cfg(feature = "report")]
+#[no_mangle]
+unsafe extern "C" fn wuldazin_report(
+    types: *const u32,
+    types_len: usize,
+    members: *const u32,
+    members_len: usize,
+    capabilities: u32,
+    rows: *mut u32,
+    rows_len: usize,
+    report: *mut u64,
+    report_len: usize,
+    totals: *mut u64,
+    totals_len: usize,
+    answer: *mut u32,
+    answer_len: usize,
+) {
+    let arena = Arena {
+        types: from_raw_parts(types, types_len).to_vec(),
+        members: from_raw_parts(members, members_len).to_vec(),
+        capabilities,
+        rows_len,
+    };
+    let rows = from_raw_parts_mut(rows, rows_len);
+    let report = from_raw_parts_mut(report, report_len);
+    let totals = from_raw_parts_mut(totals, totals_len);
+    let answer = from_raw_parts_mut(answer, answer_len);
+    let outcome = crate::print::reference_of(&arena);
+    let owed = crate::report::of(&arena, outcome, report_len);
+    report.copy_from_slice(&crate::report::owed_words(report, &arena, &owed));
+    deliver(owed.expected, &arena.types, rows, totals, answer);
+}
+
 #[cfg(feature = "members")]
 #[no_mangle]
 unsafe extern "C" fn wuldazin_members(

@@ -68,6 +68,22 @@ extern "C" {
         answer: *mut u32,
         answer_len: usize,
     );
+    #[cfg(feature = "report")]
+    fn wuldazin_report(
+        types: *const u32,
+        types_len: usize,
+        members: *const u32,
+        members_len: usize,
+        capabilities: u32,
+        rows: *mut u32,
+        rows_len: usize,
+        report: *mut u64,
+        report_len: usize,
+        totals: *mut u64,
+        totals_len: usize,
+        answer: *mut u32,
+        answer_len: usize,
+    );
     #[cfg(feature = "members")]
     fn wuldazin_members(
         types: *const u32,
@@ -175,6 +191,28 @@ pub fn place(arena: &Arena, start: u32, steps: &[u32], lent: Lent) {
             start,
             steps.as_ptr(),
             steps.len(),
+            lent.output.as_mut_ptr(),
+            lent.output.len(),
+            lent.answer.as_mut_ptr(),
+            lent.answer.len(),
+        )
+    }
+}
+
+#[cfg(feature = "report")]
+pub fn report(arena: &Arena, report: &mut [u64], lent: Lent) {
+    // As above.
+    unsafe {
+        wuldazin_report(
+            arena.types.as_ptr(),
+            arena.types.len(),
+            arena.members.as_ptr(),
+            arena.members.len(),
+            arena.capabilities,
+            lent.rows.as_mut_ptr(),
+            lent.rows.len(),
+            report.as_mut_ptr(),
+            report.len(),
             lent.output.as_mut_ptr(),
             lent.output.len(),
             lent.answer.as_mut_ptr(),

@@ -16,6 +16,7 @@ pub enum Command {
     Slots,
     Range,
     Place,
+    Report,
     Plain,
     Clear,
     Unknown,

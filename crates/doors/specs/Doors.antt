@@ -15,6 +15,8 @@ use Rattle.place.specs.declared.PlaceAnswer.{PlaceAnswer}
 use Rattle.place.specs.declared.PlaceAnswer.the-variants as place
 use Rattle.plain_types.specs.declared.PlainAnswer.{PlainAnswer}
 use Rattle.plain_types.specs.declared.PlainAnswer.the-variants as plain
+use Rattle.report.specs.declared.ReportAnswer.{ReportAnswer}
+use Rattle.report.specs.declared.ReportAnswer.the-variants as report
 
 -- ---- 01's number and values for each answer
 abbrev pub answerWords : Outcome → List ℕ
@@ -32,6 +34,10 @@ placeOutcome (place.Refused number ty member detail) = Refused number ty member 
 abbrev pub plainOutcome : PlainAnswer → Outcome
 plainOutcome (plain.Found size alignment step) = Accepted
 plainOutcome (plain.Refused number ty member detail) = Refused number ty member detail
+
+abbrev pub totalsOutcome : ReportAnswer → Outcome
+totalsOutcome (report.Totals carried wasted) = Accepted
+totalsOutcome (report.Refused number ty member detail) = Refused number ty member detail
 
 -- ---- the words beside it; zeros on a refusal
 -- the two masks
@@ -51,6 +57,14 @@ byteOf (place.Refused number ty member detail) = 0
 abbrev pub leafOf : PlaceAnswer → ℕ
 leafOf (place.Found byte leaf) = leaf
 leafOf (place.Refused number ty member detail) = 0
+
+abbrev pub carriedOf : ReportAnswer → ℕ
+carriedOf (report.Totals carried wasted) = carried
+carriedOf (report.Refused number ty member detail) = 0
+
+abbrev pub wastedOf : ReportAnswer → ℕ
+wastedOf (report.Totals carried wasted) = wasted
+wastedOf (report.Refused number ty member detail) = 0
 
 abbrev pub numbersOf : PlainAnswer → List ℕ
 numbersOf (plain.Found size alignment step) = size ∷ alignment ∷ step ∷ []

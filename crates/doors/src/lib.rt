@@ -2,6 +2,7 @@
 use place::PlaceAnswer;
 use plain_types::PlainAnswer;
 use records::Outcome;
+use report::ReportAnswer;
 use slots::SlotsAnswer;
 ghost use mathlib.Core.Path.{_≡_};
 ghost use mathlib.Core.List.{_∷_};
@@ -16,7 +17,8 @@ ghost use Rattle.slots.specs.Slots.{rangeSlots, partAnswer};
 ghost use Rattle.immediates.specs.Immediates.{slotsAnswer};
 ghost use Rattle.place.specs.Place.{lookupAnswer};
 ghost use Rattle.plain_types.specs.PlainTypes.{plainAnswer};
-ghost use Rattle.doors.specs.Doors.{slotsOutcome, placeOutcome, plainOutcome, touchedOf, partlyOf, byteOf, leafOf, partStart, partLength, withAnswer, withTwo, withNumbers, withMasks};
+ghost use Rattle.report.specs.Report.{reportAnswer, reportRows, reportWords};
+ghost use Rattle.doors.specs.Doors.{slotsOutcome, placeOutcome, totalsOutcome, plainOutcome, touchedOf, partlyOf, byteOf, leafOf, carriedOf, wastedOf, partStart, partLength, withAnswer, withTwo, withNumbers, withMasks};
 
 fn put_four(answer: &mut [u32], a: u32, b: u32, c: u32, d: u32)
     requires { ⌜ 4 ≤ length (now answer) ⌝ }
@@ -167,6 +169,56 @@ fn leaf_of(place: PlaceAnswer) -> u32
     }
 }
 
+fn totals_outcome(totals: ReportAnswer) -> Outcome
+    ensures { λ r. ⌜ r ≡ totalsOutcome totals ⌝ }
+{
+    match totals {
+        ReportAnswer::Totals {
+            carried: _,
+            wasted: _,
+        } => Outcome::Accepted,
+        ReportAnswer::Refused {
+            number,
+            ty,
+            member,
+            detail,
+        } => Outcome::Refused {
+            number,
+            ty,
+            member,
+            detail,
+        },
+    }
+}
+
+fn carried_of(totals: ReportAnswer) -> u64
+    ensures { λ r. ⌜ r ≡ carriedOf totals ⌝ }
+{
+    match totals {
+        ReportAnswer::Totals { carried, wasted: _ } => carried,
+        ReportAnswer::Refused {
+            number: _,
+            ty: _,
+            member: _,
+            detail: _,
+        } => 0,
+    }
+}
+
+fn wasted_of(totals: ReportAnswer) -> u64
+    ensures { λ r. ⌜ r ≡ wastedOf totals ⌝ }
+{
+    match totals {
+        ReportAnswer::Totals { carried: _, wasted } => wasted,
+        ReportAnswer::Refused {
+            number: _,
+            ty: _,
+            member: _,
+            detail: _,
+        } => 0,
+    }
+}
+
 fn plain_outcome(found: PlainAnswer) -> Outcome
     ensures { λ r. ⌜ r ≡ plainOutcome found ⌝ }
 {
@@ -303,6 +355,27 @@ pub extern "C" fn wuldazin_place(
     let found = place::lookup(types, members, capabilities, rows, start, steps);
     put_two(place, byte_of(found), leaf_of(found) as u64);
     put_answer(answer, place_outcome(found));
+}
+
+// The bytes carried and the bytes wasted of each host-shareable struct, two words a type, and the totals over all.
+#[no_mangle]
+pub extern "C" fn wuldazin_report(
+    types: &[u32],
+    members: &[u32],
+    capabilities: u32,
+    rows: &mut [u32],
+    report: &mut [u64],
+    totals: &mut [u64],
+    answer: &mut [u32],
+)
+    ensures { λ _. ⌜ now (rows .exit) ≡ reportRows capabilities (now (types .entry)) (now (members .entry)) (now (rows .entry)) (now (report .entry)) ⌝ }
+    ensures { λ _. ⌜ now (report .exit) ≡ reportWords capabilities (now (types .entry)) (now (members .entry)) (now (rows .entry)) (now (report .entry)) ⌝ }
+    ensures { λ _. ⌜ now (totals .exit) ≡ withTwo (now (totals .entry)) (carriedOf (reportAnswer capabilities (now (types .entry)) (now (members .entry)) (now (rows .entry)) (now (report .entry)))) (wastedOf (reportAnswer capabilities (now (types .entry)) (now (members .entry)) (now (rows .entry)) (now (report .entry)))) ⌝ }
+    ensures { λ _. ⌜ now (answer .exit) ≡ withAnswer (now (answer .entry)) (totalsOutcome (reportAnswer capabilities (now (types .entry)) (now (members .entry)) (now (rows .entry)) (now (report .entry)))) ⌝ }
+{
+    let found = report::report(types, members, capabilities, rows, report);
+    put_two(totals, carried_of(found), wasted_of(found));
+    put_answer(answer, totals_outcome(found));
 }
 
 // Size, alignment and column step of a shape at a width.

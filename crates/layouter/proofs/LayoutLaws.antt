@@ -16,7 +16,7 @@ use Rattle.records.specs.declared.Outcome.the-variants.{Accepted, Refused}
 use Rattle.records.proofs.ResultLaws.{and-then-ok}
 use Rattle.records.proofs.TableLaws.{table-value, table-above, value-ok, flat-length, flat-word, all-ok, accepted-all, also-accepted, outcome-accepted}
 use Rattle.rows.specs.Rows.{rowWord, withRow, cleared}
-use Rattle.rows.proofs.RowLaws.{flat-more, drop-row}
+use Rattle.rows.proofs.RowLaws.{flat-more, drop-part}
 use Rattle.type_alignment.specs.declared.TypeLayout.{TypeLayout}
 use Rattle.type_alignment.specs.TypeAlignment.{layoutsIn}
 use Rattle.type_layout.specs.declared.Laid.{Laid}
@@ -78,10 +78,10 @@ module _ (ts ms : List ℕ) where
       written = w ∙ rw (e, is-layout) refl
 
       pub row-written : take ((i + 1) * rowWords) rows′ ≡ flat (layoutRowAt ts ms) (i + 1)
-      row-written = rw written (flat-more rows (layoutRowAt ts ms) i so-far refl room)
+      row-written = rw written (flat-more rowWords rows (layoutRowAt ts ms) i so-far refl room)
 
       pub rest-kept : (n : ℕ) → i < n → drop (n * rowWords) rows′ ≡ drop (n * rowWords) rows
-      rest-kept n h = rw written (drop-row rows (layoutRowAt ts ms i) (i * rowWords) refl room (n * rowWords) (omega arith))
+      rest-kept n h = rw written (drop-part rowWords rows (layoutRowAt ts ms i) (i * rowWords) refl room (n * rowWords) (omega arith))
 
 -- zeros before what is as it was
 pub zeros-kept : (n : ℕ) (lent : List ℕ) {rows rows′ end : List ℕ} → rows′ ≡ rows → drop n rows ≡ drop n lent

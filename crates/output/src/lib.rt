@@ -125,6 +125,21 @@ pub fn put_place(out: &mut Buffer, at: usize, byte: u64, leaf: u32) -> usize {
     put_byte(out, b, b'\n')
 }
 
+// The totals, then a line for each type: its number and its two words of the report.
+pub fn put_report(out: &mut Buffer, at: usize, carried: u64, wasted: u64, report: &[u64]) -> usize {
+    let mut end = put_named(out, at, b"report", carried);
+    end = put_number(out, end, b' ', wasted);
+    let mut i = 0;
+    while i < report.len() {
+        if i % 2 == 0 {
+            end = put_number(out, end, b'\n', (i / 2) as u64);
+        }
+        end = put_number(out, end, b' ', report[i]);
+        i += 1;
+    }
+    put_byte(out, end, b'\n')
+}
+
 pub fn put_plain(out: &mut Buffer, at: usize, size: u32, alignment: u32, step: u32) -> usize {
     put_words(out, at, b"plain", &[size, alignment, step], false)
 }
@@ -149,9 +164,10 @@ pub fn usage_line(command: arguments::Command) -> u32 {
         arguments::Command::Slots => 13,
         arguments::Command::Range => 14,
         arguments::Command::Place => 15,
-        arguments::Command::Plain => 16,
-        arguments::Command::Clear => 17,
-        arguments::Command::Unknown => 18,
+        arguments::Command::Report => 16,
+        arguments::Command::Plain => 17,
+        arguments::Command::Clear => 18,
+        arguments::Command::Unknown => 19,
     }
 }
 
@@ -171,9 +187,10 @@ fn put_why(out: &mut Buffer, at: usize, why: u32) -> usize {
 : slots takes a type and an offset
 : range takes an offset and a size
 : place takes a type and at most 1024 steps
+: report takes no number
 : plain takes a shape and a width
 : clear takes no number
-: no such command; there are caps, type, member, check, members, slots, range, place, plain and clear
+: no such command; there are caps, type, member, check, members, slots, range, place, report, plain and clear
 ";
     let mut end = at;
     let mut line: u32 = 2;

@@ -13,9 +13,13 @@ rowWord rows k j = getD rows (k * rowWords + j) 0
 abbrev pub layoutRow : (size alignment : ℕ) → List ℕ
 layoutRow size alignment = size ∷ alignment ∷ 0 ∷ 0 ∷ 0 ∷ 0 ∷ 0 ∷ 0 ∷ 0 ∷ 0 ∷ 0 ∷ 0 ∷ 0 ∷ 0 ∷ []
 
--- the words with those of one row, from `at` on, replaced
-abbrev pub withRow : List ℕ → ℕ → List ℕ → List ℕ
-withRow words at row = take at words ++ row ++ drop (at + rowWords) words
+-- the words with `width` of them, from `at` on, replaced
+abbrev pub withPart : (width : ℕ) → List ℕ → (at : ℕ) → (part : List ℕ) → List ℕ
+withPart width words at part = take at words ++ part ++ drop (at + width) words
+
+-- the words with those of one row replaced
+abbrev pub withRow : List ℕ → (at : ℕ) → (row : List ℕ) → List ℕ
+withRow = withPart rowWords
 
 -- the words with the first n zero
 abbrev pub cleared : List ℕ → ℕ → List ℕ

@@ -4,6 +4,7 @@ use commands::Session;
 use output::Buffer;
 use place::PlaceAnswer;
 use plain_types::PlainAnswer;
+use report::ReportAnswer;
 use text::Line;
 
 fn put_check(
@@ -50,6 +51,37 @@ fn put_place(
     match place::lookup(types, members, capabilities, &mut rows, start, steps) {
         PlaceAnswer::Found { byte, leaf } => output::put_place(out, at, byte, leaf),
         PlaceAnswer::Refused {
+            number,
+            ty,
+            member,
+            detail,
+        } => output::put_refusal(out, at, number, ty, member, detail),
+    }
+}
+
+// The first words of a report.
+fn first_words(report: &[u64], count: usize) -> &[u64] {
+    if report.len() < count {
+        return &report[..0];
+    }
+    &report[0..count]
+}
+
+fn put_report(
+    out: &mut Buffer,
+    at: usize,
+    types: &[u32],
+    members: &[u32],
+    capabilities: u32,
+) -> usize {
+    let mut rows = [0u32; 14336];
+    let mut words = [0u64; 2048];
+    match report::report(types, members, capabilities, &mut rows, &mut words) {
+        ReportAnswer::Totals { carried, wasted } => {
+            let own = first_words(&words, records::type_count(types) * 2);
+            output::put_report(out, at, carried, wasted, own)
+        }
+        ReportAnswer::Refused {
             number,
             ty,
             member,
@@ -106,6 +138,7 @@ fn put_answer(
                 commands::part(numbers, 1, steps as usize + 1),
             )
         }
+        Line::Report => put_report(out, at, types, members, capabilities),
         Line::Plain { shape, width } => put_plain(out, at, shape, width),
         _ => at,
     }

@@ -20,14 +20,15 @@ same [] (y ∷ t) = false
 same (x ∷ s) [] = false
 same (x ∷ s) (y ∷ t) = eqb x y && same s t
 
--- range, place, plain, clear
+-- range, place, report, plain, clear
 unfoldable pub lastCommandOf : List ℕ → Command
 lastCommandOf w =
     pick (same w (114 ∷ 97 ∷ 110 ∷ 103 ∷ 101 ∷ [])) command.Range
     (pick (same w (112 ∷ 108 ∷ 97 ∷ 99 ∷ 101 ∷ [])) command.Place
+    (pick (same w (114 ∷ 101 ∷ 112 ∷ 111 ∷ 114 ∷ 116 ∷ [])) command.Report
     (pick (same w (112 ∷ 108 ∷ 97 ∷ 105 ∷ 110 ∷ [])) command.Plain
     (pick (same w (99 ∷ 108 ∷ 101 ∷ 97 ∷ 114 ∷ [])) command.Clear
-    command.Unknown)))
+    command.Unknown))))
 
 -- check, members, slots
 unfoldable pub laterCommandOf : List ℕ → Command
@@ -55,6 +56,7 @@ leastOf command.Members = 1
 leastOf command.Slots = 2
 leastOf command.Range = 2
 leastOf command.Place = 1
+leastOf command.Report = 0
 leastOf command.Plain = 2
 leastOf command.Clear = 0
 leastOf command.Unknown = 1
@@ -68,6 +70,7 @@ mostOf command.Members = 1
 mostOf command.Slots = 2
 mostOf command.Range = 2
 mostOf command.Place = 1025
+mostOf command.Report = 0
 mostOf command.Plain = 2
 mostOf command.Clear = 0
 mostOf command.Unknown = 0
@@ -94,6 +97,7 @@ lineBy command.Members ns = line.Members (getD ns 0 0)
 lineBy command.Slots ns = line.Slots (getD ns 0 0) (getD ns 1 0)
 lineBy command.Range ns = line.Range (getD ns 0 0) (getD ns 1 0)
 lineBy command.Place ns = line.Place (getD ns 0 0) (length ns - 1)
+lineBy command.Report ns = line.Report
 lineBy command.Plain ns = line.Plain (getD ns 0 0) (getD ns 1 0)
 lineBy command.Clear ns = line.Clear
 lineBy command.Unknown ns = line.Nothing

@@ -39,6 +39,7 @@ pub enum Line {
         start: u32,
         steps: u32,
     },
+    Report,
     Plain {
         shape: u32,
         width: u32,
@@ -83,6 +84,8 @@ pub fn command_of(word: &[u8]) -> Command
         0x165676e6172 => Command::Range,
         // place
         0x16563616c70 => Command::Place,
+        // report
+        0x174726f706572 => Command::Report,
         // plain
         0x16e69616c70 => Command::Plain,
         // clear
@@ -112,6 +115,7 @@ fn usage_of(command: Command) -> Usage
             least: 1,
             most: 1025,
         },
+        Command::Report => Usage { least: 0, most: 0 },
         Command::Plain => Usage { least: 2, most: 2 },
         Command::Clear => Usage { least: 0, most: 0 },
         Command::Unknown => Usage { least: 1, most: 0 },
@@ -144,6 +148,7 @@ fn line_by(command: Command, numbers: &[u32]) -> Line
             let steps = (numbers.len() - 1) as u32;
             Line::Place { start: a, steps }
         }
+        Command::Report => Line::Report,
         Command::Plain => Line::Plain { shape: a, width: b },
         Command::Clear => Line::Clear,
         Command::Unknown => Line::Nothing,

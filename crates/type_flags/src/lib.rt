@@ -181,7 +181,7 @@ pub fn pointer_to(base: u32, space: u32) -> Flagged
 }
 
 // Whether type t is a struct; its kind tells.
-fn is_struct(types: &[u32], t: u32) -> bool
+pub fn is_struct(types: &[u32], t: u32) -> bool
     ensures { λ r. ⌜ r ≡ isStruct (typeInner (now (types .entry)) t) ⌝ }
 {
     records::type_word(types, t, 0) == records::STRUCT_KIND

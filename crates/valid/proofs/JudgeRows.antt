@@ -2,18 +2,18 @@
 -- Assumes nothing.
 use mathlib.Core.Path.{_≡_, refl, sym, ap, subst, fun-ext, _∙_}
 use mathlib.Core.List.{List}
-use Prim.Native.Nat.{ℕ, suc, _+_, _-_, _*_, _≤_, _<_}
+use Prim.Native.Nat.{ℕ, suc, _+_, _*_, _≤_, _<_}
 use native.Mathlib.Omega.{arith}
 use native.Mathlib.Decide.{decLe}
 use lib.ListN.{length, getD, take, drop, List·getD-eq-default}
-use lib.Seq.{getD-drop, getD-take, drop-drop}
+use lib.Seq.{getD-drop, getD-take}
 use Rattle.records.specs.Result.{Result, err, ok}
 use Rattle.records.specs.Record.{decoded, typeInner, structMembers}
 use Rattle.records.specs.Fields.{rowWords}
 use Rattle.records.specs.Table.{table, resultAt, flat}
 use Rattle.records.proofs.TableLaws.{table-value, table-above, value-ok, flat-length, flat-word}
 use Rattle.rows.specs.Rows.{rowWord, withRow}
-use Rattle.rows.proofs.RowLaws.{flat-more, drop-row}
+use Rattle.rows.proofs.RowLaws.{flat-more, drop-part}
 use Rattle.type_alignment.specs.declared.TypeLayout.{TypeLayout}
 use Rattle.type_alignment.specs.TypeAlignment.{layoutsIn}
 use Rattle.layouter.specs.Layouter.{layout, layoutRowAt, layoutRows}
@@ -43,12 +43,6 @@ module _ (r : Judged) (at : ℕ) (before after : List ℕ) where
 pub row-length : (r : Row) → length (wordsOf r) ≡ rowWords
 unfolding wordsOf
 row-length r = refl
-
--- lists that agree from a on agree from any later place on
-pub drop-later : (xs ys : List ℕ) (a b : ℕ) → drop a xs ≡ drop a ys → a ≤ b → drop b xs ≡ drop b ys
-drop-later xs ys a b e h =
-    let split : a + (b - a) ≡ b = omega arith in
-    rw split at (sym (drop-drop (b - a) a xs) ∙ ap (drop (b - a)) e ∙ drop-drop (b - a) a ys)
 
 module _ (c : ℕ) (ts ms : List ℕ) where
   whole : (i : ℕ) → length (rowAt c ts ms i) ≡ rowWords
@@ -137,7 +131,7 @@ module _ (c : ℕ) (ts ms : List ℕ) where
 
       module _ (room : i * rowWords + rowWords ≤ length rows) where
         pub row-written : take ((i + 1) * rowWords) rows′ ≡ flat (rowAt c ts ms) (i + 1)
-        row-written = rw written (flat-more rows (rowAt c ts ms) i so-far (whole i) room)
+        row-written = rw written (flat-more rowWords rows (rowAt c ts ms) i so-far (whole i) room)
 
         pub rest-kept : drop ((i + 1) * rowWords) rows′ ≡ drop ((i + 1) * rowWords) rows
-        rest-kept = rw written (drop-row rows (rowAt c ts ms i) (i * rowWords) (whole i) room ((i + 1) * rowWords) (omega arith))
+        rest-kept = rw written (drop-part rowWords rows (rowAt c ts ms i) (i * rowWords) (whole i) room ((i + 1) * rowWords) (omega arith))

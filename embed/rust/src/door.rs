@@ -61,6 +61,21 @@ extern "C" {
         answer: *mut u32,
         answer_length: usize,
     );
+    pub fn wuldazin_report(
+        types: *const u32,
+        types_length: usize,
+        members: *const u32,
+        members_length: usize,
+        capabilities: u32,
+        rows: *mut u32,
+        rows_length: usize,
+        report: *mut u64,
+        report_length: usize,
+        totals: *mut u64,
+        totals_length: usize,
+        answer: *mut u32,
+        answer_length: usize,
+    );
     pub fn wuldazin_plain(
         shape: u32,
         width: u32,

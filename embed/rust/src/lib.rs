@@ -1,4 +1,5 @@
-//! Layouts, verdicts, immediate slots and places of GPU type tables: safe calls to the proved static library.
+//! Layouts, verdicts, immediate slots, places and a report of bytes for GPU type tables: safe calls to the proved static
+//! library.
 //!
 //! Tables are slices of words, as wuldazin.h describes them; lengths and words may be anything. `rows` is lent for the
 //! result rows, [`ROW_WORDS`] a type: filled where the arena is accepted, zeros on numbers 2 to 24, untouched on number 1.
@@ -14,6 +15,7 @@ pub use row::{flags, verdict, Row, Verdict};
 pub const TYPE_WORDS: usize = 6;
 pub const MEMBER_WORDS: usize = 2;
 pub const ROW_WORDS: usize = 14;
+pub const REPORT_WORDS: usize = 2;
 pub const MOST_TYPES: usize = 1024;
 pub const MOST_MEMBERS: usize = 4096;
 
@@ -91,6 +93,13 @@ pub struct Plain {
     pub size: u32,
     pub alignment: u32,
     pub step: u32,
+}
+
+/// Bytes that lie in leaves and bytes that lie in none, over all host-shareable structs.
+#[derive(Clone, Copy, Debug, PartialEq, Eq)]
+pub struct Totals {
+    pub carried: u64,
+    pub wasted: u64,
 }
 
 /// Sizes and alignments alone, with no capability asked for. Numbers 1 to 7.
@@ -235,6 +244,42 @@ pub fn place(
     })
 }
 
+/// The bytes that lie in leaves and those of the span that lie in none, for each struct with [`flags::HOST_SHAREABLE`]; a
+/// runtime array counts as one element. Judges the arena first. Numbers 1 to 24 and 27.
+///
+/// `report` is lent for [`REPORT_WORDS`] words a type, bytes carried and bytes wasted, 0 for a type that is no such struct:
+/// filled where the arena is accepted, untouched on number 1, which a shorter one gives too, and zeros on every other
+/// number. Words after those of the arena's types are never written. A struct in a struct has its own share in the totals.
+pub fn report(
+    types: &[u32],
+    members: &[u32],
+    capabilities: u32,
+    rows: &mut [u32],
+    report: &mut [u64],
+) -> Result<Totals, Refusal> {
+    let (mut totals, mut answer) = ([0; 2], [0; 4]);
+    // SAFETY: as in layout.
+    unsafe {
+        door::wuldazin_report(
+            types.as_ptr(),
+            types.len(),
+            members.as_ptr(),
+            members.len(),
+            capabilities,
+            rows.as_mut_ptr(),
+            rows.len(),
+            report.as_mut_ptr(),
+            report.len(),
+            totals.as_mut_ptr(),
+            totals.len(),
+            answer.as_mut_ptr(),
+            answer.len(),
+        )
+    }
+    let [carried, wasted] = totals;
+    Refusal::of(answer).map(|()| Totals { carried, wasted })
+}
+
 /// Size, alignment and column step of a plain type, whatever its scalar kind. Shape 0 is the scalar, 1 to 3 are vec2 to
 /// vec4, 4 to 12 the matrices: 4 + 3 * (columns - 2) + (rows - 2). Widths are 1, 2, 4 and 8. Number 2 for another shape or
 /// width.
@@ -281,3 +326,5 @@ pub fn members<'a>(types: &[u32], members: &'a [u32], ty: u32) -> &'a [u32] {
 
 #[cfg(test)]
 mod marked;
+#[cfg(test)]
+mod smallest_reports;

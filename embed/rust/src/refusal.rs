@@ -5,7 +5,7 @@ use std::fmt;
 /// The first thing refused.
 #[derive(Clone, Copy, Debug, PartialEq, Eq, Hash)]
 pub struct Refusal {
-    /// 1 to 26.
+    /// 1 to 27.
     pub number: u32,
     /// The first type refused; 0 for 1, 25 and 26, and for 2 of [`crate::plain`].
     pub ty: u32,
@@ -15,9 +15,9 @@ pub struct Refusal {
     pub detail: u32,
 }
 
-const MEANINGS: [&str; 27] = [
+const MEANINGS: [&str; 28] = [
     "accepted",
-    "table length: not whole records, too many, rows too short, or capability bits above 12",
+    "table length: not whole records, too many, rows or report too short, or capability bits above 12",
     "field outside its set, or member rows past the member table; no such plain shape or width",
     "pointer or binding-array base outside the arena",
     "array's count or measure above 2,147,483,647",
@@ -43,6 +43,7 @@ const MEANINGS: [&str; 27] = [
     "binding array of external images",
     "slots: a part ends past byte 256, or an offset sum leaves 32 bits",
     "no such type or place",
+    "host-shareable struct reaches an array with a stride below its element's size",
 ];
 
 impl Refusal {

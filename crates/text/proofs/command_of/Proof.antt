@@ -42,19 +42,23 @@ returns-8 c = named _ (112 ∷ 108 ∷ 97 ∷ 99 ∷ 101 ∷ []) (c .before .bef
 
 returns-9 : tie.Need-returns-9
 unfolding same packed lastCommandOf laterCommandOf commandOf
-returns-9 c = named _ (112 ∷ 108 ∷ 97 ∷ 105 ∷ 110 ∷ []) (c .before .before .shared-slice-known .given) refl (sym (c .before .name-of .ensures) ∙ c .match .keys9)
+returns-9 c = named _ (114 ∷ 101 ∷ 112 ∷ 111 ∷ 114 ∷ 116 ∷ []) (c .before .before .shared-slice-known .given) refl (sym (c .before .name-of .ensures) ∙ c .match .keys9)
 
 returns-10 : tie.Need-returns-10
 unfolding same packed lastCommandOf laterCommandOf commandOf
-returns-10 c = named _ (99 ∷ 108 ∷ 101 ∷ 97 ∷ 114 ∷ []) (c .before .before .shared-slice-known .given) refl (sym (c .before .name-of .ensures) ∙ c .match .keys10)
+returns-10 c = named _ (112 ∷ 108 ∷ 97 ∷ 105 ∷ 110 ∷ []) (c .before .before .shared-slice-known .given) refl (sym (c .before .name-of .ensures) ∙ c .match .keys10)
 
 returns-11 : tie.Need-returns-11
+unfolding same packed lastCommandOf laterCommandOf commandOf
+returns-11 c = named _ (99 ∷ 108 ∷ 101 ∷ 97 ∷ 114 ∷ []) (c .before .before .shared-slice-known .given) refl (sym (c .before .name-of .ensures) ∙ c .match .keys11)
+
+returns-12 : tie.Need-returns-12
 unfolding packed nameOf lastCommandOf laterCommandOf commandOf
-returns-11 c =
+returns-12 c =
     let w = now (c .before .before .before .args .word) in
     let n = c .before .name-of .ensures in
     let r = c .match .rest in
-    rw (unnamed w (99 ∷ 97 ∷ 112 ∷ 115 ∷ []) (λ e. r .0 .0 .0 .0 .0 .0 .0 .0 .0 .1 (n ∙ e)), unnamed w (116 ∷ 121 ∷ 112 ∷ 101 ∷ []) (λ e. r .0 .0 .0 .0 .0 .0 .0 .0 .1 (n ∙ e)), unnamed w (109 ∷ 101 ∷ 109 ∷ 98 ∷ 101 ∷ 114 ∷ []) (λ e. r .0 .0 .0 .0 .0 .0 .0 .1 (n ∙ e)), unnamed w (99 ∷ 104 ∷ 101 ∷ 99 ∷ 107 ∷ []) (λ e. r .0 .0 .0 .0 .0 .0 .1 (n ∙ e)), unnamed w (109 ∷ 101 ∷ 109 ∷ 98 ∷ 101 ∷ 114 ∷ 115 ∷ []) (λ e. r .0 .0 .0 .0 .0 .1 (n ∙ e)), unnamed w (115 ∷ 108 ∷ 111 ∷ 116 ∷ 115 ∷ []) (λ e. r .0 .0 .0 .0 .1 (n ∙ e)), unnamed w (114 ∷ 97 ∷ 110 ∷ 103 ∷ 101 ∷ []) (λ e. r .0 .0 .0 .1 (n ∙ e)), unnamed w (112 ∷ 108 ∷ 97 ∷ 99 ∷ 101 ∷ []) (λ e. r .0 .0 .1 (n ∙ e)), unnamed w (112 ∷ 108 ∷ 97 ∷ 105 ∷ 110 ∷ []) (λ e. r .0 .1 (n ∙ e)), unnamed w (99 ∷ 108 ∷ 101 ∷ 97 ∷ 114 ∷ []) (λ e. r .1 (n ∙ e)))
+    rw (unnamed w (99 ∷ 97 ∷ 112 ∷ 115 ∷ []) (λ e. r .0 .0 .0 .0 .0 .0 .0 .0 .0 .0 .1 (n ∙ e)), unnamed w (116 ∷ 121 ∷ 112 ∷ 101 ∷ []) (λ e. r .0 .0 .0 .0 .0 .0 .0 .0 .0 .1 (n ∙ e)), unnamed w (109 ∷ 101 ∷ 109 ∷ 98 ∷ 101 ∷ 114 ∷ []) (λ e. r .0 .0 .0 .0 .0 .0 .0 .0 .1 (n ∙ e)), unnamed w (99 ∷ 104 ∷ 101 ∷ 99 ∷ 107 ∷ []) (λ e. r .0 .0 .0 .0 .0 .0 .0 .1 (n ∙ e)), unnamed w (109 ∷ 101 ∷ 109 ∷ 98 ∷ 101 ∷ 114 ∷ 115 ∷ []) (λ e. r .0 .0 .0 .0 .0 .0 .1 (n ∙ e)), unnamed w (115 ∷ 108 ∷ 111 ∷ 116 ∷ 115 ∷ []) (λ e. r .0 .0 .0 .0 .0 .1 (n ∙ e)), unnamed w (114 ∷ 97 ∷ 110 ∷ 103 ∷ 101 ∷ []) (λ e. r .0 .0 .0 .0 .1 (n ∙ e)), unnamed w (112 ∷ 108 ∷ 97 ∷ 99 ∷ 101 ∷ []) (λ e. r .0 .0 .0 .1 (n ∙ e)), unnamed w (114 ∷ 101 ∷ 112 ∷ 111 ∷ 114 ∷ 116 ∷ []) (λ e. r .0 .0 .1 (n ∙ e)), unnamed w (112 ∷ 108 ∷ 97 ∷ 105 ∷ 110 ∷ []) (λ e. r .0 .1 (n ∙ e)), unnamed w (99 ∷ 108 ∷ 101 ∷ 97 ∷ 114 ∷ []) (λ e. r .1 (n ∙ e)))
 
 pub command-of-spec : {M : Type 1} → statement M
 command-of-spec =
@@ -71,4 +75,5 @@ command-of-spec =
     returns-8
     returns-9
     returns-10
-    returns-11)
+    returns-11
+    returns-12)

@@ -27,8 +27,8 @@ returns-7 c = rw (c .enum-told7 .given .1, c .before .before .word-at2 .ensures,
 returns-8 : tie.Need-returns-8
 returns-8 c = rw (c .enum-told8 .given .1, c .before .before .before .word-at .ensures)
 
-returns-9 : tie.Need-returns-9
-returns-9 c = rw (c .enum-told9 .given .1, c .before .before .word-at2 .ensures, c .before .before .before .word-at .ensures)
+returns-10 : tie.Need-returns-10
+returns-10 c = rw (c .enum-told10 .given .1, c .before .before .word-at2 .ensures, c .before .before .before .word-at .ensures)
 
 pub line-by-spec : {M : Type 1} → statement M
 line-by-spec =
@@ -53,6 +53,7 @@ line-by-spec =
     (λ c. search needs)
     (λ c. search needs)
     (λ c. search needs)
+    (λ c. search needs)
     returns
     returns-2
     returns-3
@@ -61,6 +62,7 @@ line-by-spec =
     returns-6
     returns-7
     returns-8
-    returns-9
+    (λ c. search needs)
+    returns-10
     (λ c. search needs)
     (λ c. search needs))

@@ -13,8 +13,9 @@ use Rattle.records.specs.Fields.{recordAt}
 use Rattle.records.specs.Table.{firstRefusal, flat}
 use Rattle.records.specs.declared.Outcome.the-variants.{Accepted}
 use Rattle.records.proofs.TableLaws.{all-ok, stays}
+use Rattle.rows.proofs.RowLaws.{drop-later}
 use Rattle.valid.specs.Arena.{judgedAt, rowAt, arenaRows}
-use Rattle.valid.proofs.JudgeRows.{drop-later, own-layout, refused-at, made-at, row-written, rest-kept}
+use Rattle.valid.proofs.JudgeRows.{own-layout, refused-at, made-at, row-written, rest-kept}
 use Rattle.validate_struct.proofs.OwnMembers.{members-earlier}
 use Rattle.valid.proofs.judge_all.Statement.{statement}
 use Rattle.valid.proofs.judge_all.Tie as tie
