@@ -163,13 +163,25 @@ enum {
     WULDAZIN_NARROW_STRIDE = 27            /* host-shareable struct reaches an array with a stride below its element's size */
 };
 
-/* Sizes and alignments alone: rows get size, alignment and twelve zeros a type. Numbers 1 to 7; asks for no capability. */
+/* Sizes and alignments alone: rows get size, alignment and twelve zeros a type. Numbers 1 to 7. It takes no capability word, for
+ * hosts that do not know it yet. */
 void wuldazin_layout(const uint32_t *types, size_t types_length,
                      const uint32_t *members, size_t members_length,
                      uint32_t *rows, size_t rows_length,
                      uint32_t *answer, size_t answer_length);
 
-/* Judges an arena. Numbers 1 to 24. */
+/* Judges an arena. Numbers 1 to 24. rows may hold anything, laid out or not: no word of it is read before it is written, and the
+ * answer and the rows depend on the tables, the capability word and rows_length alone. Where the capability word is in order, what
+ * wuldazin_layout refuses is refused with the same answer. So this is the whole check, and the fastest one: a host that has no use
+ * for laid-out rows calls it and nothing else. */
+void wuldazin_judge(const uint32_t *types, size_t types_length,
+                    const uint32_t *members, size_t members_length,
+                    uint32_t capabilities,
+                    uint32_t *rows, size_t rows_length,
+                    uint32_t *answer, size_t answer_length);
+
+/* Tests the capability word, then does what wuldazin_layout and, where that accepts, wuldazin_judge do one after the other. The
+ * answer and the rows are those of wuldazin_judge. Numbers 1 to 24. */
 void wuldazin_check(const uint32_t *types, size_t types_length,
                     const uint32_t *members, size_t members_length,
                     uint32_t capabilities,

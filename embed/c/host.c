@@ -44,9 +44,9 @@ static void expect(const char *what, uint64_t found, uint64_t expected) {
 
 static const uint32_t *row(uint32_t ty) { return rows + ty * WULDAZIN_ROW_WORDS; }
 
-static void check(uint32_t number) {
-    wuldazin_check(types, LENGTH(types), members, LENGTH(members), 0, rows, LENGTH(rows), answer, LENGTH(answer));
-    expect("check", answer[0], number);
+static void judge(uint32_t number) {
+    wuldazin_judge(types, LENGTH(types), members, LENGTH(members), 0, rows, LENGTH(rows), answer, LENGTH(answer));
+    expect("judge", answer[0], number);
 }
 
 /* A column is rows times width bytes long, every other leaf as long as its type. */
@@ -107,7 +107,7 @@ static void look_at_report(void) {
 
 int main(void) {
     char name[64];
-    check(WULDAZIN_ACCEPTED);
+    judge(WULDAZIN_ACCEPTED);
     expect("storage verdict", row(KERNEL)[WULDAZIN_ROW_STORAGE], WULDAZIN_VERDICT_OK);
     expect("storage alignment", row(KERNEL)[WULDAZIN_ROW_STORAGE + 1], 16);
     expect("flags", row(KERNEL)[WULDAZIN_ROW_FLAGS] & WULDAZIN_HOST_SHAREABLE, WULDAZIN_HOST_SHAREABLE);
@@ -160,7 +160,7 @@ int main(void) {
     refuse_place("cells[4]", (uint32_t[]){2, CELL_COUNT, 0}, 3);
     refuse_place("turn[3]", (uint32_t[]){0, COLUMNS}, 2);
     members[3] = 8;
-    check(WULDAZIN_MEMBER_OVERLAP);
+    judge(WULDAZIN_MEMBER_OVERLAP);
     printf("moisture at byte 8: refused, number %u, type %u, member %u\n", answer[0], answer[1], answer[2]);
     return 0;
 }

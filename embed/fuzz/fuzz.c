@@ -31,8 +31,8 @@ enum {
 
 enum { LAST_NUMBER = 27, UNANSWERED }; /* UNANSWERED: the buffer was too short for an answer */
 
-enum { LAYOUT, CHECK, RANGE, SLOTS, PLACE, REPORT, PLAIN, MEMBERS, DOORS };
-static const char *const door_names[DOORS] = {"layout", "check", "range", "slots", "place", "report", "plain", "members"};
+enum { LAYOUT, JUDGE, CHECK, RANGE, SLOTS, PLACE, REPORT, PLAIN, MEMBERS, DOORS };
+static const char *const door_names[DOORS] = {"layout", "judge", "check", "range", "slots", "place", "report", "plain", "members"};
 
 typedef struct {
     size_t types_length, members_length;
@@ -465,9 +465,19 @@ static void look_at_report(uint32_t number, bool fits, uint32_t count) {
     take_back(&report, fits ? 16 * count : 0);
 }
 
+/* The check, over rows that hold other words, answers what judging did and leaves the same rows. */
+static void look_at_check(uint32_t capabilities, size_t length, uint32_t count) {
+    static uint32_t row[ROWS_MOST];
+    uint32_t found[4];
+    memcpy(row, noise + below(1024), 4 * length);
+    wuldazin_check(now.types, now.types_length, now.members, now.members_length, capabilities, row, length, found, 4);
+    require(answer.bytes < sizeof found || !memcmp(answer.data, found, sizeof found), "the check answers otherwise");
+    require(!memcmp(rows.data, row, 56 * count), "the check leaves other rows");
+}
+
 static void one_call(void) {
     static uint32_t list[STEPS_MOST];
-    static const unsigned char choice[] = {LAYOUT, CHECK, CHECK, CHECK, RANGE, SLOTS, SLOTS, SLOTS, PLACE, PLACE, PLACE, REPORT, REPORT, PLAIN, MEMBERS};
+    static const unsigned char choice[] = {LAYOUT, JUDGE, JUDGE, CHECK, CHECK, RANGE, SLOTS, SLOTS, SLOTS, PLACE, PLACE, PLACE, REPORT, REPORT, PLAIN, MEMBERS};
     size_t answer_length = below(16) ? 4 + below(ANSWER_MOST - 3) : below(4), output_length = below(OUTPUT_MOST + 1);
     uint64_t out[2] = {0, 0};
     door = choice[below(sizeof choice)];
@@ -513,6 +523,7 @@ static void one_call(void) {
     if (door == REPORT) p = lend(&report, noise + below(1024), 8 * pl);
     switch (door) {
     case LAYOUT: wuldazin_layout(t, tl, m, ml, r, rl, a, answer_length); break;
+    case JUDGE: wuldazin_judge(t, tl, m, ml, capabilities, r, rl, a, answer_length); break;
     case CHECK: wuldazin_check(t, tl, m, ml, capabilities, r, rl, a, answer_length); break;
     case SLOTS: wuldazin_slots(t, tl, m, ml, capabilities, r, rl, ty, wild(), o, output_length, a, answer_length); break;
     case PLACE: wuldazin_place(t, tl, m, ml, capabilities, r, rl, ty, s, sl, o, output_length, a, answer_length); break;
@@ -524,11 +535,12 @@ static void one_call(void) {
     uint32_t number = UNANSWERED;
     if (has_rows) {
         number = number_of(fits, count);
-        uint32_t last = door == LAYOUT ? 7 : door == CHECK ? 24 : door == REPORT ? 27 : 26;
+        uint32_t last = door == LAYOUT ? 7 : door == JUDGE || door == CHECK ? 24 : door == REPORT ? 27 : 26;
         require(number == UNANSWERED || number <= last, "number of another door");
         require(number != 25 || door == SLOTS, "number of another door");
         require(number != 26 || door != REPORT, "number of another door");
         if (fits) look_at_rows(number, count);
+        if (door == JUDGE) look_at_check(capabilities, rl, fits ? count : 0);
         if (door == REPORT) look_at_report(number, fits, count);
         take_back(&rows, fits ? 56 * count : 0);
         take_back(&answer, answer_length < 4 ? 0 : 16);

@@ -1,6 +1,7 @@
 //! Runs the port and the reference over the same arenas.
 
 use crate::guarded::Guarded;
+use crate::held::{self, Held};
 use crate::histogram::Histogram;
 use crate::random::Random;
 use crate::records::*;
@@ -37,15 +38,28 @@ pub fn layout(count: u64, seed: u64) -> bool {
     })
 }
 
+/// Over rows that hold random words, what the rows of the arena accepted last
+/// leave there, and the arena's own layouts with a word changed.
+#[cfg(feature = "check")]
+pub fn judge(count: u64, seed: u64) -> bool {
+    checked(count, seed, held::rows, port::judge)
+}
+
 #[cfg(feature = "check")]
 pub fn check(count: u64, seed: u64) -> bool {
-    run(count, seed, generator::arena, |arena, _, histogram| {
+    checked(count, seed, held::nothing, port::check)
+}
+
+#[cfg(feature = "check")]
+fn checked(count: u64, seed: u64, held: Held, call: fn(&Arena, Lent)) -> bool {
+    let source = generator::arena;
+    run_over(count, seed, source, held, |arena, _, histogram| {
         let outcome = print::reference_of(arena);
         count_outcome(histogram, arena, &outcome);
         Case {
             asked: Vec::new(),
             expected: outcome.into(),
-            call: Box::new(|lent| port::check(arena, lent)),
+            call: Box::new(move |lent| call(arena, lent)),
         }
     })
 }
@@ -71,24 +85,40 @@ fn count_outcome(histogram: &mut Histogram, arena: &Arena, outcome: &reference::
     }
 }
 
-/// Whether the port agrees on all cases.
+/// Whether the port agrees on all cases, over rows that hold random words.
 pub fn run(
     count: u64,
     seed: u64,
     source: fn(u64, u64) -> Arena,
     judge: impl for<'a> Fn(&'a Arena, &mut Random, &mut Histogram) -> Case<'a>,
 ) -> bool {
+    run_over(count, seed, source, held::nothing, judge)
+}
+
+/// The same, and then over rows that hold each run of words of `held`.
+fn run_over(
+    count: u64,
+    seed: u64,
+    source: fn(u64, u64) -> Arena,
+    held: Held,
+    judge: impl for<'a> Fn(&'a Arena, &mut Random, &mut Histogram) -> Case<'a>,
+) -> bool {
     let mut histogram = Histogram::default();
+    let mut last = Vec::new();
     for index in 0..count {
         let arena = source(seed, index);
         let mut random = Random::new(!seed, index);
         let case = judge(&arena, &mut random, &mut histogram);
-        if let Some(difference) = difference(&arena, &case, &mut random) {
+        let held = held(&arena, &last, &mut random);
+        if let Some(difference) = difference(&arena, &case, &held, &mut random) {
             println!("seed {seed}, index {index}: {difference}");
             println!("asked beside the tables: {:?}", case.asked);
             print::arena(&arena);
             println!("{} cases, then a difference", index + 1);
             return false;
+        }
+        if let Some(rows) = case.expected.rows {
+            last = rows;
         }
     }
     histogram.print();
@@ -96,11 +126,33 @@ pub fn run(
     true
 }
 
-/// Lends words with a pattern in them; the port must leave all of it but what
-/// it owes.
-fn difference(arena: &Arena, case: &Case, pattern: &mut Random) -> Option<String> {
+/// Lends words with a pattern in them, and then each run of words in `held`.
+fn difference(
+    arena: &Arena,
+    case: &Case,
+    held: &[Vec<u32>],
+    pattern: &mut Random,
+) -> Option<String> {
+    let rows = Guarded::new(arena.rows_len, pattern, Random::word);
+    let first = difference_over(rows, arena, case, pattern);
+    first.or_else(|| {
+        held.iter().find_map(|words| {
+            let mut rows = Guarded::new(arena.rows_len, pattern, Random::word);
+            rows.hold(words);
+            let difference = difference_over(rows, arena, case, pattern)?;
+            Some(format!("over rows that hold {words:?}: {difference}"))
+        })
+    })
+}
+
+/// The port must leave all of the lent words but what it owes.
+fn difference_over(
+    mut rows: Guarded<u32>,
+    arena: &Arena,
+    case: &Case,
+    pattern: &mut Random,
+) -> Option<String> {
     let expected = &case.expected;
-    let mut rows = Guarded::new(arena.rows_len, pattern, Random::word);
     let mut output = Guarded::new(expected.output.len(), pattern, Random::next);
     let mut answer = Guarded::new(expected.answer.len(), pattern, Random::word);
     (case.call)(Lent {

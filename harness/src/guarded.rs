@@ -27,6 +27,12 @@ impl<W: Copy + PartialEq> Guarded<W> {
         &mut self.words[middle]
     }
 
+    /// Puts the words at the start of what is lent.
+    pub fn hold(&mut self, words: &[W]) {
+        self.lend()[..words.len()].copy_from_slice(words);
+        self.before.copy_from_slice(&self.words);
+    }
+
     pub fn now(&self) -> &[W] {
         &self.words[self.middle()]
     }

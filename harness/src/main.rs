@@ -18,9 +18,12 @@ mod bench;
 mod builder;
 mod compare;
 mod damage;
+#[cfg(all(feature = "check", feature = "slots", feature = "place"))]
+mod fresh;
 mod generator;
 mod growth;
 mod guarded;
+mod held;
 mod histogram;
 mod leaves;
 #[cfg(test)]
@@ -67,7 +70,7 @@ mod wild;
 use std::process::ExitCode;
 
 const USAGE: &str = "usage: layout COUNT [SEED]
-       check COUNT [SEED]                       (feature check)
+       judge COUNT [SEED] | check COUNT [SEED]  (feature check)
        range COUNT [SEED] | slots COUNT [SEED]  (feature slots)
        place COUNT [SEED]                       (feature place)
        members COUNT [SEED]                     (feature members)
@@ -94,6 +97,8 @@ fn main() -> ExitCode {
     let seed = second.unwrap_or(1);
     let agreed = match command {
         "layout" => compare::layout(first, seed),
+        #[cfg(feature = "check")]
+        "judge" => compare::judge(first, seed),
         #[cfg(feature = "check")]
         "check" => compare::check(first, seed),
         #[cfg(feature = "slots")]

@@ -64,6 +64,32 @@ unsafe extern "C" fn wuldazin_check(
     deliver(owed, types, rows, &mut [], answer);
 }
 
+#[cfg(feature = "check")]
+#[no_mangle]
+unsafe extern "C" fn wuldazin_judge(
+    types: *const u32,
+    types_len: usize,
+    members: *const u32,
+    members_len: usize,
+    capabilities: u32,
+    rows: *mut u32,
+    rows_len: usize,
+    answer: *mut u32,
+    answer_len: usize,
+) {
+    wuldazin_check(
+        types,
+        types_len,
+        members,
+        members_len,
+        capabilities,
+        rows,
+        rows_len,
+        answer,
+        answer_len,
+    );
+}
+
 #[cfg(feature = "slots")]
 #[no_mangle]
 unsafe extern "C" fn wuldazin_range(

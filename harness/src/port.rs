@@ -15,6 +15,18 @@ extern "C" {
         answer_len: usize,
     );
     #[cfg(feature = "check")]
+    fn wuldazin_judge(
+        types: *const u32,
+        types_len: usize,
+        members: *const u32,
+        members_len: usize,
+        capabilities: u32,
+        rows: *mut u32,
+        rows_len: usize,
+        answer: *mut u32,
+        answer_len: usize,
+    );
+    #[cfg(feature = "check")]
     fn wuldazin_check(
         types: *const u32,
         types_len: usize,
@@ -113,6 +125,24 @@ pub fn layout(arena: &Arena, lent: Lent) {
             arena.types.len(),
             arena.members.as_ptr(),
             arena.members.len(),
+            lent.rows.as_mut_ptr(),
+            lent.rows.len(),
+            lent.answer.as_mut_ptr(),
+            lent.answer.len(),
+        )
+    }
+}
+
+#[cfg(feature = "check")]
+pub fn judge(arena: &Arena, lent: Lent) {
+    // As above.
+    unsafe {
+        wuldazin_judge(
+            arena.types.as_ptr(),
+            arena.types.len(),
+            arena.members.as_ptr(),
+            arena.members.len(),
+            arena.capabilities,
             lent.rows.as_mut_ptr(),
             lent.rows.len(),
             lent.answer.as_mut_ptr(),

@@ -52,13 +52,23 @@ pub fn both(arena: Arena) -> (PortSide, RustSide) {
 impl PortSide {
     fn assert_same(&mut self, rust: &RustSide) {
         let rows = print::reference_of(&self.arena).rows.unwrap();
-        assert_eq!(self.check(), ACCEPTED);
-        assert_eq!(self.rows, rows.as_flattened());
+        for call in [Self::judge, Self::check] {
+            assert_eq!(call(self), ACCEPTED);
+            assert_eq!(self.rows, rows.as_flattened());
+        }
         let masks = slots::of_type(&rust.types, self.walked, 0).unwrap();
         assert_eq!(self.slots(), (ACCEPTED, masks));
         let Arena { types, members, .. } = &self.arena;
         let (byte, leaf) = place::of(types, members, self.start, &self.steps).unwrap();
         assert_eq!(self.place(), (ACCEPTED, [byte, u64::from(leaf)]));
+    }
+
+    pub fn layout(&mut self) -> Answer {
+        self.call::<0>(port::layout).0
+    }
+
+    pub fn judge(&mut self) -> Answer {
+        self.call::<0>(port::judge).0
     }
 
     pub fn check(&mut self) -> Answer {

@@ -11,6 +11,8 @@ pub enum Command {
     Capabilities,
     TypeRecord,
     MemberRecord,
+    Layout,
+    Judge,
     Check,
     Members,
     Slots,

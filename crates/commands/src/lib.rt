@@ -12,6 +12,9 @@ pub const ARENA_WORDS: usize = 14336;
 
 pub type Arena = [u32; ARENA_WORDS];
 
+// The rows of a full arena. The session keeps them from line to line.
+pub type Rows = [u32; 14336];
+
 pub struct Session {
     pub capabilities: u32,
     // Where the types and the members end in the arena.

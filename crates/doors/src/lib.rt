@@ -304,6 +304,22 @@ pub extern "C" fn wuldazin_check(
     put_answer(answer, outcome);
 }
 
+// Judging: the same answer and words as the arena check, in one pass over rows that may hold anything.
+#[no_mangle]
+pub extern "C" fn wuldazin_judge(
+    types: &[u32],
+    members: &[u32],
+    capabilities: u32,
+    rows: &mut [u32],
+    answer: &mut [u32],
+)
+    ensures { λ _. ⌜ now (rows .exit) ≡ arenaWords capabilities (now (types .entry)) (now (members .entry)) (now (rows .entry)) ⌝ }
+    ensures { λ _. ⌜ now (answer .exit) ≡ withAnswer (now (answer .entry)) (arenaAnswer capabilities (now (types .entry)) (now (members .entry)) (now (rows .entry))) ⌝ }
+{
+    let outcome = valid::judge(types, members, capabilities, rows);
+    put_answer(answer, outcome);
+}
+
 // The slots of a range given as two numbers: those touched, and those covered only in part.
 #[no_mangle]
 pub extern "C" fn wuldazin_range(offset: u32, size: u32, mask: &mut [u64], answer: &mut [u32])

@@ -52,7 +52,7 @@ module _ (ts ms : List ℕ) where
           (λ x. record { size = row-past i k 0 (omega arith) x; alignment = row-past i k 1 (omega arith) x })
 
   -- numbers 2 to 7 of record i, from the layouts that the definition has: 2 and 3, then 4 to 7
-  record-laid : (i : ℕ) → recordLayout ts ms (table noLayout (layoutStep (decoded ts ms)) i) i ≡ recordThenLayout ts ms i
+  pub record-laid : (i : ℕ) → recordLayout ts ms (table noLayout (layoutStep (decoded ts ms)) i) i ≡ recordThenLayout ts ms i
   unfolding recordLayout recordAt resultAt typeInner
   record-laid i =
       sym

@@ -234,6 +234,7 @@ fn ordered_members(
     requires { ⌜ ((j : ℕ) → j < count → memberType (now part) j < i) ⌝ }
     requires { ⌜ taken ≤ count ⌝ }
     requires { ⌜ stateAfter (typeInner (now types)) (rowsIn (now rows)) i count span (now part) taken ≡ ok before ⌝ }
+    ensures { λ r. ⌜ taken ≤ r .taken ⌝ }
     ensures { λ r. ⌜ r .taken ≤ count ⌝ }
     ensures { λ r. ⌜ stateAfter (typeInner (now (types .entry))) (rowsIn (now (rows .entry))) i count span (now (part .entry)) (r .taken) ≡ ok (r .state) ⌝ }
 {
@@ -255,7 +256,31 @@ fn ordered_members(
     Reached { taken: j, state }
 }
 
-// The members of struct i from `taken` on, whose rows are in part; rows has those of the types before it.
+// Member j by every rule.
+fn step(
+    types: &[u32],
+    rows: &[u32],
+    i: u32,
+    part: &[u32],
+    count: u32,
+    span: u32,
+    j: u32,
+    state: State,
+) -> Stepped
+    requires { ⌜ length (now rows) ≡ i * 14 ⌝ }
+    requires { ⌜ stateAfter (typeInner (now types)) (rowsIn (now rows)) i count span (now part) j ≡ ok state ⌝ }
+    ensures { λ r. ⌜ steppedResult j r ≡ stateAfter (typeInner (now (types .entry))) (rowsIn (now (rows .entry))) i count span (now (part .entry)) (j + 1) ⌝ }
+{
+    let ty = records::member_type(part, j);
+    let offset = records::member_offset(part, j);
+    let array = member_bounds::is_array(types, ty);
+    let next = member_rules::struct_at(types, ty, offset);
+    let row = type_rows::row_at(rows, ty);
+    member(i, count, span, j, ty, offset, array, next, row, state)
+}
+
+// The members of struct i from `taken` on, whose rows are in part; rows has those of the types before it. After one that takes every rule,
+// those in order are taken together again.
 pub fn members_of(
     types: &[u32],
     rows: &[u32],
@@ -273,24 +298,24 @@ pub fn members_of(
     requires { ⌜ stateAfter (typeInner (now types)) (rowsIn (now rows)) i count span (now part) taken ≡ ok before ⌝ }
     ensures { λ r. ⌜ membersResult r ≡ stateAfter (typeInner (now (types .entry))) (rowsIn (now (rows .entry))) i count span (now (part .entry)) count ⌝ }
 {
-    let reached = ordered_members(types, rows, i, part, count, span, taken, before);
-    let mut state = reached.state;
-    let mut j: u32 = reached.taken;
+    let mut state = before;
+    let mut j: u32 = taken;
     while j < count {
-        let ty = records::member_type(part, j);
-        let offset = records::member_offset(part, j);
-        let array = member_bounds::is_array(types, ty);
-        let next = member_rules::struct_at(types, ty, offset);
-        let row = type_rows::row_at(rows, ty);
-        match member(i, count, span, j, ty, offset, array, next, row, state) {
+        let reached = ordered_members(types, rows, i, part, count, span, j, state);
+        let at = reached.taken;
+        let there = reached.state;
+        if at == count {
+            return Members::Taken(there);
+        }
+        match step(types, rows, i, part, count, span, at, there) {
             Stepped::Took(after) => {
                 state = after;
             }
             Stepped::Refused(number) => {
-                return Members::Refused { number, member: j };
+                return Members::Refused { number, member: at };
             }
         }
-        j += 1;
+        j = at + 1;
     }
     Members::Taken(state)
 }

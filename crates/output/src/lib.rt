@@ -90,7 +90,7 @@ pub fn put_members(out: &mut Buffer, at: usize, words: &[u32]) -> usize {
     put_words(out, at, b"members", words, false)
 }
 
-// The answer to a check, with the rows of the types.
+// The answer over an arena, with the rows of the types.
 pub fn put_outcome(out: &mut Buffer, at: usize, outcome: Outcome, rows: &[u32]) -> usize {
     match outcome {
         Outcome::Accepted => put_words(out, at, b"ok", rows, true),
@@ -159,15 +159,17 @@ pub fn usage_line(command: arguments::Command) -> u32 {
         arguments::Command::Capabilities => 8,
         arguments::Command::TypeRecord => 9,
         arguments::Command::MemberRecord => 10,
-        arguments::Command::Check => 11,
-        arguments::Command::Members => 12,
-        arguments::Command::Slots => 13,
-        arguments::Command::Range => 14,
-        arguments::Command::Place => 15,
-        arguments::Command::Report => 16,
-        arguments::Command::Plain => 17,
-        arguments::Command::Clear => 18,
-        arguments::Command::Unknown => 19,
+        arguments::Command::Layout => 11,
+        arguments::Command::Judge => 12,
+        arguments::Command::Check => 13,
+        arguments::Command::Members => 14,
+        arguments::Command::Slots => 15,
+        arguments::Command::Range => 16,
+        arguments::Command::Place => 17,
+        arguments::Command::Report => 18,
+        arguments::Command::Plain => 19,
+        arguments::Command::Clear => 20,
+        arguments::Command::Unknown => 21,
     }
 }
 
@@ -182,6 +184,8 @@ fn put_why(out: &mut Buffer, at: usize, why: u32) -> usize {
 : caps takes one number
 : type takes a kind and at most 5 words
 : member takes a type and an offset
+: layout takes no number
+: judge takes no number
 : check takes no number
 : members takes a type
 : slots takes a type and an offset
@@ -190,7 +194,7 @@ fn put_why(out: &mut Buffer, at: usize, why: u32) -> usize {
 : report takes no number
 : plain takes a shape and a width
 : clear takes no number
-: no such command; there are caps, type, member, check, members, slots, range, place, report, plain and clear
+: no such command; there are caps, type, member, layout, judge, check, members, slots, range, place, report, plain and clear
 ";
     let mut end = at;
     let mut line: u32 = 2;

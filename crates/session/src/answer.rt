@@ -1,11 +1,41 @@
 // The answer to a line.
 use commands::Arena;
+use commands::Rows;
 use commands::Session;
 use output::Buffer;
 use place::PlaceAnswer;
 use plain_types::PlainAnswer;
+use records::Outcome;
 use report::ReportAnswer;
 use text::Line;
+
+fn put_rows(out: &mut Buffer, at: usize, outcome: Outcome, types: &[u32], rows: &Rows) -> usize {
+    let end = records::type_count(types) * records::ROW_WORDS;
+    output::put_outcome(out, at, outcome, commands::part(rows, 0, end))
+}
+
+fn put_layout(
+    out: &mut Buffer,
+    at: usize,
+    types: &[u32],
+    members: &[u32],
+    rows: &mut Rows,
+) -> usize {
+    let outcome = layouter::layout(types, members, rows);
+    put_rows(out, at, outcome, types, rows)
+}
+
+fn put_judge(
+    out: &mut Buffer,
+    at: usize,
+    types: &[u32],
+    members: &[u32],
+    capabilities: u32,
+    rows: &mut Rows,
+) -> usize {
+    let outcome = valid::judge(types, members, capabilities, rows);
+    put_rows(out, at, outcome, types, rows)
+}
 
 fn put_check(
     out: &mut Buffer,
@@ -13,15 +43,10 @@ fn put_check(
     types: &[u32],
     members: &[u32],
     capabilities: u32,
+    rows: &mut Rows,
 ) -> usize {
-    let mut rows = [0u32; 14336];
-    let outcome = valid::check(types, members, capabilities, &mut rows);
-    output::put_outcome(
-        out,
-        at,
-        outcome,
-        commands::part(&rows, 0, records::type_count(types) * records::ROW_WORDS),
-    )
+    let outcome = valid::check(types, members, capabilities, rows);
+    put_rows(out, at, outcome, types, rows)
 }
 
 fn put_slots(
@@ -30,11 +55,11 @@ fn put_slots(
     types: &[u32],
     members: &[u32],
     capabilities: u32,
+    rows: &mut Rows,
     ty: u32,
     offset: u32,
 ) -> usize {
-    let mut rows = [0u32; 14336];
-    let answer = immediates::immediate_slots(types, members, capabilities, &mut rows, ty, offset);
+    let answer = immediates::immediate_slots(types, members, capabilities, rows, ty, offset);
     output::put_slots(out, at, answer)
 }
 
@@ -44,11 +69,11 @@ fn put_place(
     types: &[u32],
     members: &[u32],
     capabilities: u32,
+    rows: &mut Rows,
     start: u32,
     steps: &[u32],
 ) -> usize {
-    let mut rows = [0u32; 14336];
-    match place::lookup(types, members, capabilities, &mut rows, start, steps) {
+    match place::lookup(types, members, capabilities, rows, start, steps) {
         PlaceAnswer::Found { byte, leaf } => output::put_place(out, at, byte, leaf),
         PlaceAnswer::Refused {
             number,
@@ -73,10 +98,10 @@ fn put_report(
     types: &[u32],
     members: &[u32],
     capabilities: u32,
+    rows: &mut Rows,
 ) -> usize {
-    let mut rows = [0u32; 14336];
     let mut words = [0u64; 2048];
-    match report::report(types, members, capabilities, &mut rows, &mut words) {
+    match report::report(types, members, capabilities, rows, &mut words) {
         ReportAnswer::Totals { carried, wasted } => {
             let own = first_words(&words, records::type_count(types) * 2);
             output::put_report(out, at, carried, wasted, own)
@@ -112,6 +137,7 @@ fn put_answer(
     numbers: &[u32],
     session: Session,
     arena: &[u32],
+    rows: &mut Rows,
     out: &mut Buffer,
 ) -> usize {
     let at = session.waiting;
@@ -119,13 +145,24 @@ fn put_answer(
     let types = commands::part(arena, 0, session.types);
     let members = commands::part(arena, commands::MEMBERS_AT, session.members);
     match line {
-        Line::Check => put_check(out, at, types, members, capabilities),
+        Line::Layout => put_layout(out, at, types, members, rows),
+        Line::Judge => put_judge(out, at, types, members, capabilities, rows),
+        Line::Check => put_check(out, at, types, members, capabilities, rows),
         Line::Members(ty) => output::put_members(
             out,
             at,
             records::struct_members(types, members, ty),
         ),
-        Line::Slots { ty, offset } => put_slots(out, at, types, members, capabilities, ty, offset),
+        Line::Slots { ty, offset } => put_slots(
+            out,
+            at,
+            types,
+            members,
+            capabilities,
+            rows,
+            ty,
+            offset,
+        ),
         Line::Range { offset, size } => output::put_slots(out, at, slots::range(offset, size)),
         Line::Place { start, steps } => {
             put_place(
@@ -134,22 +171,29 @@ fn put_answer(
                 types,
                 members,
                 capabilities,
+                rows,
                 start,
                 commands::part(numbers, 1, steps as usize + 1),
             )
         }
-        Line::Report => put_report(out, at, types, members, capabilities),
+        Line::Report => put_report(out, at, types, members, capabilities, rows),
         Line::Plain { shape, width } => put_plain(out, at, shape, width),
         _ => at,
     }
 }
 
 // Answers a line.
-pub fn answer(line: &[u8], mut s: Session, arena: &mut Arena, out: &mut Buffer) -> Session {
+pub fn answer(
+    line: &[u8],
+    mut s: Session,
+    arena: &mut Arena,
+    rows: &mut Rows,
+    out: &mut Buffer,
+) -> Session {
     let mut numbers = [0u32; 1025];
     let read = text::read_line(line, &mut numbers);
     s = commands::change(read, s, arena);
-    let waiting = put_answer(read, &numbers, s, arena, out);
+    let waiting = put_answer(read, &numbers, s, arena, rows, out);
     s.waiting = waiting;
     s
 }

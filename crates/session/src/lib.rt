@@ -2,19 +2,26 @@
 mod answer;
 
 use commands::Arena;
+use commands::Rows;
 use commands::Session;
 use output::Buffer;
 ghost use Prim.Native.Nat.{_≤_};
 ghost use lib.ListN.{length};
 
 // Answers the whole lines of the input, and says how many bytes are left.
-fn answer_lines(input: &[u8], mut s: Session, arena: &mut Arena, out: &mut Buffer) -> Session
+fn answer_lines(
+    input: &[u8],
+    mut s: Session,
+    arena: &mut Arena,
+    rows: &mut Rows,
+    out: &mut Buffer,
+) -> Session
     ensures { λ r. ⌜ r .held ≤ length (now (input .entry)) ⌝ }
 {
     let mut at: usize = 0;
     let mut end = words::run_end(input, at, words::Class::Line);
     while end < input.len() {
-        s = answer::answer(&input[at..end], s, arena, out);
+        s = answer::answer(&input[at..end], s, arena, rows, out);
         if s.why > input::ENDED {
             s.held = 0;
             return s;
@@ -28,11 +35,17 @@ fn answer_lines(input: &[u8], mut s: Session, arena: &mut Arena, out: &mut Buffe
 }
 
 // Reads once, answers the whole lines, and keeps the rest of the input.
-fn turn(buffer: &mut [u8], mut s: Session, arena: &mut Arena, out: &mut Buffer) -> Session {
+fn turn(
+    buffer: &mut [u8],
+    mut s: Session,
+    arena: &mut Arena,
+    rows: &mut Rows,
+    out: &mut Buffer,
+) -> Session {
     let got = input::read_more(buffer, s.held);
     let end = got.end;
     s.why = got.read;
-    s = answer_lines(&buffer[..end], s, arena, out);
+    s = answer_lines(&buffer[..end], s, arena, rows, out);
     let left = s.held;
     input::keep_rest(buffer, end - left, end);
     commands::flushed(s, out)
@@ -42,12 +55,13 @@ fn turn(buffer: &mut [u8], mut s: Session, arena: &mut Arena, out: &mut Buffer) 
 // A proved loop has to end, and nothing says that the input does: the turns are counted down from a number that no run uses up.
 pub fn run() {
     let mut arena = [0u32; 14336];
+    let mut rows = [0u32; 14336];
     let mut buffer = [0u8; 65536];
     let mut out = [0u8; 65536];
     let mut s = commands::start();
     let mut turns = u64::MAX;
     while turns > 0 {
-        s = turn(&mut buffer, s, &mut arena, &mut out);
+        s = turn(&mut buffer, s, &mut arena, &mut rows, &mut out);
         if s.why > input::MORE {
             return;
         }

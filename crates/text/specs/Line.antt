@@ -30,13 +30,15 @@ lastCommandOf w =
     (pick (same w (99 ∷ 108 ∷ 101 ∷ 97 ∷ 114 ∷ [])) command.Clear
     command.Unknown))))
 
--- check, members, slots
+-- layout, judge, check, members, slots
 unfoldable pub laterCommandOf : List ℕ → Command
 laterCommandOf w =
-    pick (same w (99 ∷ 104 ∷ 101 ∷ 99 ∷ 107 ∷ [])) command.Check
+    pick (same w (108 ∷ 97 ∷ 121 ∷ 111 ∷ 117 ∷ 116 ∷ [])) command.Layout
+    (pick (same w (106 ∷ 117 ∷ 100 ∷ 103 ∷ 101 ∷ [])) command.Judge
+    (pick (same w (99 ∷ 104 ∷ 101 ∷ 99 ∷ 107 ∷ [])) command.Check
     (pick (same w (109 ∷ 101 ∷ 109 ∷ 98 ∷ 101 ∷ 114 ∷ 115 ∷ [])) command.Members
     (pick (same w (115 ∷ 108 ∷ 111 ∷ 116 ∷ 115 ∷ [])) command.Slots
-    (lastCommandOf w)))
+    (lastCommandOf w)))))
 
 -- caps, type, member, and those above
 unfoldable pub commandOf : List ℕ → Command
@@ -51,6 +53,8 @@ abbrev pub leastOf : Command → ℕ
 leastOf command.Capabilities = 1
 leastOf command.TypeRecord = 1
 leastOf command.MemberRecord = 2
+leastOf command.Layout = 0
+leastOf command.Judge = 0
 leastOf command.Check = 0
 leastOf command.Members = 1
 leastOf command.Slots = 2
@@ -65,6 +69,8 @@ abbrev pub mostOf : Command → ℕ
 mostOf command.Capabilities = 1
 mostOf command.TypeRecord = 6
 mostOf command.MemberRecord = 2
+mostOf command.Layout = 0
+mostOf command.Judge = 0
 mostOf command.Check = 0
 mostOf command.Members = 1
 mostOf command.Slots = 2
@@ -92,6 +98,8 @@ abbrev pub lineBy : Command → List ℕ → Line
 lineBy command.Capabilities ns = line.Capabilities (getD ns 0 0)
 lineBy command.TypeRecord ns = line.TypeRecord (getD ns 0 0) (getD ns 1 0) (getD ns 2 0) (getD ns 3 0) (getD ns 4 0) (getD ns 5 0)
 lineBy command.MemberRecord ns = line.MemberRecord (getD ns 0 0) (getD ns 1 0)
+lineBy command.Layout ns = line.Layout
+lineBy command.Judge ns = line.Judge
 lineBy command.Check ns = line.Check
 lineBy command.Members ns = line.Members (getD ns 0 0)
 lineBy command.Slots ns = line.Slots (getD ns 0 0) (getD ns 1 0)

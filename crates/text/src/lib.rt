@@ -24,6 +24,8 @@ pub enum Line {
         ty: u32,
         offset: u32,
     },
+    Layout,
+    Judge,
     Check,
     Members(u32),
     Slots {
@@ -74,6 +76,10 @@ pub fn command_of(word: &[u8]) -> Command
         0x165707974 => Command::TypeRecord,
         // member
         0x17265626d656d => Command::MemberRecord,
+        // layout
+        0x174756f79616c => Command::Layout,
+        // judge
+        0x1656764756a => Command::Judge,
         // check
         0x16b63656863 => Command::Check,
         // members
@@ -107,6 +113,8 @@ fn usage_of(command: Command) -> Usage
         Command::Capabilities => Usage { least: 1, most: 1 },
         Command::TypeRecord => Usage { least: 1, most: 6 },
         Command::MemberRecord => Usage { least: 2, most: 2 },
+        Command::Layout => Usage { least: 0, most: 0 },
+        Command::Judge => Usage { least: 0, most: 0 },
         Command::Check => Usage { least: 0, most: 0 },
         Command::Members => Usage { least: 1, most: 1 },
         Command::Slots => Usage { least: 2, most: 2 },
@@ -140,6 +148,8 @@ fn line_by(command: Command, numbers: &[u32]) -> Line
             e: records::word_at(numbers, 5),
         },
         Command::MemberRecord => Line::MemberRecord { ty: a, offset: b },
+        Command::Layout => Line::Layout,
+        Command::Judge => Line::Judge,
         Command::Check => Line::Check,
         Command::Members => Line::Members(a),
         Command::Slots => Line::Slots { ty: a, offset: b },

@@ -48,18 +48,6 @@ rowsIn words k =
       immediates = rowWord words k 13;
     }
 
--- the row of type k, whose size and alignment stand in words already
-abbrev pub judgedRow : List ℕ → (k flags : ℕ) → (uniform storage : Verdict) → (immediates : ℕ) → Row
-judgedRow words k flags uniform storage immediates =
-    record {
-      size = rowWord words k 0;
-      alignment = rowWord words k 1;
-      flags = flags;
-      uniform = uniform;
-      storage = storage;
-      immediates = immediates;
-    }
-
 -- in the place of a row that is not made yet: a pointer or binding array that names itself or a later type reads its empty flags
 abbrev pub emptyRow : Row
 emptyRow =

@@ -37,7 +37,7 @@ fn unfit() -> Laid
     }
 }
 
-fn scalar_layout(a: u32, b: u32, c: u32, d: u32, e: u32) -> Laid
+pub fn scalar_layout(a: u32, b: u32, c: u32, d: u32, e: u32) -> Laid
     ensures { λ r. ⌜ ((m n i : ℕ) (layouts : ℕ → layout.TypeLayout) (members : List ℕ) → laidResult r ≡ wordsLayout m n layouts i scalarKind a b c d e members) ⌝ }
 {
     if fields::scalar_fields(a, b, c, d, e) {
@@ -46,7 +46,7 @@ fn scalar_layout(a: u32, b: u32, c: u32, d: u32, e: u32) -> Laid
     unfit()
 }
 
-fn vector_layout(a: u32, b: u32, c: u32, d: u32, e: u32) -> Laid
+pub fn vector_layout(a: u32, b: u32, c: u32, d: u32, e: u32) -> Laid
     ensures { λ r. ⌜ ((m n i : ℕ) (layouts : ℕ → layout.TypeLayout) (members : List ℕ) → laidResult r ≡ wordsLayout m n layouts i vectorKind a b c d e members) ⌝ }
 {
     if fields::vector_fields(a, b, c, d, e) {
@@ -59,7 +59,7 @@ fn vector_layout(a: u32, b: u32, c: u32, d: u32, e: u32) -> Laid
     unfit()
 }
 
-fn matrix_layout(a: u32, b: u32, c: u32, d: u32, e: u32) -> Laid
+pub fn matrix_layout(a: u32, b: u32, c: u32, d: u32, e: u32) -> Laid
     ensures { λ r. ⌜ ((m n i : ℕ) (layouts : ℕ → layout.TypeLayout) (members : List ℕ) → laidResult r ≡ wordsLayout m n layouts i matrixKind a b c d e members) ⌝ }
 {
     if fields::matrix_fields(a, b, c, d, e) {
@@ -72,7 +72,7 @@ fn matrix_layout(a: u32, b: u32, c: u32, d: u32, e: u32) -> Laid
     unfit()
 }
 
-fn cooperative_layout(a: u32, b: u32, c: u32, d: u32, e: u32) -> Laid
+pub fn cooperative_layout(a: u32, b: u32, c: u32, d: u32, e: u32) -> Laid
     ensures { λ r. ⌜ ((m n i : ℕ) (layouts : ℕ → layout.TypeLayout) (members : List ℕ) → laidResult r ≡ wordsLayout m n layouts i cooperativeMatrixKind a b c d e members) ⌝ }
 {
     if fields::cooperative_fields(a, b, c, d, e) {
@@ -85,7 +85,7 @@ fn cooperative_layout(a: u32, b: u32, c: u32, d: u32, e: u32) -> Laid
 }
 
 // A type that takes no reference and has no width: its size is given, its alignment is 1.
-fn handle_layout(fit: bool, size: u32) -> Laid
+pub fn handle_layout(fit: bool, size: u32) -> Laid
     ensures { λ r. ⌜ laidResult r ≡ require fit 2 0 0 (sizedLayout (ok 1) size) ⌝ }
 {
     if fit {
@@ -95,7 +95,7 @@ fn handle_layout(fit: bool, size: u32) -> Laid
 }
 
 // The same of a type that refers to a base; number 3 where that is no type of the arena.
-fn based_layout(fit: bool, within: bool, size: u32) -> Laid
+pub fn based_layout(fit: bool, within: bool, size: u32) -> Laid
     ensures { λ r. ⌜ laidResult r ≡ require fit 2 0 0 (require within 3 0 0 (sizedLayout (ok 1) size)) ⌝ }
 {
     if !fit {
@@ -123,7 +123,7 @@ fn array_layout(rows: &[u32], i: u32, base: u32, form: u32, count: u32, stride: 
     }
 }
 
-fn array_record(rows: &[u32], i: u32, a: u32, b: u32, c: u32, d: u32, e: u32) -> Laid
+pub fn array_record(rows: &[u32], i: u32, a: u32, b: u32, c: u32, d: u32, e: u32) -> Laid
     ensures { λ r. ⌜ ((m n : ℕ) (members : List ℕ) → laidResult r ≡ wordsLayout m n (layoutsIn (now (rows .entry))) i arrayKind a b c d e members) ⌝ }
 {
     if fields::array_fields(b, c, e) {

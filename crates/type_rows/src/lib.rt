@@ -5,7 +5,7 @@ ghost use mathlib.Core.Path.{_≡_};
 ghost use Prim.Native.Nat.{_+_, _*_, _%_, _≤_, _<_};
 ghost use lib.ListN.{length};
 ghost use Rattle.rows.specs.Rows.{withRow};
-ghost use Rattle.type_info.specs.TypeInfo.{wordsOf, rowsIn, judgedRow, emptyRow, verdictIn};
+ghost use Rattle.type_info.specs.TypeInfo.{wordsOf, rowsIn, emptyRow, verdictIn};
 ghost use Rattle.type_info.specs.Verdict.{memberVerdict};
 
 // A row of zeros, for a type that has none yet.
@@ -62,22 +62,24 @@ pub fn row_at(rows: &[u32], k: u32) -> Row
     empty_row()
 }
 
-// Writes what was judged of type i over its row, whose size and alignment stay.
+// Writes the row of type i.
 pub fn put(
     rows: &mut [u32],
     i: u32,
+    size: u32,
+    alignment: u32,
     flags: u32,
     uniform: Verdict,
     storage: Verdict,
     immediates: u32,
 )
     requires { ⌜ i * 14 + 14 ≤ length (now rows) ⌝ }
-    ensures { λ _. ⌜ now (rows .exit) ≡ withRow (now (rows .entry)) (i * 14) (wordsOf (judgedRow (now (rows .entry)) i flags uniform storage immediates)) ⌝ }
+    ensures { λ _. ⌜ now (rows .exit) ≡ withRow (now (rows .entry)) (i * 14) (wordsOf (record { size = size; alignment = alignment; flags = flags; uniform = «uniform»; storage = «storage»; immediates = immediates })) ⌝ }
 {
     let at = (i as usize) * records::ROW_WORDS;
     let words = [
-        rows[at],
-        rows[at + 1],
+        size,
+        alignment,
         flags,
         uniform.code,
         uniform.ty,

@@ -7,11 +7,26 @@ use native.Mathlib.Decide.{ℕ-discrete}
 use native.Mathlib.Omega.{arith}
 use lib.ListN.{take, drop, length-append, length-drop, List·getD-append}
 use lib.Seq.{take-append-le, drop-append-le}
-use Rattle.records.specs.Result.{ok}
+use Rattle.records.specs.Result.{ok, require}
 use Rattle.records.specs.Record.{structKind, typeWords, typeCount, typeWord, memberWords, memberCount, typeInner, structMembers, decoded}
-use Rattle.records.specs.Fields.{recordAt}
+use Rattle.records.specs.Fields.{fieldsOk, baseWithin, recordAt}
+use Rattle.records.proofs.ResultLaws.{required, T-true}
 use Rattle.records.proofs.RecordLaws.{members-no-struct, members-part}
-use Rattle.validate_struct.proofs.OwnMembers.{struct-within}
+use Rattle.type_layout.proofs.TypeLayoutLaws.{members-within}
+
+-- the member table has the rows of a struct whose record is in order
+struct-within : (ts ms : List ℕ) (i : ℕ) → recordAt ts ms i ≡ ok tt → typeWord ts i 0 ≡ structKind → typeWord ts i 1 + typeWord ts i 2 ≤ memberCount ms
+unfolding recordAt
+struct-within ts ms i in-order kind =
+    let fields =
+    required
+    (fieldsOk (memberCount ms) (typeWord ts i 0) (typeWord ts i 1) (typeWord ts i 2) (typeWord ts i 3) (typeWord ts i 4) (typeWord ts i 5))
+    2 0 0
+    (require (baseWithin (typeCount ts) (typeWord ts i 0) (typeWord ts i 1)) 3 0 0 (ok tt))
+    tt
+    in-order
+    .0 in
+    members-within (memberCount ms) (typeWord ts i 1) (typeWord ts i 2) (typeWord ts i 3) (typeWord ts i 4) (typeWord ts i 5) (T-true _ (rw kind at fields))
 
 module _ (ts ms ts′ ms′ : List ℕ) where
   -- an appended table has no fewer types, and no fewer member rows

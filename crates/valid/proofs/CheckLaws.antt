@@ -1,22 +1,24 @@
 -- Laws of the arena check: what a laid-out arena has, and how laying out and judging make up the whole.
 -- Assumes nothing.
-use mathlib.Core.Path.{_≡_, refl, sym}
+use mathlib.Core.Path.{_≡_, refl, sym, _∙_}
 use mathlib.Core.Bool.{Bool, true, false}
 use mathlib.Core.List.{List, _++_}
-use Prim.Native.Nat.{ℕ, _+_, _*_}
+use Prim.Native.Nat.{ℕ, zero, suc, _+_, _*_}
 use native.Mathlib.Omega.{arith}
-use lib.ListN.{length, take, drop}
+use lib.ListN.{length, take, drop, replicate, length-append, length-drop, length-replicate}
 use lib.Seq.{take-at, drop-at}
 use Rattle.records.specs.Result.{pick}
 use Rattle.records.specs.Record.{typeCount, decoded}
 use Rattle.records.specs.Fields.{rowWords, tablesFit, capabilitiesKnown, recordAt}
-use Rattle.records.specs.Table.{firstRefusal}
+use Rattle.records.specs.Table.{outcomeAt, also, firstRefusal}
 use Rattle.records.specs.declared.Outcome.{Outcome}
 use Rattle.records.specs.declared.Outcome.the-variants.{Accepted, Refused}
-use Rattle.records.proofs.TableLaws.{also-accepted, flat-length}
+use Rattle.records.proofs.TableLaws.{also-accepted, outcome-accepted, flat-length}
 use Rattle.records.proofs.RecordLaws.{Fitting, tables-fitting}
+use Rattle.rows.specs.Rows.{cleared}
 use Rattle.layouter.specs.Layouter.{layoutAt, layoutRowAt, layoutRows, layoutOutcome, layoutAnswer, layoutWords, rowsAfter}
-use Rattle.valid.specs.Arena.{judgeOutcome, arenaOutcome, arenaAnswer, arenaRows, arenaWords}
+use Rattle.valid.specs.Arena.{judgedAt, row, rowAt, laidThenJudged, judgeOutcome, arenaOutcome, arenaFits, arenaAnswer, arenaRows, arenaWords, afterBoth}
+use Rattle.valid.proofs.JudgeRows.{row-length, passed-records, passed-layouts, passed-rows}
 
 -- the rows of n laid-out types are n rows long
 layout-length : (ts ms : List ℕ) (n : ℕ) → length (layoutRows ts ms n) ≡ n * rowWords
@@ -41,16 +43,7 @@ module _ (ts ms rows : List ℕ) (l : LaidOut ts ms rows) where
   pub fitting : Fitting (length ts) (length ms) (length rows)
   fitting = tables-fitting (length ts) (length ms) (length rows) (l .fits)
 
-  -- all records are in order and all layouts accepted
-  pub both-accepted : (firstRefusal (recordAt ts ms) (typeCount ts) ≡ Accepted) × (firstRefusal (layoutAt (decoded ts ms)) (typeCount ts) ≡ Accepted)
-  unfolding layoutOutcome
-  both-accepted = also-accepted (firstRefusal (recordAt ts ms) (typeCount ts)) (firstRefusal (layoutAt (decoded ts ms)) (typeCount ts)) (l .outcome)
-
-  pub laid-rows : take (typeCount ts * rowWords) (layoutWords ts ms rows) ≡ layoutRows ts ms (typeCount ts)
-  laid-rows =
-      rw (l .words) (take-at (layoutRows ts ms (typeCount ts)) (drop (typeCount ts * rowWords) rows) (typeCount ts * rowWords) (layout-length ts ms (typeCount ts)))
-
-  laid-rest : drop (typeCount ts * rowWords) (layoutWords ts ms rows) ≡ drop (typeCount ts * rowWords) rows
+  pub laid-rest : drop (typeCount ts * rowWords) (layoutWords ts ms rows) ≡ drop (typeCount ts * rowWords) rows
   laid-rest =
       rw (l .words) (drop-at (layoutRows ts ms (typeCount ts)) (drop (typeCount ts * rowWords) rows) (typeCount ts * rowWords) (layout-length ts ms (typeCount ts)))
 
@@ -59,15 +52,41 @@ module _ (ts ms rows : List ℕ) (l : LaidOut ts ms rows) where
   same-rest Accepted made = rw laid-rest refl
   same-rest (Refused n t m d) made = rw laid-rest refl
 
-  module _ (c : ℕ) (known : capabilitiesKnown c ≡ true) where
-    pub answer-judged : arenaAnswer c ts ms rows ≡ judgeOutcome c ts ms
-    unfolding arenaAnswer arenaOutcome
-    answer-judged = rw (known, l .fits, l .outcome) refl
+-- a refusal of the layouts, where the tables fit
+pub layout-refused : (ts ms rows : List ℕ) → tablesFit (length ts) (length ms) (length rows) ≡ true → {number ty member detail : ℕ}
+    → layoutAnswer ts ms rows ≡ Refused number ty member detail
+    → (layoutOutcome ts ms ≡ Refused number ty member detail) × (layoutWords ts ms rows ≡ cleared rows (typeCount ts * rowWords))
+unfolding layoutAnswer layoutWords
+layout-refused ts ms rows fits e = let q = rw fits at e in (q, rw (fits, q) refl)
 
-    pub words-judged : arenaWords c ts ms rows
-        ≡ rowsAfter (judgeOutcome c ts ms) (arenaRows c ts ms (typeCount ts)) (typeCount ts) (layoutWords ts ms rows)
-    unfolding arenaWords arenaOutcome
-    words-judged = rw (known, l .fits, l .outcome) (sym (same-rest (judgeOutcome c ts ms) (arenaRows c ts ms (typeCount ts))))
+-- ---- judging type by type, against 2 to 7 of all types and then the rows
+module _ (c : ℕ) (ts ms : List ℕ) where
+  pub all-passed : firstRefusal (laidThenJudged c ts ms) (typeCount ts) ≡ Accepted → arenaOutcome c ts ms ≡ Accepted
+  unfolding arenaOutcome layoutOutcome judgeOutcome
+  all-passed e = rw (passed-records c ts ms (typeCount ts) e, passed-layouts c ts ms (typeCount ts) e) (passed-rows c ts ms (typeCount ts) e)
+
+  -- where the first n types pass 2 to 7, the first refusal is that of the rows
+  rows-alone : (n : ℕ) → firstRefusal (recordAt ts ms) n ≡ Accepted → firstRefusal (layoutAt (decoded ts ms)) n ≡ Accepted
+      → firstRefusal (laidThenJudged c ts ms) n ≡ firstRefusal (judgedAt c (decoded ts ms)) n
+  rows-alone zero e f = refl
+  rows-alone (suc n) e f =
+      let p = also-accepted (firstRefusal (recordAt ts ms) n) (outcomeAt n (recordAt ts ms n)) e in
+      let q = also-accepted (firstRefusal (layoutAt (decoded ts ms)) n) (outcomeAt n (layoutAt (decoded ts ms) n)) f in
+      let r = outcome-accepted n (recordAt ts ms n) (p .1) in
+      let s = outcome-accepted n (layoutAt (decoded ts ms) n) (q .1) in
+      rw (rows-alone n (p .0) (q .0), r .1, s .1) refl
+
+  -- the first refusal type by type serves for the rows, behind that of 2 to 7
+  pub also-judged : also (layoutOutcome ts ms) (firstRefusal (laidThenJudged c ts ms) (typeCount ts)) ≡ arenaOutcome c ts ms
+  unfolding arenaOutcome layoutOutcome judgeOutcome
+  also-judged = go (layoutOutcome ts ms) refl
+    where
+      go : (o : Outcome) → layoutOutcome ts ms ≡ o
+          → also o (firstRefusal (laidThenJudged c ts ms) (typeCount ts)) ≡ also o (firstRefusal (judgedAt c (decoded ts ms)) (typeCount ts))
+      go Accepted e =
+          let p = also-accepted (firstRefusal (recordAt ts ms) (typeCount ts)) (firstRefusal (layoutAt (decoded ts ms)) (typeCount ts)) e in
+          rows-alone (typeCount ts) (p .0) (p .1)
+      go (Refused number ty member detail) e = refl
 
 -- a refusal of the layouts is the check's
 module _ (c : ℕ) (ts ms rows : List ℕ) (known : capabilitiesKnown c ≡ true) (number ty member detail : ℕ)
@@ -80,3 +99,67 @@ module _ (c : ℕ) (ts ms rows : List ℕ) (known : capabilitiesKnown c ≡ true
           → (arenaAnswer c ts ms rows ≡ Refused number ty member detail) × (arenaWords c ts ms rows ≡ layoutWords ts ms rows)
       go true p q = (rw (known, p, q) refl, rw (known, p, q) refl)
       go false p q = (rw (known, p) q, rw (known, p) refl)
+
+-- ---- what judging answers and leaves depends on the tables, the capability word and the rows' length alone
+-- the words of n types, whatever they held before
+rows-alike : (o : Outcome) (made : List ℕ) (n : ℕ) → length made ≡ n * rowWords → (rows rows′ : List ℕ)
+    → take (n * rowWords) (rowsAfter o made n rows) ≡ take (n * rowWords) (rowsAfter o made n rows′)
+rows-alike Accepted made n e rows rows′ =
+    take-at made (drop (n * rowWords) rows) (n * rowWords) e ∙ sym (take-at made (drop (n * rowWords) rows′) (n * rowWords) e)
+rows-alike (Refused number ty member detail) made n e rows rows′ =
+    let zeros : List ℕ = replicate (n * rowWords) 0 in
+    let long = length-replicate {A = ℕ} (n * rowWords) 0 in
+    take-at zeros (drop (n * rowWords) rows) (n * rowWords) long ∙ sym (take-at zeros (drop (n * rowWords) rows′) (n * rowWords) long)
+
+-- two lent stretches of one length: the same answer, and the same words for the types unless it is number 1 by the lengths or the capability
+-- word, which touches nothing
+pub alike : (c : ℕ) (ts ms rows rows′ : List ℕ) → length rows ≡ length rows′
+    → (arenaAnswer c ts ms rows ≡ arenaAnswer c ts ms rows′)
+    × (arenaFits c ts ms rows ≡ true
+    → take (typeCount ts * rowWords) (arenaWords c ts ms rows) ≡ take (typeCount ts * rowWords) (arenaWords c ts ms rows′))
+unfolding arenaAnswer arenaWords arenaRows
+alike c ts ms rows rows′ e = (
+  rw e refl,
+  λ fits.
+      let fits′ : arenaFits c ts ms rows′ ≡ true = rw e at fits in
+      rw (fits, fits′)
+      (rows-alike (arenaOutcome c ts ms) (arenaRows c ts ms (typeCount ts)) (typeCount ts)
+      (flat-length (rowAt c ts ms) rowWords (λ i. row-length (row c (decoded ts ms) i)) (typeCount ts)) rows rows′),
+)
+
+-- a capability bit that is not known is number 1, before anything is touched
+pub unknown-untouched : (c : ℕ) (ts ms rows : List ℕ) → capabilitiesKnown c ≡ false
+    → (arenaAnswer c ts ms rows ≡ Refused 1 0 0 0) × (arenaWords c ts ms rows ≡ rows)
+unfolding arenaAnswer arenaWords
+unknown-untouched c ts ms rows unknown = (rw unknown refl, rw unknown refl)
+
+-- ---- the pair: laying out, then judging what it left
+-- laying out leaves as many words as there were
+layout-length-kept : (ts ms rows : List ℕ) (l : LaidOut ts ms rows) → length (layoutWords ts ms rows) ≡ length rows
+layout-length-kept ts ms rows l =
+    let f = fitting ts ms rows l in
+    rw (l .words, length-append, layout-length ts ms (typeCount ts), length-drop) (omega (arith, f .rows))
+
+-- where laying out accepts: judging then answers as for the rows before, and leaves the same words
+module _ (c : ℕ) (known : capabilitiesKnown c ≡ true) (ts ms rows : List ℕ) (l : LaidOut ts ms rows) where
+  pub pair-answer : arenaAnswer c ts ms (layoutWords ts ms rows) ≡ arenaAnswer c ts ms rows
+  pair-answer = alike c ts ms (layoutWords ts ms rows) rows (layout-length-kept ts ms rows l) .0
+
+  pub pair-words : arenaWords c ts ms (layoutWords ts ms rows) ≡ arenaWords c ts ms rows
+  unfolding arenaWords
+  pair-words =
+      rw (layout-length-kept ts ms rows l, known, l .fits) (same-rest ts ms rows l (arenaOutcome c ts ms) (arenaRows c ts ms (typeCount ts)))
+
+-- with a capability word in order, laying out and then judging, where that was accepted, answers and leaves what the single check does
+pub pair : (c : ℕ) → capabilitiesKnown c ≡ true → (ts ms rows : List ℕ)
+    → (also (layoutAnswer ts ms rows) (arenaAnswer c ts ms (layoutWords ts ms rows)) ≡ arenaAnswer c ts ms rows)
+    × (afterBoth (layoutAnswer ts ms rows) (arenaWords c ts ms (layoutWords ts ms rows)) (layoutWords ts ms rows) ≡ arenaWords c ts ms rows)
+pair c known ts ms rows = go (layoutAnswer ts ms rows) refl
+  where
+    go : (o : Outcome) → layoutAnswer ts ms rows ≡ o
+        → (also o (arenaAnswer c ts ms (layoutWords ts ms rows)) ≡ arenaAnswer c ts ms rows)
+        × (afterBoth o (arenaWords c ts ms (layoutWords ts ms rows)) (layoutWords ts ms rows) ≡ arenaWords c ts ms rows)
+    go Accepted e = let l = laid-out ts ms rows e in (pair-answer c known ts ms rows l, pair-words c known ts ms rows l)
+    go (Refused number ty member detail) e =
+        let same = refused-same c ts ms rows known number ty member detail e in
+        (sym (same .0), sym (same .1))

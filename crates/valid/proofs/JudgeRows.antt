@@ -1,4 +1,4 @@
--- Laws of the loop that judges types over laid-out rows: what stands in the rows of the types before, and in the row of the next.
+-- Laws of the loop that lays out and judges type by type: what stands in the rows of the types before, and in the row of the next.
 -- Assumes nothing.
 use mathlib.Core.Path.{_≡_, refl, sym, ap, subst, fun-ext, _∙_}
 use mathlib.Core.List.{List}
@@ -6,24 +6,35 @@ use Prim.Native.Nat.{ℕ, suc, _+_, _*_, _≤_, _<_}
 use native.Mathlib.Omega.{arith}
 use native.Mathlib.Decide.{decLe}
 use lib.ListN.{length, getD, take, drop, List·getD-eq-default}
-use lib.Seq.{getD-drop, getD-take}
-use Rattle.records.specs.Result.{Result, err, ok}
+use Rattle.records.specs.Result.{Result, err, ok, andThen}
 use Rattle.records.specs.Record.{decoded, typeInner, structMembers}
-use Rattle.records.specs.Fields.{rowWords}
-use Rattle.records.specs.Table.{table, resultAt, flat}
-use Rattle.records.proofs.TableLaws.{table-value, table-above, value-ok, flat-length, flat-word}
+use Rattle.records.specs.Fields.{rowWords, recordAt}
+use Rattle.records.specs.Table.{table, resultAt, outcomeAt, firstRefusal, flat}
+use Rattle.records.specs.declared.Outcome.the-variants.{Accepted}
+use Rattle.records.proofs.ResultLaws.{and-then-ok}
+use Rattle.records.proofs.RecordLaws.{record-bounds}
+use Rattle.records.proofs.TableLaws.{table-value, table-above, value-ok, flat-length, flat-word, all-ok, accepted-all}
 use Rattle.rows.specs.Rows.{rowWord, withRow}
 use Rattle.rows.proofs.RowLaws.{flat-more, drop-part}
 use Rattle.type_alignment.specs.declared.TypeLayout.{TypeLayout}
 use Rattle.type_alignment.specs.TypeAlignment.{layoutsIn}
-use Rattle.layouter.specs.Layouter.{layout, layoutRowAt, layoutRows}
+use Rattle.type_layout.specs.TypeLayout.{recordLayout}
+use Rattle.layouter.specs.Layouter.{noLayout, layoutStep, layoutAt, layout, recordThenLayout}
+use Rattle.layouter.proofs.LayoutLaws.{record-laid}
 use Rattle.type_info.specs.declared.Row.{Row}
 use Rattle.type_info.specs.TypeInfo.{wordsOf, rowsIn, emptyRow}
 use Rattle.validate_type.specs.declared.Judged.{Judged}
-use Rattle.validate_type.specs.declared.Judged.the-variants as judged
 use Rattle.validate_type.specs.declared.Judged.the-variants.{Made}
 use Rattle.validate_type.specs.ValidateType.{judge, Settled}
-use Rattle.valid.specs.Arena.{judgeStep, judgedAt, row, rowAt}
+use Rattle.validate_type.specs.TypeRow.{recordRow}
+use Rattle.validate_type.proofs.TypeRowLaws.{and-then-same}
+use Rattle.valid.specs.Arena.{judgeStep, judgedAt, row, rowAt, laidThenJudged, judgedOutcome}
+use Rattle.valid.proofs.AcceptedLaws.{AcceptedTypes, row-size, row-alignment}
+
+-- a row is as long as a row is
+pub row-length : (r : Row) → length (wordsOf r) ≡ rowWords
+unfolding wordsOf
+row-length r = refl
 
 -- what an answer says of the judgement that it settles, and of the words
 module _ (r : Judged) (at : ℕ) (before after : List ℕ) where
@@ -31,18 +42,14 @@ module _ (r : Judged) (at : ℕ) (before after : List ℕ) where
   settled-made (ok made) s e = (made, refl, s .1)
   settled-made (err n m d) s e = let f = s .0 in let z : _≡_ {A = ℕ} 0 1 = cc in absurd (omega arith)
 
-  pub settled-refused : {number member detail : ℕ} (o : Result Row) → Settled r at before after o → r ≡ judged.Refused number member detail
-      → (o ≡ err number member detail) × (after ≡ before)
-  settled-refused {number} {member} {detail} (err n m d) s e =
-      let f = s .0 in
-      let t : (n ≡ number) × (m ≡ member) × (d ≡ detail) = (cc, cc, cc) in
-      (rw (t .0, t .1, t .2) refl, s .1)
-  settled-refused (ok made) s e = let f = s .0 in let z : _≡_ {A = ℕ} 0 1 = cc in absurd (omega arith)
+  pub settled-outcome : (i : ℕ) (o : Result Row) → Settled r at before after o → judgedOutcome i r ≡ outcomeAt i o
+  settled-outcome i (ok made) s = rw (s .0) refl
+  settled-outcome i (err n m d) s = rw (s .0) refl
 
--- a row is as long as a row is
-pub row-length : (r : Row) → length (wordsOf r) ≡ rowWords
-unfolding wordsOf
-row-length r = refl
+  -- the words from m on, behind the row, stay
+  pub settled-rest : (m : ℕ) → at + rowWords ≤ m → at + rowWords ≤ length before → (o : Result Row) → Settled r at before after o → drop m after ≡ drop m before
+  settled-rest m h room (ok made) s = rw (s .1) (drop-part rowWords before (wordsOf made) at (row-length made) room m h)
+  settled-rest m h room (err n x d) s = rw (s .1) refl
 
 module _ (c : ℕ) (ts ms : List ℕ) where
   whole : (i : ℕ) → length (rowAt c ts ms i) ≡ rowWords
@@ -84,54 +91,75 @@ module _ (c : ℕ) (ts ms : List ℕ) where
             immediates = w 13 x;
           })
 
-  -- the layout of type i, read from its row, which judging has not reached
-  module _ (laid rows : List ℕ) (n i : ℕ) (laid-out : take (n * rowWords) laid ≡ layoutRows ts ms n) (below : i < n)
-      (unchanged : drop (i * rowWords) rows ≡ drop (i * rowWords) laid) where
-    own-word : (j : ℕ) → j < rowWords → rowWord rows i j ≡ getD (layoutRowAt ts ms i) j 0
-    unfolding layoutRows
-    own-word j l =
-        sym (getD-drop (i * rowWords) rows j 0)
-        ∙ ap (λ (xs : List ℕ). getD xs j 0) unchanged
-        ∙ getD-drop (i * rowWords) laid j 0
-        ∙ sym (getD-take (n * rowWords) laid (i * rowWords + j) 0 (omega arith))
-        ∙ ap (λ (xs : List ℕ). getD xs (i * rowWords + j) 0) laid-out
-        ∙ flat-word (layoutRowAt ts ms) rowWords (λ m. refl) n i j below l
+  -- ---- where the first n types pass 2 to 7 and are accepted
+  module _ (n : ℕ) (passed : firstRefusal (laidThenJudged c ts ms) n ≡ Accepted) where
+    -- each of them passes 2 and 3, and 4 to 7, and has a row
+    parts : (i : ℕ) → i < n
+        → (recordAt ts ms i ≡ ok tt) × ((l : TypeLayout) × (layoutAt (decoded ts ms) i ≡ ok l)) × ((r : Row) × (judgedAt c (decoded ts ms) i ≡ ok r))
+    parts i h =
+        let a = all-ok (laidThenJudged c ts ms) n passed i h in
+        let p = and-then-ok (recordThenLayout ts ms i) (λ _. judgedAt c (decoded ts ms) i) (a .0) (a .1) in
+        let q = and-then-ok (recordAt ts ms i) (λ _. layoutAt (decoded ts ms) i) (p .0) (p .1) in
+        (q .1, (p .0, q .2), (a .0, p .2))
 
-    pub own-layout : layoutsIn rows i ≡ layout (decoded ts ms) i
-    own-layout = λ x. record { size = own-word 0 (omega arith) x; alignment = own-word 1 (omega arith) x }
+    pub passed-layouts : firstRefusal (layoutAt (decoded ts ms)) n ≡ Accepted
+    passed-layouts = accepted-all (layoutAt (decoded ts ms)) n (λ i h. parts i h .1)
 
-  module _ (rows rows′ : List ℕ) (i : ℕ) (r : Judged) (so-far : take (i * rowWords) rows ≡ flat (rowAt c ts ms) i)
-      (own : layoutsIn rows i ≡ layout (decoded ts ms) i)
-      (one : Settled r (i * rowWords) rows rows′
-      (judge c (typeInner ts) (rowsIn (take (i * rowWords) rows)) i (layoutsIn rows i) (typeInner ts i) (structMembers ts ms i))) where
-    -- the judgement from the words is what the definition has
-    as-defined : judge c (typeInner ts) (rowsIn (take (i * rowWords) rows)) i (layoutsIn rows i) (typeInner ts i) (structMembers ts ms i)
-        ≡ judgedAt c (decoded ts ms) i
-    unfolding resultAt
-    as-defined =
-        ap (λ (l : TypeLayout). judge c (typeInner ts) (rowsIn (take (i * rowWords) rows)) i l (typeInner ts i) (structMembers ts ms i)) own
-        ∙ ap (λ (f : ℕ → Row). judge c (typeInner ts) f i (layout (decoded ts ms) i) (typeInner ts i) (structMembers ts ms i)) (rows-in (take (i * rowWords) rows) i so-far)
+    pub passed-rows : firstRefusal (judgedAt c (decoded ts ms)) n ≡ Accepted
+    passed-rows = accepted-all (judgedAt c (decoded ts ms)) n (λ i h. parts i h .2)
 
-    judged-at : Settled r (i * rowWords) rows rows′ (judgedAt c (decoded ts ms) i)
-    judged-at = subst (λ (o : Result Row). Settled r (i * rowWords) rows rows′ o) as-defined one
+    pub passed-records : firstRefusal (recordAt ts ms) n ≡ Accepted
+    passed-records = accepted-all (recordAt ts ms) n (λ i h. (tt, parts i h .0))
 
-    pub refused-at : {number member detail : ℕ} → r ≡ judged.Refused number member detail
-        → (judgedAt c (decoded ts ms) i ≡ err number member detail) × (rows′ ≡ rows)
-    refused-at e = settled-refused r (i * rowWords) rows rows′ (judgedAt c (decoded ts ms) i) judged-at e
+    accepted : AcceptedTypes c (decoded ts ms) n
+    accepted = record { bounds = λ i h. record-bounds ts ms i (parts i h .0); layouts = passed-layouts; rows = passed-rows }
 
-    module _ (e : r ≡ Made) where
-      pub made-at : (made : Row) × (judgedAt c (decoded ts ms) i ≡ ok made) × (rows′ ≡ withRow rows (i * rowWords) (wordsOf made))
-      made-at = settled-made r (i * rowWords) rows rows′ (judgedAt c (decoded ts ms) i) judged-at e
+    -- the first two words of their rows are their layouts
+    layouts-in : (rows : List ℕ) → rows ≡ flat (rowAt c ts ms) n → layoutsIn rows ≡ table noLayout (layoutStep (decoded ts ms)) n
+    unfolding wordsOf
+    layouts-in rows e = fun-ext (λ k. rw e (at k (decLe (suc k) n)))
+      where
+        at : (k : ℕ) → Dec (suc k ≤ n) → layoutsIn (flat (rowAt c ts ms) n) k ≡ table noLayout (layoutStep (decoded ts ms)) n k
+        at k (yes h) =
+            let size : rowWord (flat (rowAt c ts ms) n) k 0 ≡ layout (decoded ts ms) k .size = row-of n k 0 h (omega arith) ∙ row-size c (decoded ts ms) n accepted k h in
+            let alignment : rowWord (flat (rowAt c ts ms) n) k 1 ≡ layout (decoded ts ms) k .alignment = row-of n k 1 h (omega arith) ∙ row-alignment c (decoded ts ms) n accepted k h in
+            rw (table-value noLayout (layoutStep (decoded ts ms)) n k h) (λ x. record { size = size x; alignment = alignment x })
+        at k (no h) =
+            rw (table-above noLayout (layoutStep (decoded ts ms)) n k (omega arith))
+            (λ x. record { size = row-past n k 0 (omega arith) x; alignment = row-past n k 1 (omega arith) x })
 
-      is-row : row c (decoded ts ms) i ≡ made-at .0
-      is-row = value-ok emptyRow (judgeStep c (decoded ts ms)) i (made-at .0) (made-at .1)
+    -- ---- type n, from these rows
+    module _ (rows rows′ : List ℕ) (r : Judged) (so-far : take (n * rowWords) rows ≡ flat (rowAt c ts ms) n)
+        (one : Settled r (n * rowWords) rows rows′ (recordRow c ts ms (take (n * rowWords) rows) n)) where
+      -- numbers 2 to 7 and then the row, from the words, are what the definition has
+      as-defined : recordRow c ts ms (take (n * rowWords) rows) n ≡ laidThenJudged c ts ms n
+      unfolding recordRow resultAt
+      as-defined =
+          let words = take (n * rowWords) rows in
+          let types = decoded ts ms in
+          let by : (ℕ → Row) → TypeLayout → Result Row = λ before l. judge c (typeInner ts) before n l (typeInner ts n) (structMembers ts ms n) in
+          ap (λ (o : Result TypeLayout). andThen o (by (rowsIn words)))
+          (ap (λ (f : ℕ → TypeLayout). recordLayout ts ms f n) (layouts-in words so-far) ∙ record-laid ts ms n)
+          ∙ and-then-same (recordThenLayout ts ms n) (by (rowsIn words)) (λ _. judgedAt c types n)
+          (λ l e.
+          let at = and-then-ok (recordAt ts ms n) (λ _. layoutAt types n) l e .2 in
+          ap (by (rowsIn words)) (sym (value-ok noLayout (layoutStep types) n l at))
+          ∙ ap (λ (before : ℕ → Row). by before (layout types n)) (rows-in words n so-far))
 
-      written : rows′ ≡ withRow rows (i * rowWords) (rowAt c ts ms i)
-      written = made-at .2 ∙ ap (λ (x : Row). withRow rows (i * rowWords) (wordsOf x)) (sym is-row)
+      settled : Settled r (n * rowWords) rows rows′ (laidThenJudged c ts ms n)
+      settled = subst (λ (o : Result Row). Settled r (n * rowWords) rows rows′ o) as-defined one
 
-      module _ (room : i * rowWords + rowWords ≤ length rows) where
-        pub row-written : take ((i + 1) * rowWords) rows′ ≡ flat (rowAt c ts ms) (i + 1)
-        row-written = rw written (flat-more rowWords rows (rowAt c ts ms) i so-far (whole i) room)
+      pub outcome-at : judgedOutcome n r ≡ outcomeAt n (laidThenJudged c ts ms n)
+      outcome-at = settled-outcome r (n * rowWords) rows rows′ n (laidThenJudged c ts ms n) settled
 
-        pub rest-kept : drop ((i + 1) * rowWords) rows′ ≡ drop ((i + 1) * rowWords) rows
-        rest-kept = rw written (drop-part rowWords rows (rowAt c ts ms i) (i * rowWords) (whole i) room ((i + 1) * rowWords) (omega arith))
+      module _ (room : n * rowWords + rowWords ≤ length rows) where
+        pub rest-kept : (m : ℕ) → n < m → drop (m * rowWords) rows′ ≡ drop (m * rowWords) rows
+        rest-kept m h = settled-rest r (n * rowWords) rows rows′ (m * rowWords) (omega arith) room (laidThenJudged c ts ms n) settled
+
+        pub row-written : r ≡ Made → take ((n + 1) * rowWords) rows′ ≡ flat (rowAt c ts ms) (n + 1)
+        row-written e =
+            let made = settled-made r (n * rowWords) rows rows′ (laidThenJudged c ts ms n) settled e in
+            let judged = and-then-ok (recordThenLayout ts ms n) (λ _. judgedAt c (decoded ts ms) n) (made .0) (made .1) .2 in
+            let is-row = value-ok emptyRow (judgeStep c (decoded ts ms)) n (made .0) judged in
+            let written = made .2 ∙ ap (λ (x : Row). withRow rows (n * rowWords) (wordsOf x)) (sym is-row) in
+            rw written (flat-more rowWords rows (rowAt c ts ms) n so-far (whole n) room)

@@ -1,37 +1,36 @@
-// The arena check: layouts, then the row of each type in order, as Validator::validate of naga's valid/mod.rs has the types of a module.
+// Judging an arena, the types in order, as Validator::validate of naga's valid/mod.rs has those of a module; and the arena check, which lays out
+// and then judges.
 use records::Outcome;
 use validate_type::Judged;
 ghost use mathlib.Core.Path.{_≡_};
+ghost use mathlib.Core.Bool.{true};
 ghost use Prim.Native.Nat.{_*_, _≤_};
-ghost use lib.ListN.{length, take};
-ghost use Rattle.records.specs.Record.{decoded};
-ghost use Rattle.records.specs.Fields.{recordAt};
-ghost use Rattle.records.specs.Table.{firstRefusal};
+ghost use lib.ListN.{length, take, drop};
+ghost use Rattle.records.specs.Record.{typeCount};
+ghost use Rattle.records.specs.Fields.{tablesFit};
+ghost use Rattle.records.specs.Table.{also, firstRefusal, flat};
 ghost use Rattle.records.specs.declared.Outcome.the-variants.{Accepted};
-ghost use Rattle.layouter.specs.Layouter.{layoutAt, layoutRows, rowsAfter};
-ghost use Rattle.valid.specs.Arena.{judgedAt, arenaRows, arenaAnswer, arenaWords};
+ghost use Rattle.rows.specs.Rows.{cleared};
+ghost use Rattle.layouter.specs.Layouter.{layoutOutcome, rowsAfter};
+ghost use Rattle.valid.specs.Arena.{rowAt, laidThenJudged, arenaOutcome, arenaRows, arenaAnswer, arenaWords};
 
-// Judges n laid-out types in order; their rows, or zeros.
+// Numbers 2 to 7 and then the row, type by type, over n types, up to the first refusal. Each row is made from those that this loop has written.
 fn judge_all(capabilities: u32, types: &[u32], members: &[u32], rows: &mut [u32], n: u32) -> Outcome
     requires { ⌜ n * 14 ≤ length (now rows) ⌝ }
     requires { ⌜ n * 6 ≤ length (now types) ⌝ }
-    requires { ⌜ firstRefusal (recordAt (now types) (now members)) n ≡ Accepted ⌝ }
-    requires { ⌜ firstRefusal (layoutAt (decoded (now types) (now members))) n ≡ Accepted ⌝ }
-    requires { ⌜ take (n * 14) (now rows) ≡ layoutRows (now types) (now members) n ⌝ }
-    ensures { λ r. ⌜ r ≡ firstRefusal (judgedAt capabilities (decoded (now (types .entry)) (now (members .entry)))) n ⌝ }
-    ensures { λ r. ⌜ now (rows .exit) ≡ rowsAfter r (arenaRows capabilities (now (types .entry)) (now (members .entry)) n) n (now (rows .entry)) ⌝ }
+    ensures { λ r. ⌜ r ≡ firstRefusal (laidThenJudged capabilities (now (types .entry)) (now (members .entry))) n ⌝ }
+    ensures { λ r. ⌜ (r ≡ Accepted → take (n * 14) (now (rows .exit)) ≡ flat (rowAt capabilities (now (types .entry)) (now (members .entry))) n) ⌝ }
+    ensures { λ _. ⌜ drop (n * 14) (now (rows .exit)) ≡ drop (n * 14) (now (rows .entry)) ⌝ }
 {
     let mut i: u32 = 0;
     while i < n {
-        match validate_struct::judge_at(capabilities, types, members, rows, i) {
+        match validate_struct::record_row(capabilities, types, members, rows, i) {
             Judged::Made => {}
             Judged::Refused {
                 number,
                 member,
                 detail,
             } => {
-                let words = (n as usize) * records::ROW_WORDS;
-                rows::clear(rows, words);
                 return Outcome::Refused {
                     number,
                     ty: i,
@@ -45,7 +44,75 @@ fn judge_all(capabilities: u32, types: &[u32], members: &[u32], rows: &mut [u32]
     Outcome::Accepted
 }
 
-// The arena check: the answer, and the rows of all types in the lent words. Nothing is asked of the caller.
+// Where type by type a refusal was found: 2 to 7 of any type come before it. The rows are zeroed.
+fn refused(types: &[u32], members: &[u32], rows: &mut [u32], n: u32, found: Outcome) -> Outcome
+    requires { ⌜ n ≡ typeCount (now types) ⌝ }
+    requires { ⌜ tablesFit (length (now types)) (length (now members)) (length (now rows)) ≡ true ⌝ }
+    ensures { λ r. ⌜ r ≡ also (layoutOutcome (now (types .entry)) (now (members .entry))) found ⌝ }
+    ensures { λ _. ⌜ now (rows .exit) ≡ cleared (now (rows .entry)) (n * 14) ⌝ }
+{
+    let before = layouter::layout(types, members, rows);
+    match before {
+        Outcome::Accepted => {
+            let words = (n as usize) * records::ROW_WORDS;
+            rows::clear(rows, words);
+            found
+        }
+        Outcome::Refused {
+            number: _,
+            ty: _,
+            member: _,
+            detail: _,
+        } => before,
+    }
+}
+
+// Judging, once tables and capabilities are in order.
+fn judge_tables(
+    capabilities: u32,
+    types: &[u32],
+    members: &[u32],
+    rows: &mut [u32],
+    n: u32,
+) -> Outcome
+    requires { ⌜ n ≡ typeCount (now types) ⌝ }
+    requires { ⌜ tablesFit (length (now types)) (length (now members)) (length (now rows)) ≡ true ⌝ }
+    ensures { λ r. ⌜ r ≡ arenaOutcome capabilities (now (types .entry)) (now (members .entry)) ⌝ }
+    ensures { λ r. ⌜ now (rows .exit) ≡ rowsAfter r (arenaRows capabilities (now (types .entry)) (now (members .entry)) n) n (now (rows .entry)) ⌝ }
+{
+    let found = judge_all(capabilities, types, members, rows, n);
+    match found {
+        Outcome::Accepted => found,
+        Outcome::Refused {
+            number: _,
+            ty: _,
+            member: _,
+            detail: _,
+        } => refused(types, members, rows, n, found),
+    }
+}
+
+// Judging: the answer, and the rows of all types in the lent words, whatever these hold: none of them is read before it is written. Nothing is
+// asked of the caller.
+pub fn judge(types: &[u32], members: &[u32], capabilities: u32, rows: &mut [u32]) -> Outcome
+    ensures { λ r. ⌜ r ≡ arenaAnswer capabilities (now (types .entry)) (now (members .entry)) (now (rows .entry)) ⌝ }
+    ensures { λ _. ⌜ now (rows .exit) ≡ arenaWords capabilities (now (types .entry)) (now (members .entry)) (now (rows .entry)) ⌝ }
+{
+    if records::capabilities_known(capabilities) {
+        if records::tables_fit(types.len(), members.len(), rows.len()) {
+            let n = (types.len() / records::TYPE_WORDS) as u32;
+            return judge_tables(capabilities, types, members, rows, n);
+        }
+    }
+    Outcome::Refused {
+        number: 1,
+        ty: 0,
+        member: 0,
+        detail: 0,
+    }
+}
+
+// The arena check: the capability word is tested, the arena laid out, and what that left judged. Nothing is asked of the caller.
 pub fn check(types: &[u32], members: &[u32], capabilities: u32, rows: &mut [u32]) -> Outcome
     ensures { λ r. ⌜ r ≡ arenaAnswer capabilities (now (types .entry)) (now (members .entry)) (now (rows .entry)) ⌝ }
     ensures { λ _. ⌜ now (rows .exit) ≡ arenaWords capabilities (now (types .entry)) (now (members .entry)) (now (rows .entry)) ⌝ }
@@ -60,10 +127,7 @@ pub fn check(types: &[u32], members: &[u32], capabilities: u32, rows: &mut [u32]
     }
     let laid = layouter::layout(types, members, rows);
     match laid {
-        Outcome::Accepted => {
-            let n = (types.len() / records::TYPE_WORDS) as u32;
-            judge_all(capabilities, types, members, rows, n)
-        }
+        Outcome::Accepted => judge(types, members, capabilities, rows),
         Outcome::Refused {
             number: _,
             ty: _,

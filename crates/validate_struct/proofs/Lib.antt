@@ -1,2 +1,2 @@
 pub mod StateParts
-pub mod OwnMembers
+pub mod RecordRowLaws

@@ -1,17 +1,16 @@
-// validate_type of naga's valid/type.rs: the row of a struct, and of any type by its kind.
+// validate_type of naga's valid/type.rs: the row of a struct, and of any type by its kind, with numbers 2 to 7 of its record before it.
 use members::Members;
+use type_alignment::Aligned;
 use validate_type::Judged;
 ghost use mathlib.Core.Path.{_≡_};
 ghost use Prim.Native.Nat.{ℕ, _+_, _*_, _≤_, _<_};
-ghost use lib.ListN.{length, take};
-ghost use Rattle.records.specs.Result.{ok};
-ghost use Rattle.records.specs.Record.{decoded, typeInner, structMembers, memberType};
-ghost use Rattle.records.specs.Fields.{recordAt};
+ghost use lib.ListN.{length, take, drop};
+ghost use Rattle.records.specs.Record.{structKind, memberCount, typeInner, memberType};
 ghost use Rattle.records.specs.declared.TypeInner.the-variants.{Struct};
-ghost use Rattle.type_alignment.specs.TypeAlignment.{layoutsIn};
 ghost use Rattle.type_info.specs.TypeInfo.{rowsIn};
 ghost use Rattle.members.specs.Members.{stateAfter, membersResult};
-ghost use Rattle.validate_type.specs.ValidateType.{judge, Settled, MembersEarlier};
+ghost use Rattle.validate_type.specs.ValidateType.{judge, Settled};
+ghost use Rattle.validate_type.specs.TypeRow.{wordsRow, recordRow};
 
 // All members of struct i.
 fn members_of(types: &[u32], rows: &[u32], i: u32, part: &[u32], count: u32, span: u32) -> Members
@@ -36,12 +35,21 @@ fn members_of(types: &[u32], rows: &[u32], i: u32, part: &[u32], count: u32, spa
     members::members_of(types, rows, i, part, count, span, taken, state)
 }
 
-fn struct_at(types: &[u32], part: &[u32], rows: &mut [u32], i: u32, count: u32, span: u32) -> Judged
+// The row of struct i, whose fields are in order and whose alignment is known.
+fn members_row(
+    types: &[u32],
+    part: &[u32],
+    rows: &mut [u32],
+    i: u32,
+    count: u32,
+    span: u32,
+    alignment: u32,
+) -> Judged
     requires { ⌜ i * 14 + 14 ≤ length (now rows) ⌝ }
     requires { ⌜ i * 6 ≤ length (now types) ⌝ }
     requires { ⌜ length (now part) ≡ count * 2 ⌝ }
     requires { ⌜ ((j : ℕ) → j < count → memberType (now part) j < i) ⌝ }
-    ensures { λ r. ⌜ ((c : ℕ) → Settled r (i * 14) (now (rows .entry)) (now (rows .exit)) (judge c (typeInner (now (types .entry))) (rowsIn (take (i * 14) (now (rows .entry)))) i (layoutsIn (now (rows .entry)) i) (Struct count span) (now (part .entry)))) ⌝ }
+    ensures { λ r. ⌜ ((c : ℕ) → Settled r (i * 14) (now (rows .entry)) (now (rows .exit)) (judge c (typeInner (now (types .entry))) (rowsIn (take (i * 14) (now (rows .entry)))) i (record { size = span; alignment = alignment }) (Struct count span) (now (part .entry)))) ⌝ }
 {
     if count == 0 {
         return Judged::Refused {
@@ -54,10 +62,19 @@ fn struct_at(types: &[u32], part: &[u32], rows: &mut [u32], i: u32, count: u32, 
     match members_of(types, &rows[..at], i, part, count, span) {
         Members::Taken(state) => {
             let bounds = state.bounds;
-            let alignment = rows[at + 1];
+            let flags = bounds.flags;
             let uniform = type_info::span_verdict(i, span, alignment, state.uniform);
             let storage = type_info::span_verdict(i, span, alignment, state.storage);
-            type_rows::put(rows, i, bounds.flags, uniform, storage, state.immediates);
+            type_rows::put(
+                rows,
+                i,
+                span,
+                alignment,
+                flags,
+                uniform,
+                storage,
+                state.immediates,
+            );
             Judged::Made
         }
         Members::Refused { number, member } => Judged::Refused {
@@ -68,8 +85,43 @@ fn struct_at(types: &[u32], part: &[u32], rows: &mut [u32], i: u32, count: u32, 
     }
 }
 
-// The row of type i, written over its layout where there is one.
-pub fn judge_at(
+// Of struct i, a record with these words: numbers 2 to 7 and then its row, which is written where there is one.
+fn struct_row(
+    types: &[u32],
+    members: &[u32],
+    rows: &mut [u32],
+    i: u32,
+    first: u32,
+    count: u32,
+    span: u32,
+    d: u32,
+    e: u32,
+) -> Judged
+    requires { ⌜ i * 14 + 14 ≤ length (now rows) ⌝ }
+    requires { ⌜ i * 6 ≤ length (now types) ⌝ }
+    ensures { λ r. ⌜ ((c n : ℕ) → Settled r (i * 14) (now (rows .entry)) (now (rows .exit)) (wordsRow c (memberCount (now (members .entry))) n (typeInner (now (types .entry))) (take (i * 14) (now (rows .entry))) i structKind first count span d e (take (count * 2) (drop (first * 2) (now (members .entry)))))) ⌝ }
+{
+    let at = (i as usize) * records::ROW_WORDS;
+    if !fields::struct_fields(members.len() / records::MEMBER_WORDS, first, count, d, e) {
+        return Judged::Refused {
+            number: 2,
+            member: 0,
+            detail: 0,
+        };
+    }
+    let part = records::member_part(members, first, count);
+    match type_alignment::members_alignment(&rows[..at], i, part, count) {
+        Aligned::To(alignment) => members_row(types, part, rows, i, count, span, alignment),
+        Aligned::Refused { number, member } => Judged::Refused {
+            number,
+            member,
+            detail: 0,
+        },
+    }
+}
+
+// Numbers 2 to 7 of type i, and then its row, from the rows of the types before it. It is written where there is one.
+pub fn record_row(
     capabilities: u32,
     types: &[u32],
     members: &[u32],
@@ -78,18 +130,15 @@ pub fn judge_at(
 ) -> Judged
     requires { ⌜ i * 14 + 14 ≤ length (now rows) ⌝ }
     requires { ⌜ i * 6 + 6 ≤ length (now types) ⌝ }
-    requires { ⌜ recordAt (now types) (now members) i ≡ ok tt ⌝ }
-    requires { ⌜ MembersEarlier (decoded (now types) (now members)) i ⌝ }
-    ensures { λ r. ⌜ Settled r (i * 14) (now (rows .entry)) (now (rows .exit)) (judge capabilities (typeInner (now (types .entry))) (rowsIn (take (i * 14) (now (rows .entry)))) i (layoutsIn (now (rows .entry)) i) (typeInner (now (types .entry)) i) (structMembers (now (types .entry)) (now (members .entry)) i)) ⌝ }
+    ensures { λ r. ⌜ Settled r (i * 14) (now (rows .entry)) (now (rows .exit)) (recordRow capabilities (now (types .entry)) (now (members .entry)) (take (i * 14) (now (rows .entry))) i) ⌝ }
 {
     let w = records::own_record(types, i);
     let kind = w.kind;
     if kind == records::STRUCT_KIND {
-        let part = records::member_part(members, w.a, w.b);
-        return struct_at(types, part, rows, i, w.b, w.c);
+        return struct_row(types, members, rows, i, w.a, w.b, w.c, w.d, w.e);
     }
     if kind == records::ARRAY_KIND {
-        return validate_type::array_at(rows, i, w.a, w.b, w.d);
+        return validate_type::array_row(rows, i, w.a, w.b, w.c, w.d, w.e);
     }
-    validate_type::plain_at(capabilities, types, rows, i, w)
+    validate_type::plain_row(capabilities, types, rows, i, w)
 }

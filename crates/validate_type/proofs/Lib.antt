@@ -1,3 +1,4 @@
 pub mod RowParts
+pub mod TypeRowLaws
 pub mod CapabilityLaws
 pub mod JudgeLaws

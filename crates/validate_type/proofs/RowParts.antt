@@ -5,9 +5,7 @@ use mathlib.Core.Bool.{Bool, true, false}
 use mathlib.Core.List.{List}
 use Prim.Native.Nat.{ℕ}
 use lib.Dec.{eqb}
-use Rattle.records.specs.Result.{Result, err, ok, pick, require, andThen}
-use Rattle.records.specs.Record.{innerIn}
-use Rattle.records.specs.declared.Words.{Words}
+use Rattle.records.specs.Result.{Result, ok, pick, require, andThen}
 use Rattle.records.specs.declared.Leaf.{Leaf}
 use Rattle.records.specs.declared.NonData.{NonData}
 use Rattle.records.specs.declared.TypeInner.{TypeInner}
@@ -16,7 +14,7 @@ use Rattle.records.specs.declared.TypeInner.the-variants.{Plain, Array, Runtime
 use Rattle.flags.specs.Flags.{arrayFlags, runtimeArrayFlags, isSizedData}
 use Rattle.type_flags.specs.TypeFlags.{leafFlags}
 use Rattle.type_info.specs.declared.Row.{Row}
-use Rattle.validate_type.specs.ValidateType.{nonDataFlags, flagsOf, leafVerdictAlignment, leafImmediates, uniformOf, storageOf, immediatesOf, rowOf, judge, PlainParts, plainBy, plainRow, plainJudged, arrayRow, arrayOf}
+use Rattle.validate_type.specs.ValidateType.{nonDataFlags, flagsOf, leafVerdictAlignment, leafImmediates, uniformOf, storageOf, immediatesOf, rowOf, judge, plainJudged, arrayRow, arrayOf}
 
 -- what follows a value that a test lets through
 pub require-then {ℓ κ} : {A : Type ℓ} {B : Type κ} (b : Bool) (n m d : ℕ) (a : A) (f : A → Result B)
@@ -24,27 +22,18 @@ pub require-then {ℓ κ} : {A : Type ℓ} {B : Type κ} (b : Bool) (n m d : ℕ
 require-then true n m d a f = refl
 require-then false n m d a f = refl
 
--- a plain type's row, by its flags
-plain-then : (layout : TypeLayout) (alignment immediates : ℕ) (flags : Result ℕ)
-    → plainJudged layout (plainBy alignment immediates flags)
-    ≡ andThen flags (λ f. ok (plainRow layout (record { flags = f; alignment = alignment; immediates = immediates })))
-plain-then layout alignment immediates (err n m d) = refl
-plain-then layout alignment immediates (ok f) = refl
-
-module _ (c : ℕ) (inner : ℕ → TypeInner) (rows : ℕ → Row) (i : ℕ) (layout : TypeLayout) (part : List ℕ) (w : Words) where
+module _ (c : ℕ) (inner : ℕ → TypeInner) (rows : ℕ → Row) (i : ℕ) (layout : TypeLayout) (part : List ℕ) (this : TypeInner) (verdict : ℕ) where
   -- where a record says a leaf, it is judged by the leaf's flags
-  pub leaf-judged : (leaf : Leaf) → innerIn w ≡ Plain leaf → (o : Result PlainParts)
-      → o ≡ plainBy (leafVerdictAlignment leaf) (leafImmediates leaf) (leafFlags c leaf)
-      → plainJudged layout o ≡ judge c inner rows i layout (innerIn w) part
+  pub leaf-judged : (leaf : Leaf) → this ≡ Plain leaf → verdict ≡ leafVerdictAlignment leaf
+      → plainJudged layout verdict (leafImmediates leaf) (leafFlags c leaf) ≡ judge c inner rows i layout this part
   unfolding judge flagsOf rowOf uniformOf storageOf immediatesOf
-  leaf-judged leaf says o e = rw (says, e) (plain-then layout (leafVerdictAlignment leaf) (leafImmediates leaf) (leafFlags c leaf))
+  leaf-judged leaf says is = rw (says, is) refl
 
   -- where it says what is no data, by the flags of that
-  pub other-judged : (n : NonData) → innerIn w ≡ Other n → (o : Result PlainParts)
-      → o ≡ plainBy 1 0 (nonDataFlags c inner rows n)
-      → plainJudged layout o ≡ judge c inner rows i layout (innerIn w) part
+  pub other-judged : (n : NonData) → this ≡ Other n → verdict ≡ 1
+      → plainJudged layout verdict 0 (nonDataFlags c inner rows n) ≡ judge c inner rows i layout this part
   unfolding judge flagsOf rowOf uniformOf storageOf immediatesOf
-  other-judged n says o e = rw (says, e) (plain-then layout 1 0 (nonDataFlags c inner rows n))
+  other-judged n says is = rw (says, is) refl
 
 -- an array is judged by its form
 pub array-judged : (c : ℕ) (inner : ℕ → TypeInner) (rows : ℕ → Row) (i : ℕ) (layout : TypeLayout) (part : List ℕ) (this : TypeInner)

@@ -1,1 +1,2 @@
 pub mod ValidateType
+pub mod TypeRow

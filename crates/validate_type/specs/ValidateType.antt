@@ -3,10 +3,10 @@
 -- Assumes nothing.
 use mathlib.Core.List.{List}
 use mathlib.Core.Path.{_≡_}
-use Prim.Native.Nat.{ℕ, _*_, _<_}
+use Prim.Native.Nat.{ℕ, _*_}
 use lib.Dec.{eqb, ltb}
 use Rattle.records.specs.Result.{Result, err, ok, pick, require, andThen}
-use Rattle.records.specs.Record.{Decoded, memberType, valuePointerKind, samplerKind}
+use Rattle.records.specs.Record.{valuePointerKind, samplerKind}
 use Rattle.records.specs.declared.Leaf.{Leaf}
 use Rattle.records.specs.declared.Leaf.the-variants.{Scalar, Vector, Matrix, CooperativeMatrix, Atomic, RayQuery}
 use Rattle.records.specs.declared.NonData.{NonData}
@@ -23,7 +23,6 @@ use Rattle.type_info.specs.declared.Row.{Row}
 use Rattle.type_info.specs.Verdict.{minUniform, minStorage, okVerdict, arrayVerdict, spanVerdict}
 use Rattle.rows.specs.Rows.{withRow}
 use Rattle.type_info.specs.TypeInfo.{wordsOf}
-use Rattle.member_bounds.specs.declared.Bounds.{Bounds}
 use Rattle.validate_type.specs.declared.PlainRow.{PlainRow}
 use Rattle.validate_type.specs.declared.PlainRow.the-variants as plain
 use Rattle.validate_type.specs.declared.Judged.{Judged}
@@ -114,34 +113,25 @@ judge c inner rows i layout this members =
     andThen (flagsOf c inner rows this members) (λ flags. ok (rowOf minUniform inner rows i layout this members flags))
 
 -- ---- what the code answers
--- what the code has of a type that is neither array nor struct
-pub record PlainParts : Type 0 where
-  pub flags : ℕ
-  pub alignment : ℕ
-  pub immediates : ℕ
-
--- with one alignment in both verdicts
-abbrev pub plainBy : (alignment immediates : ℕ) → Result ℕ → Result PlainParts
-plainBy alignment immediates flags = andThen flags (λ f. ok (record { flags = f; alignment = alignment; immediates = immediates }))
-
-abbrev pub plainResult : PlainRow → Result PlainParts
-plainResult (plain.Made flags alignment immediates) = ok (record { flags = flags; alignment = alignment; immediates = immediates })
-plainResult (plain.Refused number member detail) = err number member detail
-
--- the row that it makes with a layout
-abbrev pub plainRow : TypeLayout → PlainParts → Row
-plainRow layout p =
+-- the row of a type that is neither array nor struct, with one alignment in both verdicts
+abbrev pub plainRow : TypeLayout → (alignment immediates flags : ℕ) → Row
+plainRow layout alignment immediates flags =
     record {
       size = layout .size;
       alignment = layout .alignment;
-      flags = p .flags;
-      uniform = okVerdict (p .alignment);
-      storage = okVerdict (p .alignment);
-      immediates = p .immediates;
+      flags = flags;
+      uniform = okVerdict alignment;
+      storage = okVerdict alignment;
+      immediates = immediates;
     }
 
-abbrev pub plainJudged : TypeLayout → Result PlainParts → Result Row
-plainJudged layout o = andThen o (λ p. ok (plainRow layout p))
+-- that row, or the refusal of its flags
+abbrev pub plainJudged : TypeLayout → (alignment immediates : ℕ) → (flags : Result ℕ) → Result Row
+plainJudged layout alignment immediates flags = andThen flags (λ f. ok (plainRow layout alignment immediates f))
+
+abbrev pub plainResult : PlainRow → Result Row
+plainResult (plain.Made size alignment flags verdict immediates) = ok (plainRow (record { size = size; alignment = alignment }) verdict immediates flags)
+plainResult (plain.Refused number member detail) = err number member detail
 
 -- the row of an array over a base, with the flags that its form leaves
 abbrev pub arrayRow : (i stride : ℕ) → (base : Row) → TypeLayout → (flags : ℕ) → Row
@@ -164,7 +154,3 @@ arrayOf form i stride base layout =
 abbrev pub Settled : Judged → (at : ℕ) (before after : List ℕ) → Result Row → Type 0
 Settled r at before after (ok row) = (r ≡ Made) × (after ≡ withRow before at (wordsOf row))
 Settled r at before after (err number member detail) = (r ≡ judged.Refused number member detail) × (after ≡ before)
-
--- the members of struct i are of earlier types
-abbrev pub MembersEarlier : (ℕ → Decoded) → ℕ → Type 0
-MembersEarlier types i = (count span j : ℕ) → types i .inner ≡ Struct count span → j < count → memberType (types i .members) j < i

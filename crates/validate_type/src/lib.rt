@@ -1,36 +1,32 @@
-// validate_type of naga's valid/type.rs: the row of one type that is no struct.
+// validate_type of naga's valid/type.rs: the row of one type that is no struct. Numbers 2 to 7 of its record come first, as Layouter::update
+// has them, in the same choice by its kind.
 use records::Words;
 use type_flags::Flagged;
-use type_flags::acceleration_flags;
-use type_flags::atomic_flags;
-use type_flags::cooperative_flags;
-use type_flags::image_flags;
-use type_flags::pointer_to;
-use type_flags::ray_query_flags;
-use type_flags::sampler_flags;
-use type_flags::value_pointer_flags;
+use type_layout::Laid;
 ghost use mathlib.Core.Path.{_≡_};
 ghost use mathlib.Core.List.{List};
 ghost use Prim.Native.Nat.{ℕ, _+_, _*_, _≤_, _<_};
 ghost use lib.Dec.{eqb};
 ghost use lib.ListN.{length, take};
-ghost use Rattle.records.specs.Result.{pick};
-ghost use Rattle.records.specs.Record.{arrayKind, structKind, innerIn, typeInner};
-ghost use Rattle.records.specs.Fields.{InnerBounds};
-ghost use Rattle.alignment.specs.Alignment.{vectorAlignment};
+ghost use Rattle.records.specs.Result.{ok, pick, andThen};
+ghost use Rattle.records.specs.Record.{scalarKind, vectorKind, matrixKind, cooperativeMatrixKind, atomicKind, pointerKind, valuePointerKind, arrayKind, structKind, imageKind, samplerKind, accelerationStructureKind, rayQueryKind, bindingArrayKind, typeCount, typeInner};
+ghost use Rattle.records.specs.declared.TypeInner as inner;
 ghost use Rattle.flags.specs.Flags.{startingFlags, scalarFlags, arrayFlags, runtimeArrayFlags};
+ghost use Rattle.width.specs.Width.{checkWidth};
 ghost use Rattle.type_alignment.specs.declared.TypeLayout as layout;
-ghost use Rattle.type_alignment.specs.TypeAlignment.{layoutsIn};
-ghost use Rattle.width.specs.Width.{checkWidth, immediatesWord};
+ghost use Rattle.type_layout.specs.TypeLayout.{laidResult};
+ghost use Rattle.type_flags.specs.TypeFlags.{withWidth, flaggedResult};
 ghost use Rattle.type_info.specs.TypeInfo.{rowsIn};
-ghost use Rattle.type_flags.specs.TypeFlags.{withWidth, matrixFlags, bindingArrayOf, flaggedResult};
-ghost use Rattle.validate_type.specs.ValidateType.{arrayOf, judge, plainBy, plainResult, plainJudged, Settled};
+ghost use Rattle.validate_type.specs.ValidateType.{plainJudged, plainResult, arrayOf, Settled};
+ghost use Rattle.validate_type.specs.TypeRow.{wordsRow};
 
-// A type that is neither array nor struct: its flags, the alignment in both verdicts and the immediates word; or its refusal.
+// A type that is neither array nor struct: its row, both verdicts Ok with one alignment; or its refusal.
 pub enum PlainRow {
     Made {
-        flags: u32,
+        size: u32,
         alignment: u32,
+        flags: u32,
+        verdict: u32,
         immediates: u32,
     },
     Refused {
@@ -50,120 +46,228 @@ pub enum Judged {
     },
 }
 
-// The alignment of a column of n components.
-fn column(n: u32, width: u32) -> u32
-    requires { ⌜ width ≤ 255 ⌝ }
-    ensures { λ r. ⌜ r ≡ vectorAlignment n * width ⌝ }
+// The alignment in a layout.
+fn alignment_in(laid: Laid) -> u32
+    ensures { λ r. ⌜ ((l : layout.TypeLayout) → laidResult laid ≡ ok l → r ≡ l .alignment) ⌝ }
 {
-    let product = alignment::vector_alignment(n) * width;
-    product
+    match laid {
+        Laid::Layout(l) => l.alignment,
+        Laid::Refused {
+            number: _,
+            member: _,
+        } => 0,
+    }
 }
 
-fn plain_row(flagged: Flagged, alignment: u32, immediates: u32) -> PlainRow
-    ensures { λ r. ⌜ plainResult r ≡ plainBy alignment immediates (flaggedResult flagged) ⌝ }
+// The refusal of the layout, then that of the flags; else the row.
+fn joined(laid: Laid, flagged: Flagged, verdict: u32, immediates: u32) -> PlainRow
+    ensures { λ r. ⌜ plainResult r ≡ andThen (laidResult laid) (λ l. plainJudged l verdict immediates (flaggedResult flagged)) ⌝ }
 {
-    match flagged {
-        Flagged::Flags(flags) => PlainRow::Made {
-            flags,
-            alignment,
-            immediates,
+    match laid {
+        Laid::Layout(l) => match flagged {
+            Flagged::Flags(flags) => PlainRow::Made {
+                size: l.size,
+                alignment: l.alignment,
+                flags,
+                verdict,
+                immediates,
+            },
+            Flagged::Refused {
+                number,
+                member,
+                detail,
+            } => PlainRow::Refused {
+                number,
+                member,
+                detail,
+            },
         },
-        Flagged::Refused {
+        Laid::Refused { number, member } => PlainRow::Refused {
             number,
             member,
-            detail,
-        } => PlainRow::Refused {
-            number,
-            member,
-            detail,
+            detail: 0,
         },
     }
 }
 
-// A scalar or a vector, whose verdicts have this alignment.
-fn numeric_row(
-    capabilities: u32,
-    kind: usize,
-    scalar_kind: u32,
-    width: u32,
-    alignment: u32,
-) -> PlainRow
+// The flags of a scalar or a vector.
+fn numeric_flags(capabilities: u32, kind: usize, scalar_kind: u32, width: u32) -> Flagged
     requires { ⌜ kind < 14 ⌝ }
-    ensures { λ r. ⌜ plainResult r ≡ plainBy alignment (immediatesWord «scalar_kind» width) (withWidth (checkWidth capabilities «scalar_kind» width) (scalarFlags «scalar_kind» (startingFlags kind))) ⌝ }
+    ensures { λ r. ⌜ flaggedResult r ≡ withWidth (checkWidth capabilities «scalar_kind» width) (scalarFlags «scalar_kind» (startingFlags kind)) ⌝ }
 {
-    let flagged = type_flags::with_width(
+    type_flags::with_width(
         width::check_width(capabilities, scalar_kind, width),
         flags::scalar_flags(scalar_kind, flags::starting_flags(kind)),
-    );
-    plain_row(
+    )
+}
+
+// By its kind, a record whose five other words are a to e.
+fn scalar_row(capabilities: u32, a: u32, b: u32, c: u32, d: u32, e: u32) -> PlainRow
+    ensures { λ r. ⌜ ((m n i : ℕ) (inner : ℕ → inner.TypeInner) (words members : List ℕ) → plainResult r ≡ wordsRow capabilities m n inner words i scalarKind a b c d e members) ⌝ }
+{
+    let laid = type_layout::scalar_layout(a, b, c, d, e);
+    let flagged = numeric_flags(capabilities, flags::SCALAR_KIND, a, b);
+    joined(laid, flagged, b, width::immediates_word(a, b))
+}
+
+fn vector_row(capabilities: u32, a: u32, b: u32, c: u32, d: u32, e: u32) -> PlainRow
+    ensures { λ r. ⌜ ((m n i : ℕ) (inner : ℕ → inner.TypeInner) (words members : List ℕ) → plainResult r ≡ wordsRow capabilities m n inner words i vectorKind a b c d e members) ⌝ }
+{
+    let laid = type_layout::vector_layout(a, b, c, d, e);
+    let flagged = numeric_flags(capabilities, flags::VECTOR_KIND, b, c);
+    joined(
+        laid,
         flagged,
-        alignment,
-        width::immediates_word(scalar_kind, width),
+        alignment_in(laid),
+        width::immediates_word(b, c),
     )
 }
 
-fn matrix_row(capabilities: u32, kind: u32, width: u32, alignment: u32) -> PlainRow
-    ensures { λ r. ⌜ plainResult r ≡ plainBy alignment (immediatesWord kind width) (matrixFlags capabilities kind width) ⌝ }
+fn matrix_row(capabilities: u32, a: u32, b: u32, c: u32, d: u32, e: u32) -> PlainRow
+    ensures { λ r. ⌜ ((m n i : ℕ) (inner : ℕ → inner.TypeInner) (words members : List ℕ) → plainResult r ≡ wordsRow capabilities m n inner words i matrixKind a b c d e members) ⌝ }
 {
-    plain_row(
-        type_flags::matrix_flags(capabilities, kind, width),
-        alignment,
-        width::immediates_word(kind, width),
+    let laid = type_layout::matrix_layout(a, b, c, d, e);
+    let flagged = type_flags::matrix_flags(capabilities, c, d);
+    joined(
+        laid,
+        flagged,
+        alignment_in(laid),
+        width::immediates_word(c, d),
     )
 }
 
-fn binding_array_row(types: &[u32], rows: &[u32], base: u32, form: u32) -> PlainRow
-    ensures { λ r. ⌜ plainResult r ≡ plainBy 1 0 (bindingArrayOf (typeInner (now (types .entry)) base) (rowsIn (now (rows .entry)) base .flags) form) ⌝ }
+fn cooperative_row(capabilities: u32, a: u32, b: u32, c: u32, d: u32, e: u32) -> PlainRow
+    ensures { λ r. ⌜ ((m n i : ℕ) (inner : ℕ → inner.TypeInner) (words members : List ℕ) → plainResult r ≡ wordsRow capabilities m n inner words i cooperativeMatrixKind a b c d e members) ⌝ }
 {
-    let flags = rows::row_word(rows, base, 2);
-    plain_row(type_flags::binding_array_of(types, base, flags, form), 1, 0)
+    let laid = type_layout::cooperative_layout(a, b, c, d, e);
+    let flagged = type_flags::cooperative_flags(capabilities, c, d);
+    joined(laid, flagged, d, 0)
+}
+
+fn atomic_row(capabilities: u32, a: u32, b: u32, c: u32, d: u32, e: u32) -> PlainRow
+    ensures { λ r. ⌜ ((m n i : ℕ) (inner : ℕ → inner.TypeInner) (words members : List ℕ) → plainResult r ≡ wordsRow capabilities m n inner words i atomicKind a b c d e members) ⌝ }
+{
+    let laid = type_layout::scalar_layout(a, b, c, d, e);
+    let flagged = type_flags::atomic_flags(capabilities, a, b);
+    joined(laid, flagged, b, 0)
+}
+
+fn pointer_row(types: &[u32], rows: &[u32], a: u32, b: u32, c: u32, d: u32, e: u32) -> PlainRow
+    ensures { λ r. ⌜ ((k m i : ℕ) (members : List ℕ) → plainResult r ≡ wordsRow k m (typeCount (now (types .entry))) (typeInner (now (types .entry))) (now (rows .entry)) i pointerKind a b c d e members) ⌝ }
+{
+    let within = (a as usize) < types.len() / records::TYPE_WORDS;
+    let laid = type_layout::based_layout(fields::pointer_fields(b, c, d, e), within, 4);
+    let flagged = type_flags::pointer_to(rows::row_word(rows, a, 2), b);
+    joined(laid, flagged, 1, 0)
+}
+
+fn value_pointer_row(capabilities: u32, a: u32, b: u32, c: u32, d: u32, e: u32) -> PlainRow
+    ensures { λ r. ⌜ ((m n i : ℕ) (inner : ℕ → inner.TypeInner) (words members : List ℕ) → plainResult r ≡ wordsRow capabilities m n inner words i valuePointerKind a b c d e members) ⌝ }
+{
+    let laid = type_layout::handle_layout(fields::value_pointer_fields(a, b, c, d, e), 4);
+    let flagged = type_flags::value_pointer_flags(capabilities, a, b, c);
+    joined(laid, flagged, 1, 0)
+}
+
+fn image_row(capabilities: u32, a: u32, b: u32, c: u32, d: u32, e: u32) -> PlainRow
+    ensures { λ r. ⌜ ((m n i : ℕ) (inner : ℕ → inner.TypeInner) (words members : List ℕ) → plainResult r ≡ wordsRow capabilities m n inner words i imageKind a b c d e members) ⌝ }
+{
+    let laid = type_layout::handle_layout(fields::image_fields(a, b, c, d, e), 0);
+    let flagged = type_flags::image_flags(capabilities, a, b, c);
+    joined(laid, flagged, 1, 0)
+}
+
+fn sampler_row(a: u32, b: u32, c: u32, d: u32, e: u32) -> PlainRow
+    ensures { λ r. ⌜ ((k m n i : ℕ) (inner : ℕ → inner.TypeInner) (words members : List ℕ) → plainResult r ≡ wordsRow k m n inner words i samplerKind a b c d e members) ⌝ }
+{
+    let laid = type_layout::handle_layout(fields::sampler_fields(a, b, c, d, e), 0);
+    joined(laid, type_flags::sampler_flags(), 1, 0)
+}
+
+fn acceleration_row(capabilities: u32, a: u32, b: u32, c: u32, d: u32, e: u32) -> PlainRow
+    ensures { λ r. ⌜ ((m n i : ℕ) (inner : ℕ → inner.TypeInner) (words members : List ℕ) → plainResult r ≡ wordsRow capabilities m n inner words i accelerationStructureKind a b c d e members) ⌝ }
+{
+    let laid = type_layout::handle_layout(fields::acceleration_fields(a, b, c, d, e), 0);
+    let flagged = type_flags::acceleration_flags(capabilities, a);
+    joined(laid, flagged, 1, 0)
+}
+
+fn ray_query_row(capabilities: u32, a: u32, b: u32, c: u32, d: u32, e: u32) -> PlainRow
+    ensures { λ r. ⌜ ((m n i : ℕ) (inner : ℕ → inner.TypeInner) (words members : List ℕ) → plainResult r ≡ wordsRow capabilities m n inner words i rayQueryKind a b c d e members) ⌝ }
+{
+    let laid = type_layout::handle_layout(fields::acceleration_fields(a, b, c, d, e), 0);
+    let flagged = type_flags::ray_query_flags(capabilities, a);
+    joined(laid, flagged, 1, 0)
+}
+
+fn binding_array_row(
+    types: &[u32],
+    rows: &[u32],
+    a: u32,
+    b: u32,
+    c: u32,
+    d: u32,
+    e: u32,
+) -> PlainRow
+    ensures { λ r. ⌜ ((k m i : ℕ) (members : List ℕ) → plainResult r ≡ wordsRow k m (typeCount (now (types .entry))) (typeInner (now (types .entry))) (now (rows .entry)) i bindingArrayKind a b c d e members) ⌝ }
+{
+    let within = (a as usize) < types.len() / records::TYPE_WORDS;
+    let laid = type_layout::based_layout(fields::binding_array_fields(b, c, d, e), within, 0);
+    let flagged = type_flags::binding_array_of(types, a, rows::row_word(rows, a, 2), b);
+    joined(laid, flagged, 1, 0)
 }
 
 // A type whose record has the words w and is neither array nor struct.
 fn judge_plain(capabilities: u32, types: &[u32], rows: &[u32], w: Words) -> PlainRow
-    requires { ⌜ InnerBounds (innerIn w) ⌝ }
     requires { ⌜ (w .kind ≡ arrayKind → ⊥) ⌝ }
     requires { ⌜ (w .kind ≡ structKind → ⊥) ⌝ }
-    ensures { λ r. ⌜ ((i : ℕ) (layout : layout.TypeLayout) (members : List ℕ) → plainJudged layout (plainResult r) ≡ judge capabilities (typeInner (now (types .entry))) (rowsIn (now (rows .entry))) i layout (innerIn w) members) ⌝ }
+    ensures { λ r. ⌜ ((m i : ℕ) (members : List ℕ) → plainResult r ≡ wordsRow capabilities m (typeCount (now (types .entry))) (typeInner (now (types .entry))) (now (rows .entry)) i (w .kind) (w .a) (w .b) (w .c) (w .d) (w .e) members) ⌝ }
 {
     let kind = w.kind;
     let a = w.a;
     let b = w.b;
     let c = w.c;
     let d = w.d;
+    let e = w.e;
     match kind {
-        0 => numeric_row(capabilities, flags::SCALAR_KIND, a, b, b),
-        1 => numeric_row(capabilities, flags::VECTOR_KIND, b, c, column(a, c)),
-        2 => matrix_row(capabilities, c, d, column(b, d)),
-        3 => plain_row(cooperative_flags(capabilities, c, d), d, 0),
-        4 => plain_row(atomic_flags(capabilities, a, b), b, 0),
-        5 => plain_row(pointer_to(rows::row_word(rows, a, 2), b), 1, 0),
-        6 => plain_row(value_pointer_flags(capabilities, a, b, c), 1, 0),
-        9 => plain_row(image_flags(capabilities, a, b, c), 1, 0),
-        10 => plain_row(sampler_flags(), 1, 0),
-        11 => plain_row(acceleration_flags(capabilities, a), 1, 0),
-        12 => plain_row(ray_query_flags(capabilities, a), 1, 0),
-        _ => binding_array_row(types, rows, a, b),
+        0 => scalar_row(capabilities, a, b, c, d, e),
+        1 => vector_row(capabilities, a, b, c, d, e),
+        2 => matrix_row(capabilities, a, b, c, d, e),
+        3 => cooperative_row(capabilities, a, b, c, d, e),
+        4 => atomic_row(capabilities, a, b, c, d, e),
+        5 => pointer_row(types, rows, a, b, c, d, e),
+        6 => value_pointer_row(capabilities, a, b, c, d, e),
+        9 => image_row(capabilities, a, b, c, d, e),
+        10 => sampler_row(a, b, c, d, e),
+        11 => acceleration_row(capabilities, a, b, c, d, e),
+        12 => ray_query_row(capabilities, a, b, c, d, e),
+        13 => binding_array_row(types, rows, a, b, c, d, e),
+        _ => PlainRow::Refused {
+            number: 2,
+            member: 0,
+            detail: 0,
+        },
     }
 }
 
-// Of a type that is neither array nor struct: its row, written over its layout where there is one.
-pub fn plain_at(capabilities: u32, types: &[u32], rows: &mut [u32], i: u32, w: Words) -> Judged
+// Of type i, which is neither array nor struct: numbers 2 to 7 and then its row, which is written where there is one.
+pub fn plain_row(capabilities: u32, types: &[u32], rows: &mut [u32], i: u32, w: Words) -> Judged
     requires { ⌜ i * 14 + 14 ≤ length (now rows) ⌝ }
-    requires { ⌜ InnerBounds (innerIn w) ⌝ }
     requires { ⌜ (w .kind ≡ arrayKind → ⊥) ⌝ }
     requires { ⌜ (w .kind ≡ structKind → ⊥) ⌝ }
-    ensures { λ r. ⌜ ((members : List ℕ) → Settled r (i * 14) (now (rows .entry)) (now (rows .exit)) (judge capabilities (typeInner (now (types .entry))) (rowsIn (take (i * 14) (now (rows .entry)))) i (layoutsIn (now (rows .entry)) i) (innerIn w) members)) ⌝ }
+    ensures { λ r. ⌜ ((m : ℕ) (members : List ℕ) → Settled r (i * 14) (now (rows .entry)) (now (rows .exit)) (wordsRow capabilities m (typeCount (now (types .entry))) (typeInner (now (types .entry))) (take (i * 14) (now (rows .entry))) i (w .kind) (w .a) (w .b) (w .c) (w .d) (w .e) members)) ⌝ }
 {
     let at = (i as usize) * records::ROW_WORDS;
     match judge_plain(capabilities, types, &rows[..at], w) {
         PlainRow::Made {
-            flags,
+            size,
             alignment,
+            flags,
+            verdict,
             immediates,
         } => {
-            let verdict = type_info::ok_verdict(alignment);
-            type_rows::put(rows, i, flags, verdict, verdict, immediates);
+            let both = type_info::ok_verdict(verdict);
+            type_rows::put(rows, i, size, alignment, flags, both, both, immediates);
             Judged::Made
         }
         PlainRow::Refused {
@@ -188,10 +292,18 @@ fn flags_by_form(form: u32, base: u32) -> u32
     flags::runtime_array_flags(base)
 }
 
-// The same of an array over a base.
-pub fn array_at(rows: &mut [u32], i: u32, base: u32, form: u32, stride: u32) -> Judged
+// The row of array i over a base, by its layout.
+fn array_over(
+    rows: &mut [u32],
+    i: u32,
+    base: u32,
+    form: u32,
+    stride: u32,
+    size: u32,
+    own: u32,
+) -> Judged
     requires { ⌜ i * 14 + 14 ≤ length (now rows) ⌝ }
-    ensures { λ r. ⌜ Settled r (i * 14) (now (rows .entry)) (now (rows .exit)) (arrayOf form i stride (rowsIn (take (i * 14) (now (rows .entry))) base) (layoutsIn (now (rows .entry)) i)) ⌝ }
+    ensures { λ r. ⌜ Settled r (i * 14) (now (rows .entry)) (now (rows .exit)) (arrayOf form i stride (rowsIn (take (i * 14) (now (rows .entry))) base) (record { size = size; alignment = own })) ⌝ }
 {
     let at = (i as usize) * records::ROW_WORDS;
     let element = type_rows::row_at(&rows[..at], base);
@@ -218,6 +330,39 @@ pub fn array_at(rows: &mut [u32], i: u32, base: u32, form: u32, stride: u32) -> 
         element.storage,
     );
     let flags = flags_by_form(form, element.flags);
-    type_rows::put(rows, i, flags, uniform, storage, element.immediates);
+    type_rows::put(
+        rows,
+        i,
+        size,
+        own,
+        flags,
+        uniform,
+        storage,
+        element.immediates,
+    );
     Judged::Made
+}
+
+// The same of an array.
+pub fn array_row(
+    rows: &mut [u32],
+    i: u32,
+    base: u32,
+    form: u32,
+    count: u32,
+    stride: u32,
+    e: u32,
+) -> Judged
+    requires { ⌜ i * 14 + 14 ≤ length (now rows) ⌝ }
+    ensures { λ r. ⌜ ((c m n : ℕ) (inner : ℕ → inner.TypeInner) (members : List ℕ) → Settled r (i * 14) (now (rows .entry)) (now (rows .exit)) (wordsRow c m n inner (take (i * 14) (now (rows .entry))) i arrayKind base form count stride e members)) ⌝ }
+{
+    let at = (i as usize) * records::ROW_WORDS;
+    match type_layout::array_record(&rows[..at], i, base, form, count, stride, e) {
+        Laid::Layout(l) => array_over(rows, i, base, form, stride, l.size, l.alignment),
+        Laid::Refused { number, member } => Judged::Refused {
+            number,
+            member,
+            detail: 0,
+        },
+    }
 }

@@ -92,7 +92,7 @@ fn rewrite_each(buffer: &[u8; BYTES], leaves: &[(Vec<u32>, Vec<u8>)]) -> Result<
 
 fn main() -> Result<(), Refusal> {
     let mut rows = [0; 8 * wuldazin::ROW_WORDS];
-    wuldazin::check(&TYPES, &MEMBERS, 0, &mut rows)?;
+    wuldazin::judge(&TYPES, &MEMBERS, 0, &mut rows)?;
     let kernel = Row::of(&rows, KERNEL).unwrap();
     assert!(kernel.has(flags::DATA | flags::HOST_SHAREABLE));
     assert_eq!(kernel.storage().alignment(), Some(16));

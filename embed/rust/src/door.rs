@@ -11,6 +11,17 @@ extern "C" {
         answer: *mut u32,
         answer_length: usize,
     );
+    pub fn wuldazin_judge(
+        types: *const u32,
+        types_length: usize,
+        members: *const u32,
+        members_length: usize,
+        capabilities: u32,
+        rows: *mut u32,
+        rows_length: usize,
+        answer: *mut u32,
+        answer_length: usize,
+    );
     pub fn wuldazin_check(
         types: *const u32,
         types_length: usize,

@@ -122,6 +122,36 @@ pub fn layout(types: &[u32], members: &[u32], rows: &mut [u32]) -> Result<(), Re
 }
 
 /// Judges an arena. Numbers 1 to 24.
+///
+/// `rows` may hold anything, laid out or not: the result and the rows depend on the tables, the capability word and the
+/// length of `rows` alone. Where the capability word is in order, what [`layout`] refuses is refused alike. So this is the
+/// whole check, and the fastest one: a host that has no use for laid-out rows calls it and nothing else.
+pub fn judge(
+    types: &[u32],
+    members: &[u32],
+    capabilities: u32,
+    rows: &mut [u32],
+) -> Result<(), Refusal> {
+    let mut answer = [0; 4];
+    // SAFETY: as in layout.
+    unsafe {
+        door::wuldazin_judge(
+            types.as_ptr(),
+            types.len(),
+            members.as_ptr(),
+            members.len(),
+            capabilities,
+            rows.as_mut_ptr(),
+            rows.len(),
+            answer.as_mut_ptr(),
+            answer.len(),
+        )
+    }
+    Refusal::of(answer)
+}
+
+/// Tests the capability word, then does what [`layout`] and, where that accepts, [`judge`] do one after the other. The
+/// result and the rows are those of [`judge`]. Numbers 1 to 24.
 pub fn check(
     types: &[u32],
     members: &[u32],

@@ -16,9 +16,17 @@ fn array(count: u32, stride: u32) -> [u32; 6] {
     [kind::ARRAY, 0, form::CONSTANT, count, stride, 0]
 }
 
+/// Judged over rows of sevens, and checked over rows of zeros.
 fn judged(types: &[[u32; 6]], members: &[u32], capabilities: u32) -> Result<Vec<u32>, Refusal> {
-    let mut rows = vec![7; types.len() * ROW_WORDS];
-    check(types.as_flattened(), members, capabilities, &mut rows).map(|()| rows)
+    let (mut rows, mut others) = (
+        vec![7; types.len() * ROW_WORDS],
+        vec![0; types.len() * ROW_WORDS],
+    );
+    let types = types.as_flattened();
+    let answer = judge(types, members, capabilities, &mut rows);
+    assert_eq!(check(types, members, capabilities, &mut others), answer);
+    assert_eq!(rows, others);
+    answer.map(|()| rows)
 }
 
 /// M1's arena with E at another offset and another span.
@@ -173,7 +181,24 @@ fn rows_after_a_refusal() {
 }
 
 #[test]
+fn layouts_before_capabilities() {
+    let mut rows = [7; ROW_WORDS];
+    assert_eq!(layout(&F16, &[], &mut rows), Ok(()));
+    assert_eq!(rows, [2, 2, 0, 0, 0, 0, 0, 0, 0, 0, 0, 0, 0, 0]);
+    let bit = capabilities::SHADER_FLOAT16;
+    assert_eq!(judge(&F16, &[], bit, &mut rows), Ok(()));
+    assert_eq!(rows, [2, 2, 255, 0, 2, 0, 0, 0, 0, 2, 0, 0, 0, 3]);
+    let unknown = judge(&F16, &[], u32::MAX, &mut rows);
+    assert_eq!(unknown, Err(refused(1, 0, 0, 0)));
+    assert_eq!(rows[2], 255);
+    let missing = judge(&F16, &[], 0, &mut rows);
+    assert_eq!(missing, Err(refused(8, 0, 0, 1)));
+    assert_eq!(rows, [0; ROW_WORDS]);
+}
+
+#[test]
 fn empty_tables_places_and_parts() {
+    assert_eq!(judge(&[], &[], 0, &mut []), Ok(()));
     assert_eq!(check(&[], &[], 0, &mut []), Ok(()));
     let types = [E, V, structure(0, 2, 16)];
     let types = types.as_flattened();

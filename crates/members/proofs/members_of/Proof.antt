@@ -1,56 +1,58 @@
 -- `members::members_of` meets its contract. The invariant: state is what the definition has after j members. Assumes nothing.
 use borrow.Author.Needs.{needs}
-use mathlib.Core.Path.{_≡_, sym, _∙_}
-use Prim.Native.Nat.{suc, _≤_, _-_}
+use mathlib.Core.Path.{_≡_, sym}
+use Prim.Native.Nat.{_+_, _≤_, _-_}
 use native.Mathlib.Nat.{le-antisymm}
-use native.Mathlib.Numerals.{add-one}
 use native.Mathlib.Omega.{arith}
 use denote.Ref.{now}
 use Rattle.records.specs.Result.{ok}
-use Rattle.records.specs.Record.{typeInner, memberType}
+use Rattle.records.specs.Record.{typeInner}
 use Rattle.type_info.specs.TypeInfo.{rowsIn}
 use Rattle.members.specs.Members.{stateAfter}
-use Rattle.members.proofs.StateLaws.{state-step, state-refused}
+use Rattle.members.proofs.StateLaws.{state-refused}
 use Rattle.members.proofs.members_of.Statement.{statement}
 use Rattle.members.proofs.members_of.Tie as tie
 
 abbrev Inv-loop : tie.InvT-loop
-Inv-loop types rows i part count span taken before j₀ state j = (j ≤ count) × (stateAfter (typeInner types) (rowsIn rows) i count span part j ≡ ok state)
+Inv-loop types rows i part count span taken state₀ j₀ state j = (j ≤ count) × (stateAfter (typeInner types) (rowsIn rows) i count span part j ≡ ok state)
 
 abbrev μ-loop : tie.MeasureT-loop
-μ-loop types rows i part count span taken before j₀ state j = count - j
+μ-loop types rows i part count span taken state₀ j₀ state j = count - j
 
 loop-holds : tie.Need-loop-holds Inv-loop μ-loop
-loop-holds c = c .before .ordered-members .ensures
+loop-holds c = let pre = c .before .before .before .pre in (pre .1 .1 .1 .0, pre .1 .1 .1 .1)
 
-row-at-requires : tie.Need-row-at-requires Inv-loop μ-loop
-row-at-requires c κs = omega (arith, c .before .before .before .before .before .before .before .before .before .before .before .pre .0)
+ordered-members-requires : tie.Need-ordered-members-requires Inv-loop μ-loop
+ordered-members-requires c κs =
+    let pre = c .before .before .before .before .before .pre in let l = c .before .loop in
+    (pre .0, (pre .1 .0, (pre .1 .1 .0, (l .inv .0, l .inv .1))))
 
 returns : tie.Need-returns Inv-loop μ-loop
-returns c =
-    let l = c .before .before .before .before .before .before .before .before .before .before .loop in
-    let a = c .before .before .before .before .before .before .before .before .before .before .before .before .before .before .before .before .args in
-    let type-read : c .before .before .before .before .before .before .before .before .member-type .result ≡ memberType (now (a .part)) (l .j) = c .before .before .before .before .before .before .before .before .member-type .ensures in
-    let step = rw (c .before .before .before .before .row-at .ensures, c .before .before .before .before .before .struct-at .ensures, c .before .before .before .before .before .before .is-array .ensures, c .before .before .before .before .before .before .before .member-offset .ensures, type-read) at (c .before .before .before .member .ensures) in
-    let refused = rw (c .before .number .given .1) at (state-step (typeInner (now (a .types))) (rowsIn (now (a .rows))) (a .i) (a .count) (a .span) (now (a .part)) (l .j) (l .state) (l .inv .1) ∙ sym step) in
-    sym (state-refused (typeInner (now (a .types))) (rowsIn (now (a .rows))) (a .i) (a .count) (a .span) (now (a .part)) (suc (l .j)) refused (a .count) (c .before .before .before .before .before .before .before .before .before .loop-test .taken))
+returns c = rw (c .if1 .taken) at (sym (c .before .before .ordered-members .ensures .1 .1))
 
-add-j : tie.Need-add-j Inv-loop μ-loop
-add-j c = omega (arith, c .before .before .before .before .before .before .before .before .before .loop-test .taken, c .before .before .before .before .before .before .before .before .before .before .before .before .before .before .before .before .fits .count)
-
-loop-less : tie.Need-loop-less Inv-loop μ-loop
-loop-less c = omega (arith, c .before .before .before .before .before .before .before .before .before .loop-test .taken)
-
-loop-again : tie.Need-loop-again Inv-loop μ-loop
-loop-again c =
-    let l = c .before .before .before .before .before .before .before .before .before .before .loop in
-    let a = c .before .before .before .before .before .before .before .before .before .before .before .before .before .before .before .before .args in
-    let type-read : c .before .before .before .before .before .before .before .before .member-type .result ≡ memberType (now (a .part)) (l .j) = c .before .before .before .before .before .before .before .before .member-type .ensures in
-    let step = rw (c .before .before .before .before .row-at .ensures, c .before .before .before .before .before .struct-at .ensures, c .before .before .before .before .before .before .is-array .ensures, c .before .before .before .before .before .before .before .member-offset .ensures, type-read) at (c .before .before .before .member .ensures) in
-    (omega (arith, c .before .before .before .before .before .before .before .before .before .loop-test .taken), rw add-one (rw (c .before .after .given .1) at (state-step (typeInner (now (a .types))) (rowsIn (now (a .rows))) (a .i) (a .count) (a .span) (now (a .part)) (l .j) (l .state) (l .inv .1) ∙ sym step)))
+step-requires : tie.Need-step-requires Inv-loop μ-loop
+step-requires c κs = (c .before .before .before .before .before .before .before .before .pre .0, c .before .before .ordered-members .ensures .1 .1)
 
 returns-2 : tie.Need-returns-2 Inv-loop μ-loop
 returns-2 c =
+    let a = c .before .before .before .before .before .before .before .before .before .before .before .before .args in
+    let o = c .before .before .before .before .before .before .ordered-members in
+    let refused = rw (c .before .number .given .1) at (sym (c .before .before .before .step .ensures)) in
+    sym (state-refused (typeInner (now (a .types))) (rowsIn (now (a .rows))) (a .i) (a .count) (a .span) (now (a .part)) (o .result .taken + 1) refused (a .count) (omega (arith, o .ensures .1 .0, c .before .before .before .before .if1 .left)))
+
+add-j : tie.Need-add-j Inv-loop μ-loop
+add-j c = omega (arith, c .before .before .before .before .before .before .ordered-members .ensures .1 .0, c .before .before .before .before .if1 .left, c .before .before .before .before .before .before .before .before .before .before .before .before .fits .count)
+
+loop-less : tie.Need-loop-less Inv-loop μ-loop
+loop-less c = omega (arith, c .before .before .before .before .before .before .before .loop-test .taken, c .before .before .before .before .before .before .ordered-members .ensures .0)
+
+loop-again : tie.Need-loop-again Inv-loop μ-loop
+loop-again c =
+    let o = c .before .before .before .before .before .before .ordered-members in
+    (omega (arith, o .ensures .1 .0, c .before .before .before .before .if1 .left), rw (c .before .after .given .1) at (sym (c .before .before .before .step .ensures)))
+
+returns-3 : tie.Need-returns-3 Inv-loop μ-loop
+returns-3 c =
     let l = c .before .loop in
     rw (le-antisymm (l .inv .0) (c .loop-test .left)) at (sym (l .inv .1))
 
@@ -60,18 +62,14 @@ members-of-spec =
     (tie.spec
     Inv-loop
     μ-loop
-    (λ c κs. search needs)
     loop-holds
-    (λ c κs. search needs)
-    (λ c κs. search needs)
-    (λ c κs. search needs)
-    (λ c κs. search needs)
-    row-at-requires
-    (λ c κs. search needs)
-    (λ c. search needs)
-    (λ c. search needs)
+    ordered-members-requires
     returns
+    step-requires
+    (λ c. search needs)
+    (λ c. search needs)
+    returns-2
     add-j
     loop-less
     loop-again
-    returns-2)
+    returns-3)

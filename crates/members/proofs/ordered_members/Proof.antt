@@ -14,13 +14,13 @@ use Rattle.members.proofs.ordered_members.Statement.{statement}
 use Rattle.members.proofs.ordered_members.Tie as tie
 
 abbrev Inv-loop : tie.InvT-loop
-Inv-loop types rows i part count span taken state₀ j₀ state j = (j ≤ count) × (stateAfter (typeInner types) (rowsIn rows) i count span part j ≡ ok state)
+Inv-loop types rows i part count span taken state₀ j₀ state j = (taken ≤ j) × (j ≤ count) × (stateAfter (typeInner types) (rowsIn rows) i count span part j ≡ ok state)
 
 abbrev μ-loop : tie.MeasureT-loop
 μ-loop types rows i part count span taken state₀ j₀ state j = count - j
 
 loop-holds : tie.Need-loop-holds Inv-loop μ-loop
-loop-holds c = let pre = c .before .before .before .pre in (pre .1 .1 .1 .0, pre .1 .1 .1 .1)
+loop-holds c = let pre = c .before .before .before .pre in (omega arith, pre .1 .1 .1 .0, pre .1 .1 .1 .1)
 
 own-type-requires : tie.Need-own-type-requires Inv-loop μ-loop
 own-type-requires c κs = omega (arith, c .before .before .before .before .before .pre .1 .0, c .loop-test .taken)
@@ -34,7 +34,7 @@ ordered-member-requires c κs =
     (rw (← c .before .own-type .ensures) at (pre .1 .1 .0 (c .before .before .before .loop .j) (c .before .before .loop-test .taken)), pre .0)
 
 returns : tie.Need-returns Inv-loop μ-loop
-returns c = c .before .before .before .before .before .before .loop .inv
+returns c = let l = c .before .before .before .before .before .before .loop in (l .inv .0, (l .inv .1, l .inv .2))
 
 add-j : tie.Need-add-j Inv-loop μ-loop
 add-j c = omega (arith, c .before .before .before .before .before .before .loop-test .taken, c .before .before .before .before .before .before .before .before .before .before .before .fits .count)
@@ -47,10 +47,10 @@ loop-again c =
     let l = c .before .before .before .before .before .before .before .loop in
     let a = c .before .before .before .before .before .before .before .before .before .before .before .args in
     let step = rw (c .before .next .given .1, c .before .before .before .before .own-offset .ensures, c .before .before .before .before .before .own-type .ensures) at (c .before .before .before .ordered-member .ensures (a .count)) in
-    (omega (arith, c .before .before .before .before .before .before .loop-test .taken), rw add-one (state-step (typeInner (now (a .types))) (rowsIn (now (a .rows))) (a .i) (a .count) (a .span) (now (a .part)) (l .j) (l .state) (l .inv .1) ∙ step))
+    (omega (arith, l .inv .0), omega (arith, c .before .before .before .before .before .before .loop-test .taken), rw add-one (state-step (typeInner (now (a .types))) (rowsIn (now (a .rows))) (a .i) (a .count) (a .span) (now (a .part)) (l .j) (l .state) (l .inv .2) ∙ step))
 
 returns-2 : tie.Need-returns-2 Inv-loop μ-loop
-returns-2 c = c .before .loop .inv
+returns-2 c = let l = c .before .loop in (l .inv .0, (l .inv .1, l .inv .2))
 
 pub ordered-members-spec : {M : Type 1} → statement M
 ordered-members-spec =

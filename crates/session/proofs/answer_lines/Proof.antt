@@ -7,13 +7,13 @@ use Rattle.session.proofs.answer_lines.Statement.{statement}
 use Rattle.session.proofs.answer_lines.Tie as tie
 
 abbrev Inv-loop : tie.InvT-loop
-Inv-loop input s₀ arena₀ out₀ at₀ end₀ s arena out at end = (at ≤ end) × (end ≤ length input)
+Inv-loop input s₀ arena₀ rows₀ out₀ at₀ end₀ s arena rows out at end = (at ≤ end) × (end ≤ length input)
 
 abbrev μ-loop : tie.MeasureT-loop
-μ-loop input s₀ arena₀ out₀ at₀ end₀ s arena out at end = length input - at
+μ-loop input s₀ arena₀ rows₀ out₀ at₀ end₀ s arena rows out at end = length input - at
 
 loop-less : tie.Need-loop-less Inv-loop μ-loop
-loop-less c = omega (arith, c .before .before .before .before .before .before .before .before .loop-test .taken, c .before .before .before .before .before .before .before .before .before .loop .inv .0)
+loop-less c = omega (arith, c .before .before .before .before .before .before .before .before .before .loop-test .taken, c .before .before .before .before .before .before .before .before .before .before .loop .inv .0)
 
 loop-again : tie.Need-loop-again Inv-loop μ-loop
 loop-again c = (c .run-end2 .ensures .1 .0, c .run-end2 .ensures .1 .1)

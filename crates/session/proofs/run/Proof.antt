@@ -6,10 +6,10 @@ use Rattle.session.proofs.run.Statement.{statement}
 use Rattle.session.proofs.run.Tie as tie
 
 abbrev Inv-loop : tie.InvT-loop
-Inv-loop arena₀ buffer₀ out₀ s₀ turns₀ arena buffer out s turns = length buffer ≡ 65536
+Inv-loop arena₀ rows₀ buffer₀ out₀ s₀ turns₀ arena rows buffer out s turns = length buffer ≡ 65536
 
 abbrev μ-loop : tie.MeasureT-loop
-μ-loop arena₀ buffer₀ out₀ s₀ turns₀ arena buffer out s turns = turns
+μ-loop arena₀ rows₀ buffer₀ out₀ s₀ turns₀ arena rows buffer out s turns = turns
 
 pub run-spec : {M : Type 1} → statement M
 run-spec =

@@ -10,7 +10,7 @@ slice-aggregate-answer-lines c = let r = c .before .before .before .read-more in
 
 sub-keep-rest : tie.Need-sub-keep-rest
 sub-keep-rest c =
-    let r = c .before .before .before .before .before .before .before .read-more in
+    let r = c .before .before .before .before .before .before .before .before .read-more in
     omega (arith, c .before .answer-lines .ensures, length-take-le (r .result .end) (r .last .0) (omega (arith, r .ensures, r .kept .0)))
 
 pub turn-spec : {M : Type 1} → statement M

@@ -4,7 +4,7 @@ use Rattle.text.proofs.line_by.Statement.{statement}
 use Rattle.text.proofs.line_by.Tie as tie
 
 sub-steps : tie.Need-sub-steps
-sub-steps c = rw (c .enum-told8 .given .1) at (c .before .before .before .before .before .pre .0)
+sub-steps c = rw (c .enum-told10 .given .1) at (c .before .before .before .before .before .pre .0)
 
 returns : tie.Need-returns
 returns c = rw (c .enum-told .given .1, c .before .before .before .word-at .ensures)
@@ -15,20 +15,20 @@ returns-2 c = rw (c .before .before .before .before .enum-told2 .given .1, c .wo
 returns-3 : tie.Need-returns-3
 returns-3 c = rw (c .enum-told3 .given .1, c .before .before .word-at2 .ensures, c .before .before .before .word-at .ensures)
 
-returns-5 : tie.Need-returns-5
-returns-5 c = rw (c .enum-told5 .given .1, c .before .before .before .word-at .ensures)
-
-returns-6 : tie.Need-returns-6
-returns-6 c = rw (c .enum-told6 .given .1, c .before .before .word-at2 .ensures, c .before .before .before .word-at .ensures)
-
 returns-7 : tie.Need-returns-7
-returns-7 c = rw (c .enum-told7 .given .1, c .before .before .word-at2 .ensures, c .before .before .before .word-at .ensures)
+returns-7 c = rw (c .enum-told7 .given .1, c .before .before .before .word-at .ensures)
 
 returns-8 : tie.Need-returns-8
-returns-8 c = rw (c .enum-told8 .given .1, c .before .before .before .word-at .ensures)
+returns-8 c = rw (c .enum-told8 .given .1, c .before .before .word-at2 .ensures, c .before .before .before .word-at .ensures)
+
+returns-9 : tie.Need-returns-9
+returns-9 c = rw (c .enum-told9 .given .1, c .before .before .word-at2 .ensures, c .before .before .before .word-at .ensures)
 
 returns-10 : tie.Need-returns-10
-returns-10 c = rw (c .enum-told10 .given .1, c .before .before .word-at2 .ensures, c .before .before .before .word-at .ensures)
+returns-10 c = rw (c .enum-told10 .given .1, c .before .before .before .word-at .ensures)
+
+returns-12 : tie.Need-returns-12
+returns-12 c = rw (c .enum-told12 .given .1, c .before .before .word-at2 .ensures, c .before .before .before .word-at .ensures)
 
 pub line-by-spec : {M : Type 1} → statement M
 line-by-spec =
@@ -48,6 +48,8 @@ line-by-spec =
     (λ c. search needs)
     (λ c. search needs)
     (λ c. search needs)
+    (λ c. search needs)
+    (λ c. search needs)
     sub-steps
     (λ c. search needs)
     (λ c. search needs)
@@ -58,11 +60,13 @@ line-by-spec =
     returns-2
     returns-3
     (λ c. search needs)
-    returns-5
-    returns-6
+    (λ c. search needs)
+    (λ c. search needs)
     returns-7
     returns-8
-    (λ c. search needs)
+    returns-9
     returns-10
+    (λ c. search needs)
+    returns-12
     (λ c. search needs)
     (λ c. search needs))

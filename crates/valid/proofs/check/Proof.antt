@@ -1,44 +1,25 @@
 use borrow.Author.Needs.{needs}
-use mathlib.Core.Path.{_≡_, refl, sym, _∙_}
-use mathlib.Core.Bool.{false}
-use native.Mathlib.Omega.{arith}
+use mathlib.Core.Path.{sym, _∙_}
 use denote.Ref.{now}
 use borrow.Author.Tests.{not-true, not-false}
-use Rattle.records.specs.Fields.{capabilitiesKnown}
-use Rattle.valid.specs.Arena.{judgeOutcome, arenaAnswer, arenaWords}
-use Rattle.valid.proofs.CheckLaws.{laid-out, fitting, both-accepted, laid-rows, answer-judged, words-judged, refused-same}
+use Rattle.valid.proofs.CheckLaws.{laid-out, unknown-untouched, pair-answer, pair-words, refused-same}
 use Rattle.valid.proofs.check.Statement.{statement}
 use Rattle.valid.proofs.check.Tie as tie
 
 returns : tie.Need-returns
-unfolding arenaAnswer arenaWords
 returns c =
     let a = c .before .before .before .before .before .args in
-    let unknown : capabilitiesKnown (a .capabilities) ≡ false = sym (c .before .capabilities-known .ensures) ∙ not-true _ (c .if1 .taken) in
-    (rw unknown refl, rw unknown refl)
-
-cast-n : tie.Need-cast-n
-cast-n c = let a = c .before .before .before .before .before .before .before .before .before .before .before .args in let ts = now (a .types) in let ms = now (a .members) in let rows = now (a .rows) in let l = laid-out ts ms rows (sym (c .before .before .before .before .layout .ensures .0) ∙ c .enum-told .given .1) in omega (arith, fitting ts ms rows l .types)
-
-judge-all-requires : tie.Need-judge-all-requires
-judge-all-requires c κs =
-    let a = c .before .before .before .before .before .before .before .before .before .before .before .before .args in let ts = now (a .types) in let ms = now (a .members) in let rows = now (a .rows) in
-    let l = laid-out ts ms rows (sym (c .before .before .before .before .before .layout .ensures .0) ∙ c .before .enum-told .given .1) in
-    let accepted = both-accepted ts ms rows l in (
-      omega (arith, fitting ts ms rows l .rows, c .before .before .before .before .before .layout .kept .1 .1 .0),
-      (omega arith, (accepted .0, (accepted .1, rw (c .before .before .before .before .before .layout .ensures .1) (laid-rows ts ms rows l)))),
-    )
+    let untouched = unknown-untouched (a .capabilities) (now (a .types)) (now (a .members)) (now (a .rows)) (sym (c .before .capabilities-known .ensures) ∙ not-true _ (c .if1 .taken)) in
+    (sym (untouched .0), sym (untouched .1))
 
 returns-2 : tie.Need-returns-2
-unfolding judgeOutcome
 returns-2 c =
     let a = c .before .before .before .before .before .before .before .before .before .before .before .before .before .before .before .args in let ts = now (a .types) in let ms = now (a .members) in let rows = now (a .rows) in
-    let l = laid-out ts ms rows (sym (c .before .before .before .before .before .before .before .before .layout .ensures .0) ∙ c .before .before .before .before .enum-told .given .1) in
+    let laid = c .before .before .before .before .before .before .before .before .layout in
+    let l = laid-out ts ms rows (sym (laid .ensures .0) ∙ c .before .before .before .before .enum-told .given .1) in
     let known = sym (c .before .before .before .before .before .before .before .before .before .before .before .capabilities-known .ensures) ∙ not-false _ (c .before .before .before .before .before .before .before .before .before .before .if1 .left) in
-    let judged = c .before .before .judge-all .ensures in (
-      judged .0 ∙ sym (answer-judged ts ms rows l (a .capabilities) known),
-      rw (words-judged ts ms rows l (a .capabilities) known, ← c .before .before .before .before .before .before .before .before .layout .ensures .1, ← judged .0) (judged .1),
-    )
+    let judged = rw (laid .ensures .1) at (c .before .before .judge .ensures) in
+    (judged .0 ∙ pair-answer (a .capabilities) known ts ms rows l, judged .1 ∙ pair-words (a .capabilities) known ts ms rows l)
 
 returns-3 : tie.Need-returns-3
 returns-3 c =
@@ -55,8 +36,7 @@ check-spec =
     returns
     (λ c κs. search needs)
     (λ c. search needs)
-    cast-n
-    judge-all-requires
+    (λ c κs. search needs)
     (λ c. search needs)
     (λ c. search needs)
     returns-2

@@ -1,31 +1,27 @@
--- `valid::judge_all` meets its contract. The invariant: the first i types are accepted and their rows stand in place; the rows from i on are
--- as they were laid out. Assumes nothing.
+-- `valid::judge_all` meets its contract. The invariant: the first i types pass numbers 2 to 7 and are accepted, their rows stand in place, and what
+-- stands behind the n rows is as it was. Assumes nothing.
 use borrow.Author.Needs.{needs}
 use mathlib.Core.Path.{_≡_, refl, sym, _∙_}
-use Prim.Native.Nat.{_≤_, _-_, _+_, _*_}
+use Prim.Native.Nat.{ℕ, _≤_, _-_, _+_, _*_}
 use native.Mathlib.Nat.{le-antisymm}
 use native.Mathlib.Numerals.{add-one}
 use native.Mathlib.Omega.{arith}
-use lib.ListN.{length, take, drop, take-append-drop}
+use lib.ListN.{length, take, drop}
 use denote.Ref.{now}
-use Rattle.records.specs.Record.{decoded}
-use Rattle.records.specs.Fields.{recordAt}
 use Rattle.records.specs.Table.{firstRefusal, flat}
 use Rattle.records.specs.declared.Outcome.the-variants.{Accepted}
-use Rattle.records.proofs.TableLaws.{all-ok, stays}
-use Rattle.rows.proofs.RowLaws.{drop-later}
-use Rattle.valid.specs.Arena.{judgedAt, rowAt, arenaRows}
-use Rattle.valid.proofs.JudgeRows.{own-layout, refused-at, made-at, row-written, rest-kept}
-use Rattle.validate_struct.proofs.OwnMembers.{members-earlier}
+use Rattle.records.proofs.TableLaws.{stays}
+use Rattle.valid.specs.Arena.{rowAt, laidThenJudged}
+use Rattle.valid.proofs.JudgeRows.{outcome-at, rest-kept, row-written}
 use Rattle.valid.proofs.judge_all.Statement.{statement}
 use Rattle.valid.proofs.judge_all.Tie as tie
 
 abbrev Inv-loop : tie.InvT-loop
 Inv-loop capabilities types members rows₀ n i₀ rows i =
     (i ≤ n)
-    × (firstRefusal (judgedAt capabilities (decoded types members)) i ≡ Accepted)
+    × (firstRefusal (laidThenJudged capabilities types members) i ≡ Accepted)
     × (take (i * 14) rows ≡ flat (rowAt capabilities types members) i)
-    × (drop (i * 14) rows ≡ drop (i * 14) rows₀)
+    × (drop (n * 14) rows ≡ drop (n * 14) rows₀)
     × (length rows ≡ length rows₀)
 
 abbrev μ-loop : tie.MeasureT-loop
@@ -34,57 +30,47 @@ abbrev μ-loop : tie.MeasureT-loop
 loop-holds : tie.Need-loop-holds Inv-loop μ-loop
 loop-holds c = (search needs, refl, refl, refl, refl)
 
-judge-at-requires : tie.Need-judge-at-requires Inv-loop μ-loop
-judge-at-requires c κs =
-    let a = c .before .before .before .before .before .before .args in let ts = now (a .types) in let ms = now (a .members) in
-    let below = c .before .loop-test .taken in (
-      omega (arith, c .before .before .before .before .before .before .pre .0, below),
-      (
-        omega (arith, c .before .before .before .before .before .before .pre .1 .0, below),
-        (
-          all-ok (recordAt ts ms) (a .n) (c .before .before .before .before .before .before .pre .1 .1 .0) (c .before .before .loop .i) below .1,
-          members-earlier (decoded ts ms) (a .n) (c .before .before .before .before .before .before .pre .1 .1 .1 .0) (c .before .before .loop .i) below,
-        ),
-      ),
-    )
-
-clear-requires : tie.Need-clear-requires Inv-loop μ-loop
-clear-requires c κs = omega (arith, c .before .before .before .before .before .before .judge-at .kept .1 .1 .1 .0, c .before .before .before .before .before .before .before .before .before .before .before .before .before .pre .0)
+record-row-requires : tie.Need-record-row-requires Inv-loop μ-loop
+record-row-requires c κs =
+    let s = c .before .before .before .before .before .before in
+    (omega (arith, s .pre .0, c .before .loop-test .taken), omega (arith, s .pre .1, c .before .loop-test .taken))
 
 returns : tie.Need-returns Inv-loop μ-loop
 returns c =
-    let a = c .before .before .before .before .before .before .before .before .before .before .before .before .before .before .before .before .args in let ts = now (a .types) in let ms = now (a .members) in
-    let l = c .before .before .before .before .before .before .before .before .before .before .before .before .loop in
-    let j = c .before .before .before .before .before .before .before .before .before .judge-at in
-    let own = own-layout (a .capabilities) ts ms (now (a .rows)) (l .rows) (a .n) (l .i) (c .before .before .before .before .before .before .before .before .before .before .before .before .before .before .before .before .pre .1 .1 .1 .1) (c .before .before .before .before .before .before .before .before .before .before .before .loop-test .taken) (l .inv .3) in
-    let gone = refused-at (a .capabilities) ts ms (l .rows) _ (l .i) (j .result) (l .inv .2) own (j .ensures) (c .before .before .before .before .before .number .given .1) in (
-      sym (stays (judgedAt (a .capabilities) (decoded ts ms)) (l .i) (l .inv .1) (rw (gone .0) refl) (a .n) (c .before .before .before .before .before .before .before .before .before .before .before .loop-test .taken)),
-      rw (← drop-later (l .rows) (now (a .rows)) (l .i * 14) (a .n * 14) (l .inv .3) (omega (arith, c .before .before .before .before .before .before .before .before .before .before .before .loop-test .taken)), ← gone .1) (c .before .before .clear .ensures),
+    let s = c .before .before .before .before .before .before .before .before .before .before .before .before in
+    let a = s .args in let ts = now (a .types) in let ms = now (a .members) in
+    let l = c .before .before .before .before .before .before .before .before .loop in
+    let below = c .before .before .before .before .before .before .before .loop-test .taken in
+    let j = c .before .before .before .before .before .record-row in
+    let refused = rw (c .before .number .given .1) at (sym (outcome-at (a .capabilities) ts ms (l .i) (l .inv .1) (l .rows) _ (j .result) (l .inv .2) (j .ensures))) in (
+      sym (stays (laidThenJudged (a .capabilities) ts ms) (l .i) (l .inv .1) refused (a .n) below),
+      (
+        (λ accepted. let z : _≡_ {A = ℕ} 0 1 = cc in absurd (omega arith)),
+        rest-kept (a .capabilities) ts ms (l .i) (l .inv .1) (l .rows) _ (j .result) (l .inv .2) (j .ensures) (omega (arith, s .pre .0, below)) (a .n) below ∙ l .inv .3,
+      ),
     )
 
 loop-again : tie.Need-loop-again Inv-loop μ-loop
 loop-again c =
-    let a = c .before .before .before .before .before .before .before .before .before .before .before .args in let ts = now (a .types) in let ms = now (a .members) in
+    let s = c .before .before .before .before .before .before .before .before .before .before .before in
+    let a = s .args in let ts = now (a .types) in let ms = now (a .members) in
     let l = c .before .before .before .before .before .before .before .loop in
-    let j = c .before .before .before .before .judge-at in
-    let own = own-layout (a .capabilities) ts ms (now (a .rows)) (l .rows) (a .n) (l .i) (c .before .before .before .before .before .before .before .before .before .before .before .pre .1 .1 .1 .1) (c .before .before .before .before .before .before .loop-test .taken) (l .inv .3) in
-    let room : l .i * 14 + 14 ≤ length (l .rows) = omega (arith, c .before .before .before .before .before .before .before .before .before .before .before .pre .0, c .before .before .before .before .before .before .loop-test .taken) in
-    let made = made-at (a .capabilities) ts ms (l .rows) _ (l .i) (j .result) (l .inv .2) own (j .ensures) (c .enum-told .given .1) in (
-      omega (arith, c .before .before .before .before .before .before .loop-test .taken),
-      rw (add-one, l .inv .1, made .1) refl,
-      row-written (a .capabilities) ts ms (l .rows) _ (l .i) (j .result) (l .inv .2) own (j .ensures) (c .enum-told .given .1) room,
-      rest-kept (a .capabilities) ts ms (l .rows) _ (l .i) (j .result) (l .inv .2) own (j .ensures) (c .enum-told .given .1) room
-          ∙ drop-later (l .rows) (now (a .rows)) (l .i * 14) ((l .i + 1) * 14) (l .inv .3) (omega arith),
+    let below = c .before .before .before .before .before .before .loop-test .taken in
+    let j = c .before .before .before .before .record-row in
+    let room : l .i * 14 + 14 ≤ length (l .rows) = omega (arith, s .pre .0, below) in
+    let passed = rw (c .enum-told .given .1) at (sym (outcome-at (a .capabilities) ts ms (l .i) (l .inv .1) (l .rows) _ (j .result) (l .inv .2) (j .ensures))) in (
+      omega (arith, below),
+      rw (add-one, l .inv .1, passed) refl,
+      row-written (a .capabilities) ts ms (l .i) (l .inv .1) (l .rows) _ (j .result) (l .inv .2) (j .ensures) room (c .enum-told .given .1),
+      rest-kept (a .capabilities) ts ms (l .i) (l .inv .1) (l .rows) _ (j .result) (l .inv .2) (j .ensures) room (a .n) below ∙ l .inv .3,
       j .kept .1 .1 .1 .0 ∙ l .inv .4,
     )
 
 returns-2 : tie.Need-returns-2 Inv-loop μ-loop
-unfolding arenaRows
 returns-2 c =
     let l = c .before .loop in
-    let n = c .before .before .before .before .before .args .n in
-    let end : l .i ≡ n = le-antisymm (l .inv .0) (c .loop-test .left) in
-    (rw end at (sym (l .inv .1)), rw (← rw end at (l .inv .2), ← rw end at (l .inv .3)) (sym (take-append-drop (n * 14) (l .rows))))
+    let end : l .i ≡ c .before .before .before .before .before .args .n = le-antisymm (l .inv .0) (c .loop-test .left) in
+    (rw end at (sym (l .inv .1)), ((λ _. rw end at (l .inv .2)), l .inv .3))
 
 pub judge-all-spec : {M : Type 1} → statement M
 judge-all-spec =
@@ -93,11 +79,9 @@ judge-all-spec =
     Inv-loop
     μ-loop
     loop-holds
-    judge-at-requires
+    record-row-requires
     (λ c. search needs)
     (λ c. search needs)
-    (λ c. search needs)
-    clear-requires
     (λ c. search needs)
     returns
     (λ c. search needs)

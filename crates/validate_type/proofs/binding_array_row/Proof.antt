@@ -1,16 +1,32 @@
 use borrow.Author.Needs.{needs}
+use mathlib.Core.Path.{refl}
+use denote.Ref.{now}
+use Rattle.records.specs.Record.{typeCount, innerOf, typeInner}
+use Rattle.records.specs.declared.NonData.the-variants.{BindingArray}
+use Rattle.type_methods.specs.TypeMethods.{trySize}
+use Rattle.type_alignment.specs.TypeAlignment.{alignmentOf}
+use Rattle.type_layout.specs.TypeLayout.{layoutOf}
 use Rattle.type_info.specs.TypeInfo.{rowsIn}
+use Rattle.validate_type.specs.ValidateType.{nonDataFlags}
+use Rattle.validate_type.proofs.TypeRowLaws.{other-row}
 use Rattle.validate_type.proofs.binding_array_row.Statement.{statement}
 use Rattle.validate_type.proofs.binding_array_row.Tie as tie
 
 returns : tie.Need-returns
-unfolding rowsIn
-returns c = rw (c .before .binding-array-of .ensures, c .before .before .row-word .ensures) at (c .plain-row .ensures)
+unfolding innerOf nonDataFlags layoutOf trySize alignmentOf rowsIn
+returns c =
+    let a = c .before .before .before .before .before .before .before .args in
+    λ k m i members.
+    other-row k m (typeCount (now (a .types))) (typeInner (now (a .types))) (now (a .rows)) i members 13 (a .a) (a .b) (a .c) (a .d) (a .e) (c .joined .result) _
+    (rw (c .before .before .before .before .binding-array-fields .ensures m (a .a)) at (c .before .before .before .based-layout .ensures)) 1 (BindingArray (a .a) (a .b) (a .c)) refl refl
+    (rw (c .before .binding-array-of .ensures, c .before .before .row-word .ensures) at (c .joined .ensures))
 
 pub binding-array-row-spec : {M : Type 1} → statement M
 binding-array-row-spec =
     tie.close
     (tie.spec
+    (λ c κs. search needs)
+    (λ c κs. search needs)
     (λ c κs. search needs)
     (λ c κs. search needs)
     (λ c κs. search needs)

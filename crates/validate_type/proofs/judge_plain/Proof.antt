@@ -1,88 +1,63 @@
--- `validate_type::judge_plain` meets its contract: each arm knows the kind, and the record's meaning computes. Assumes nothing.
+-- `validate_type::judge_plain` meets its contract: each arm knows the kind. Assumes nothing.
 use borrow.Author.Needs.{needs}
-use mathlib.Core.Path.{refl}
-use borrow.Author.Tests.{ne-eqb}
-use Rattle.records.specs.Record.{innerOf}
-use Rattle.records.specs.declared.Leaf.the-variants.{Scalar, Vector, Matrix, CooperativeMatrix, Atomic, RayQuery}
-use Rattle.records.specs.declared.NonData.the-variants.{Pointer, ValuePointer, Image, Sampler, AccelerationStructure, BindingArray}
-use Rattle.type_flags.specs.TypeFlags.{leafFlags}
-use Rattle.type_info.specs.TypeInfo.{rowsIn}
-use Rattle.validate_type.specs.ValidateType.{nonDataFlags}
-use Rattle.validate_type.proofs.RowParts.{leaf-judged, other-judged}
+use native.Mathlib.Omega.{arith}
+use denote.Ref.{now}
+use Rattle.records.specs.Record.{typeCount, typeInner}
+use Rattle.type_layout.proofs.TypeLayoutLaws.{past, no-kind}
+use Rattle.validate_type.proofs.TypeRowLaws.{no-row}
 use Rattle.validate_type.proofs.judge_plain.Statement.{statement}
 use Rattle.validate_type.proofs.judge_plain.Tie as tie
 
-column-requires : tie.Need-column-requires
-unfolding innerOf
-column-requires c κs = (rw (c .match .keys2) at (c .before .before .before .pre .0)) .1
-
-column-requires-2 : tie.Need-column-requires-2
-unfolding innerOf
-column-requires-2 c κs = (rw (c .match .keys3) at (c .before .before .before .pre .0)) .2
-
 returns : tie.Need-returns
-unfolding innerOf leafFlags
-returns c = let w = c .before .before .before .before .args .w in λ i layout members. leaf-judged _ _ _ i layout members w (Scalar (w .a) (w .b)) (rw (c .before .match .keys1) refl) _ (c .numeric-row .ensures)
+returns c = let a = c .before .before .before .before .args in λ m i members. rw (c .before .match .keys1) (c .scalar-row .ensures m (typeCount (now (a .types))) i (typeInner (now (a .types))) (now (a .rows)) members)
 
 returns-2 : tie.Need-returns-2
-unfolding innerOf leafFlags
-returns-2 c = let w = c .before .before .before .before .before .args .w in λ i layout members. leaf-judged _ _ _ i layout members w (Vector (w .a) (w .b) (w .c)) (rw (c .before .before .match .keys2) refl) _ (rw (c .before .column .ensures) at (c .numeric-row2 .ensures))
+returns-2 c = let a = c .before .before .before .before .args in λ m i members. rw (c .before .match .keys2) (c .vector-row .ensures m (typeCount (now (a .types))) i (typeInner (now (a .types))) (now (a .rows)) members)
 
 returns-3 : tie.Need-returns-3
-unfolding innerOf leafFlags
-returns-3 c = let w = c .before .before .before .before .before .args .w in λ i layout members. leaf-judged _ _ _ i layout members w (Matrix (w .a) (w .b) (w .c) (w .d)) (rw (c .before .before .match .keys3) refl) _ (rw (c .before .column2 .ensures) at (c .matrix-row .ensures))
+returns-3 c = let a = c .before .before .before .before .args in λ m i members. rw (c .before .match .keys3) (c .matrix-row .ensures m (typeCount (now (a .types))) i (typeInner (now (a .types))) (now (a .rows)) members)
 
 returns-4 : tie.Need-returns-4
-unfolding innerOf leafFlags
-returns-4 c = let w = c .before .before .before .before .before .args .w in λ i layout members. leaf-judged _ _ _ i layout members w (CooperativeMatrix (w .a) (w .b) (w .c) (w .d) (w .e)) (rw (c .before .before .match .keys4) refl) _ (rw (c .before .cooperative-flags .ensures) at (c .plain-row .ensures))
+returns-4 c = let a = c .before .before .before .before .args in λ m i members. rw (c .before .match .keys4) (c .cooperative-row .ensures m (typeCount (now (a .types))) i (typeInner (now (a .types))) (now (a .rows)) members)
 
 returns-5 : tie.Need-returns-5
-unfolding innerOf leafFlags
-returns-5 c = let w = c .before .before .before .before .before .args .w in λ i layout members. leaf-judged _ _ _ i layout members w (Atomic (w .a) (w .b)) (rw (c .before .before .match .keys5) refl) _ (rw (c .before .atomic-flags .ensures) at (c .plain-row2 .ensures))
+returns-5 c = let a = c .before .before .before .before .args in λ m i members. rw (c .before .match .keys5) (c .atomic-row .ensures m (typeCount (now (a .types))) i (typeInner (now (a .types))) (now (a .rows)) members)
 
 returns-6 : tie.Need-returns-6
-unfolding innerOf nonDataFlags rowsIn
-returns-6 c = let w = c .before .before .before .before .before .before .args .w in λ i layout members. other-judged _ _ _ i layout members w (Pointer (w .a) (w .b)) (rw (c .before .before .before .match .keys6) refl) _ (rw (c .before .pointer-to .ensures, c .before .before .row-word .ensures) at (c .plain-row3 .ensures))
+returns-6 c = let a = c .before .before .before .before .args in λ m i members. rw (c .before .match .keys6) (c .pointer-row .ensures (a .capabilities) m i members)
 
 returns-7 : tie.Need-returns-7
-unfolding innerOf nonDataFlags
-returns-7 c = let w = c .before .before .before .before .before .args .w in λ i layout members. other-judged _ _ _ i layout members w (ValuePointer (w .a) (w .b) (w .c)) (rw (c .before .before .match .keys7) refl) _ (rw (c .before .value-pointer-flags .ensures) at (c .plain-row4 .ensures))
+returns-7 c = let a = c .before .before .before .before .args in λ m i members. rw (c .before .match .keys7) (c .value-pointer-row .ensures m (typeCount (now (a .types))) i (typeInner (now (a .types))) (now (a .rows)) members)
 
 returns-8 : tie.Need-returns-8
-unfolding innerOf nonDataFlags
-returns-8 c = let w = c .before .before .before .before .before .args .w in λ i layout members. other-judged _ _ _ i layout members w (Image (w .a) (w .b) (w .c)) (rw (c .before .before .match .keys8) refl) _ (rw (c .before .image-flags .ensures) at (c .plain-row5 .ensures))
+returns-8 c = let a = c .before .before .before .before .args in λ m i members. rw (c .before .match .keys8) (c .image-row .ensures m (typeCount (now (a .types))) i (typeInner (now (a .types))) (now (a .rows)) members)
 
 returns-9 : tie.Need-returns-9
-unfolding innerOf nonDataFlags
-returns-9 c = let w = c .before .before .before .before .before .args .w in λ i layout members. other-judged _ _ _ i layout members w (Sampler) (rw (c .before .before .match .keys9) refl) _ (rw (c .before .sampler-flags .ensures) at (c .plain-row6 .ensures))
+returns-9 c = let a = c .before .before .before .before .args in λ m i members. rw (c .before .match .keys9) (c .sampler-row .ensures (a .capabilities) m (typeCount (now (a .types))) i (typeInner (now (a .types))) (now (a .rows)) members)
 
 returns-10 : tie.Need-returns-10
-unfolding innerOf nonDataFlags
-returns-10 c = let w = c .before .before .before .before .before .args .w in λ i layout members. other-judged _ _ _ i layout members w (AccelerationStructure (w .a)) (rw (c .before .before .match .keys10) refl) _ (rw (c .before .acceleration-flags .ensures) at (c .plain-row7 .ensures))
+returns-10 c = let a = c .before .before .before .before .args in λ m i members. rw (c .before .match .keys10) (c .acceleration-row .ensures m (typeCount (now (a .types))) i (typeInner (now (a .types))) (now (a .rows)) members)
 
 returns-11 : tie.Need-returns-11
-unfolding innerOf leafFlags
-returns-11 c = let w = c .before .before .before .before .before .args .w in λ i layout members. leaf-judged _ _ _ i layout members w (RayQuery (w .a)) (rw (c .before .before .match .keys11) refl) _ (rw (c .before .ray-query-flags .ensures) at (c .plain-row8 .ensures))
+returns-11 c = let a = c .before .before .before .before .args in λ m i members. rw (c .before .match .keys11) (c .ray-query-row .ensures m (typeCount (now (a .types))) i (typeInner (now (a .types))) (now (a .rows)) members)
 
 returns-12 : tie.Need-returns-12
-unfolding innerOf nonDataFlags
-returns-12 c = let w = c .before .before .before .before .args .w in λ i layout members. other-judged _ _ _ i layout members w (BindingArray (w .a) (w .b) (w .c)) (simp (ne-eqb _ _ (c .before .match .rest .1), ne-eqb _ _ (c .before .match .rest .0 .1), ne-eqb _ _ (c .before .match .rest .0 .0 .1), ne-eqb _ _ (c .before .match .rest .0 .0 .0 .1), ne-eqb _ _ (c .before .match .rest .0 .0 .0 .0 .1), ne-eqb _ _ (c .before .match .rest .0 .0 .0 .0 .0 .1), ne-eqb _ _ (c .before .match .rest .0 .0 .0 .0 .0 .0 .1), ne-eqb _ _ (c .before .match .rest .0 .0 .0 .0 .0 .0 .0 .1), ne-eqb _ _ (c .before .match .rest .0 .0 .0 .0 .0 .0 .0 .0 .1), ne-eqb _ _ (c .before .match .rest .0 .0 .0 .0 .0 .0 .0 .0 .0 .1), ne-eqb _ _ (c .before .match .rest .0 .0 .0 .0 .0 .0 .0 .0 .0 .0 .1), ne-eqb _ _ (c .before .before .before .before .pre .1 .0), ne-eqb _ _ (c .before .before .before .before .pre .1 .1)) refl) _ (c .binding-array-row .ensures)
+returns-12 c = let a = c .before .before .before .before .args in λ m i members. rw (c .before .match .keys12) (c .binding-array-row .ensures (a .capabilities) m i members)
+
+returns-13 : tie.Need-returns-13
+returns-13 c =
+    let s = c .before .before .before in
+    let a = s .args in let w = a .w in
+    let r = c .match .rest in
+    λ m i members.
+    let above = past 13 (past 12 (past 11 (past 10 (past 9 (past 8 (past 7 (past 6 (past 5 (past 4 (past 3 (past 2 (past 1 (past 0 {kind = w .kind} (omega arith) (r .0 .0 .0 .0 .0 .0 .0 .0 .0 .0 .0 .1)) (r .0 .0 .0 .0 .0 .0 .0 .0 .0 .0 .1)) (r .0 .0 .0 .0 .0 .0 .0 .0 .0 .1)) (r .0 .0 .0 .0 .0 .0 .0 .0 .1)) (r .0 .0 .0 .0 .0 .0 .0 .1)) (r .0 .0 .0 .0 .0 .0 .1)) (r .0 .0 .0 .0 .0 .1)) (s .pre .0)) (s .pre .1)) (r .0 .0 .0 .0 .1)) (r .0 .0 .0 .1)) (r .0 .0 .1)) (r .0 .1)) (r .1) in
+    no-row (a .capabilities) m (typeCount (now (a .types))) (typeInner (now (a .types))) (now (a .rows)) i members (w .kind) (w .a) (w .b) (w .c) (w .d) (w .e)
+    (no-kind m (w .kind) (w .a) (w .b) (w .c) (w .d) (w .e) above)
 
 pub judge-plain-spec : {M : Type 1} → statement M
 judge-plain-spec =
     tie.close
     (tie.spec
-    (λ c κs. search needs)
-    column-requires
-    (λ c κs. search needs)
-    column-requires-2
-    (λ c κs. search needs)
-    (λ c κs. search needs)
-    (λ c κs. search needs)
-    (λ c κs. search needs)
-    (λ c κs. search needs)
-    (λ c κs. search needs)
-    (λ c κs. search needs)
     (λ c κs. search needs)
     (λ c κs. search needs)
     (λ c κs. search needs)
@@ -106,4 +81,5 @@ judge-plain-spec =
     returns-9
     returns-10
     returns-11
-    returns-12)
+    returns-12
+    returns-13)

@@ -4,8 +4,8 @@ use Prim.Native.Nat.{_*_}
 use native.Mathlib.Omega.{arith}
 use lib.Seq.{length-take-le}
 use borrow.Author.Tests.{not-true, not-false}
-use Rattle.validate_type.proofs.array_at.Statement.{statement}
-use Rattle.validate_type.proofs.array_at.Tie as tie
+use Rattle.validate_type.proofs.array_over.Statement.{statement}
+use Rattle.validate_type.proofs.array_over.Tie as tie
 
 slice-aggregate-row-at : tie.Need-slice-aggregate-row-at
 slice-aggregate-row-at c = let a = c .before .before .args in sym (length-take-le (a .i * 14) (a .rows .now) (omega (arith, c .before .before .pre)))
@@ -21,8 +21,8 @@ returns-2 c =
     rw (← c .before .before .before .before .before .before .before .before .before .row-at .ensures, sym (c .before .before .before .before .before .before .before .before .is-sized-data .ensures) ∙ not-false _ (c .before .before .before .before .before .before .before .if1 .left))
     (refl, rw (c .before .before .before .before .flags-by-form .ensures, c .before .before .before .before .before .array-verdict2 .ensures, c .before .before .before .before .before .before .array-verdict .ensures) at (c .before .before .put .ensures))
 
-pub array-at-spec : {M : Type 1} → statement M
-array-at-spec =
+pub array-over-spec : {M : Type 1} → statement M
+array-over-spec =
     tie.close
     (tie.spec
     (λ c. search needs)

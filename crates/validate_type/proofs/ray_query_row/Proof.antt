@@ -1,0 +1,31 @@
+use borrow.Author.Needs.{needs}
+use mathlib.Core.Path.{refl}
+use Rattle.records.specs.Record.{innerOf}
+use Rattle.records.specs.Fields.{fieldsOk}
+use Rattle.records.specs.declared.Leaf.the-variants.{RayQuery}
+use Rattle.type_methods.specs.TypeMethods.{trySize}
+use Rattle.type_alignment.specs.TypeAlignment.{alignmentOf}
+use Rattle.type_layout.specs.TypeLayout.{layoutOf}
+use Rattle.type_flags.specs.TypeFlags.{leafFlags}
+use Rattle.validate_type.proofs.TypeRowLaws.{leaf-row}
+use Rattle.validate_type.proofs.ray_query_row.Statement.{statement}
+use Rattle.validate_type.proofs.ray_query_row.Tie as tie
+
+returns : tie.Need-returns
+unfolding fieldsOk innerOf leafFlags layoutOf trySize alignmentOf
+returns c =
+    let a = c .before .before .before .before .args in
+    λ m n i inner words members.
+    leaf-row (a .capabilities) m n inner words i members 12 (a .a) (a .b) (a .c) (a .d) (a .e) (c .joined .result) _
+    (rw (c .before .before .before .acceleration-fields .ensures m) at (c .before .before .handle-layout .ensures)) 1 (RayQuery (a .a)) refl (λ l e. refl)
+    (rw (c .before .ray-query-flags .ensures) at (c .joined .ensures))
+
+pub ray-query-row-spec : {M : Type 1} → statement M
+ray-query-row-spec =
+    tie.close
+    (tie.spec
+    (λ c κs. search needs)
+    (λ c κs. search needs)
+    (λ c κs. search needs)
+    (λ c κs. search needs)
+    returns)
