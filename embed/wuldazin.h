@@ -12,7 +12,8 @@
  * members: WULDAZIN_MEMBER_WORDS words a member, its type and its offset; structs may share rows.
  *
  * rows takes WULDAZIN_ROW_WORDS words a type; n types need n * WULDAZIN_ROW_WORDS words, and no word after them is ever written.
- *  - accepted: the row of each type. Also with numbers 25 to 27, which come after the arena was accepted.
+ *  - accepted: the row of each type. Also with numbers 25 to 27, which come after the arena was accepted. Accepted does not mean usable in
+ *    an address space: before a buffer is filled, look at the verdict of its type. A vec3 at offset 4 is accepted, with storage code 3.
  *  - number 1: untouched.
  *  - numbers 2 to 24: n * WULDAZIN_ROW_WORDS zeros.
  *
@@ -28,6 +29,7 @@
 #ifndef WULDAZIN_H
 #define WULDAZIN_H
 
+#include <stdbool.h>
 #include <stddef.h>
 #include <stdint.h>
 
@@ -54,11 +56,11 @@ enum {
     WULDAZIN_MATRIX = 2,                 /* columns 2 to 4, rows 2 to 4, scalar kind, width */
     WULDAZIN_COOPERATIVE_MATRIX = 3,     /* columns 8 or 16, rows 8 or 16, scalar kind, width, role 0 to 2 */
     WULDAZIN_ATOMIC = 4,                 /* scalar kind, width */
-    WULDAZIN_POINTER = 5,                /* base, space 0 to 9 */
-    WULDAZIN_VALUE_POINTER = 6,          /* scalar kind, width, space 0 to 9 */
+    WULDAZIN_POINTER = 5,                /* base, address space */
+    WULDAZIN_VALUE_POINTER = 6,          /* scalar kind, width, address space */
     WULDAZIN_ARRAY = 7,                  /* base, form, count, stride */
     WULDAZIN_STRUCT = 8,                 /* first member, member count, span */
-    WULDAZIN_IMAGE = 9,                  /* dim 0 to 3, arrayed 0 or 1, class 0 to 3 */
+    WULDAZIN_IMAGE = 9,                  /* dimension, arrayed 0 or 1, class */
     WULDAZIN_SAMPLER = 10,               /* none */
     WULDAZIN_ACCELERATION_STRUCTURE = 11, /* vertex_return 0 or 1 */
     WULDAZIN_RAY_QUERY = 12,             /* vertex_return 0 or 1 */
@@ -79,6 +81,36 @@ enum {
 enum {
     WULDAZIN_CONSTANT = 0, /* count at least 1 */
     WULDAZIN_DYNAMIC = 1   /* count 0 */
+};
+
+/* Address spaces. */
+enum {
+    WULDAZIN_SPACE_FUNCTION = 0,
+    WULDAZIN_SPACE_PRIVATE = 1,
+    WULDAZIN_SPACE_WORK_GROUP = 2,
+    WULDAZIN_SPACE_UNIFORM = 3,
+    WULDAZIN_SPACE_STORAGE = 4,
+    WULDAZIN_SPACE_HANDLE = 5,
+    WULDAZIN_SPACE_IMMEDIATE = 6,
+    WULDAZIN_SPACE_TASK_PAYLOAD = 7,
+    WULDAZIN_SPACE_RAY_PAYLOAD = 8,
+    WULDAZIN_SPACE_INCOMING_RAY_PAYLOAD = 9
+};
+
+/* Dimensions of an image. */
+enum {
+    WULDAZIN_DIMENSION_D1 = 0,
+    WULDAZIN_DIMENSION_D2 = 1,
+    WULDAZIN_DIMENSION_D3 = 2,
+    WULDAZIN_DIMENSION_CUBE = 3
+};
+
+/* Classes of an image. */
+enum {
+    WULDAZIN_CLASS_SAMPLED = 0,
+    WULDAZIN_CLASS_DEPTH = 1,
+    WULDAZIN_CLASS_EXTERNAL = 2,
+    WULDAZIN_CLASS_STORAGE = 3
 };
 
 /* Bits of the capability word. */
@@ -131,37 +163,74 @@ enum {
     WULDAZIN_VERDICT_NON_HOST_SHAREABLE = 6
 };
 
-/* Word 0 of an answer. */
+/* Word 0 of an answer; wuldazin_meaning says what each stands for. */
 enum {
     WULDAZIN_ACCEPTED = 0,
-    WULDAZIN_TABLE_LENGTH = 1,             /* not whole records, too many, rows or report too short, or capability bits above 12 */
-    WULDAZIN_FIELD = 2,                    /* a field outside its set, or member rows past the member table; no such plain shape or width */
-    WULDAZIN_BASE_OUTSIDE = 3,             /* pointer or binding-array base outside the arena */
-    WULDAZIN_ARRAY_TOO_LARGE = 4,          /* array's count or measure above 2,147,483,647 */
-    WULDAZIN_ELEMENT_NOT_EARLIER = 5,      /* array element not an earlier type */
-    WULDAZIN_MEMBER_NOT_EARLIER = 6,       /* member not an earlier type */
-    WULDAZIN_WIDTH_NO_POWER = 7,           /* width no power of two */
-    WULDAZIN_CAPABILITY_MISSING = 8,       /* capability missing; detail is its bit */
-    WULDAZIN_WIDTH_INVALID = 9,            /* width invalid */
-    WULDAZIN_ABSTRACT_SCALAR = 10,         /* abstract scalar */
-    WULDAZIN_MATRIX_ELEMENT = 11,          /* matrix element not float */
-    WULDAZIN_ATOMIC_WIDTH = 12,            /* atomic width */
-    WULDAZIN_POINTER_BASE = 13,            /* pointer base not data */
-    WULDAZIN_POINTER_TO_UNSIZED = 14,      /* pointer to unsized outside Storage */
-    WULDAZIN_ARRAY_BASE = 15,              /* type that no array may have as its element */
-    WULDAZIN_EMPTY_STRUCT = 16,            /* empty struct */
-    WULDAZIN_NOT_DATA = 17,                /* not data */
-    WULDAZIN_MEMBER_OVERLAP = 18,          /* member overlaps the one before */
-    WULDAZIN_MEMBER_OUT_OF_BOUNDS = 19,    /* member reaches past the struct's span */
-    WULDAZIN_DYNAMIC_MEMBER = 20,          /* dynamic member not last, or not an array */
-    WULDAZIN_STRUCT_SUM = 21,              /* a struct sum above 4,294,967,295 or difference below 0 */
-    WULDAZIN_IMAGE_FORM = 22,              /* image form */
-    WULDAZIN_BINDING_ARRAY_BASE = 23,      /* binding array of data that is no struct */
-    WULDAZIN_BINDING_ARRAY_EXTERNAL = 24,  /* binding array of external images */
-    WULDAZIN_SLOTS_PAST = 25,              /* slots: a part ends past byte 256, or an offset sum leaves 32 bits */
-    WULDAZIN_NO_SUCH_PLACE = 26,           /* no such type or place */
-    WULDAZIN_NARROW_STRIDE = 27            /* host-shareable struct reaches an array with a stride below its element's size */
+    WULDAZIN_TABLE_LENGTH = 1,
+    WULDAZIN_FIELD = 2,
+    WULDAZIN_BASE_OUTSIDE = 3,
+    WULDAZIN_ARRAY_TOO_LARGE = 4,
+    WULDAZIN_ELEMENT_NOT_EARLIER = 5,
+    WULDAZIN_MEMBER_NOT_EARLIER = 6,
+    WULDAZIN_WIDTH_NO_POWER = 7,
+    WULDAZIN_CAPABILITY_MISSING = 8,
+    WULDAZIN_WIDTH_INVALID = 9,
+    WULDAZIN_ABSTRACT_SCALAR = 10,
+    WULDAZIN_MATRIX_ELEMENT = 11,
+    WULDAZIN_ATOMIC_WIDTH = 12,
+    WULDAZIN_POINTER_BASE = 13,
+    WULDAZIN_POINTER_TO_UNSIZED = 14,
+    WULDAZIN_ARRAY_BASE = 15,
+    WULDAZIN_EMPTY_STRUCT = 16,
+    WULDAZIN_NOT_DATA = 17,
+    WULDAZIN_MEMBER_OVERLAP = 18,
+    WULDAZIN_MEMBER_OUT_OF_BOUNDS = 19,
+    WULDAZIN_DYNAMIC_MEMBER = 20,
+    WULDAZIN_STRUCT_SUM = 21,
+    WULDAZIN_IMAGE_FORM = 22,
+    WULDAZIN_BINDING_ARRAY_BASE = 23,
+    WULDAZIN_BINDING_ARRAY_EXTERNAL = 24,
+    WULDAZIN_SLOTS_PAST = 25,
+    WULDAZIN_NO_SUCH_PLACE = 26,
+    WULDAZIN_NARROW_STRIDE = 27
 };
+
+/* A sentence for a message: what a number stands for. */
+static inline const char *wuldazin_meaning(uint32_t number) {
+    switch (number) {
+    case WULDAZIN_ACCEPTED: return "accepted";
+    case WULDAZIN_TABLE_LENGTH:
+        return "a table is no whole number of records or too long, the rows or the report are too short, or a capability bit above 12 is set";
+    case WULDAZIN_FIELD:
+        return "a field lies outside its set, member rows reach past the table, or no plain type has that shape and width";
+    case WULDAZIN_BASE_OUTSIDE: return "the base of a pointer or binding array lies outside the arena";
+    case WULDAZIN_ARRAY_TOO_LARGE: return "an array's count or size is above 2,147,483,647";
+    case WULDAZIN_ELEMENT_NOT_EARLIER: return "an array's element is no earlier type";
+    case WULDAZIN_MEMBER_NOT_EARLIER: return "a struct's member is no earlier type";
+    case WULDAZIN_WIDTH_NO_POWER: return "a width is no power of two";
+    case WULDAZIN_CAPABILITY_MISSING: return "a capability is missing";
+    case WULDAZIN_WIDTH_INVALID: return "a scalar has a width that its kind may not have";
+    case WULDAZIN_ABSTRACT_SCALAR: return "a scalar is abstract";
+    case WULDAZIN_MATRIX_ELEMENT: return "a matrix has elements that are no floats";
+    case WULDAZIN_ATOMIC_WIDTH: return "an atomic has a scalar kind and width that no atomic may have";
+    case WULDAZIN_POINTER_BASE: return "a pointer's base is no data";
+    case WULDAZIN_POINTER_TO_UNSIZED: return "a pointer to an unsized type stands in another address space than Storage";
+    case WULDAZIN_ARRAY_BASE: return "an array's base is a type that cannot be an element";
+    case WULDAZIN_EMPTY_STRUCT: return "a struct has no members";
+    case WULDAZIN_NOT_DATA: return "a member is no data, or a binding array's base is no earlier type";
+    case WULDAZIN_MEMBER_OVERLAP: return "a member overlaps the one before";
+    case WULDAZIN_MEMBER_OUT_OF_BOUNDS: return "a member ends past the struct's span";
+    case WULDAZIN_DYNAMIC_MEMBER: return "a dynamic member is not the last, or no array";
+    case WULDAZIN_STRUCT_SUM: return "a struct's sum or difference leaves 32 bits";
+    case WULDAZIN_IMAGE_FORM: return "an image is arrayed and 3D, or external and arrayed or not 2D";
+    case WULDAZIN_BINDING_ARRAY_BASE: return "a binding array's base is data and no struct";
+    case WULDAZIN_BINDING_ARRAY_EXTERNAL: return "a binding array's base is an external image";
+    case WULDAZIN_SLOTS_PAST: return "a nonempty part ends past byte 256, or an offset sum leaves 32 bits";
+    case WULDAZIN_NO_SUCH_PLACE: return "no type has that number, or the steps lead to no place";
+    case WULDAZIN_NARROW_STRIDE: return "a host-shareable struct reaches an array with a stride below its element's size";
+    default: return "no number of an answer";
+    }
+}
 
 /* Sizes and alignments alone: rows get size, alignment and twelve zeros a type. Numbers 1 to 7. It takes no capability word, for
  * hosts that do not know it yet. */
@@ -206,6 +275,16 @@ void wuldazin_slots(const uint32_t *types, size_t types_length,
                     uint32_t ty, uint32_t offset,
                     uint64_t *mask, size_t mask_length,
                     uint32_t *answer, size_t answer_length);
+
+/* Whether every slot of other is one of mask. This call and the next two take masks as wuldazin_range and wuldazin_slots give them, the
+ * first or the second; any 64 bits are a mask, and nothing is refused. */
+bool wuldazin_contains(uint64_t mask, uint64_t other);
+
+/* The slots of mask that are not in other. */
+uint64_t wuldazin_difference(uint64_t mask, uint64_t other);
+
+/* The slots of either. */
+uint64_t wuldazin_union(uint64_t mask, uint64_t other);
 
 /* The leaf that steps (member, element and column numbers) lead to from type start. Judges the arena first.
  * A matrix takes one further step, its column, and the leaf is that column: rows * width bytes. The column step, from one to the next,

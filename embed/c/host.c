@@ -4,6 +4,7 @@
  *   struct Kernel { turn: mat3x3<f32>, steps: u32, cells: array<Cell, 4>, tail: array<f32> }
  *
  * The matrix is filled column by column: 12 bytes at 0, 16 and 32. The host keeps a flag in the gap after each.
+ * Before it fills the buffer it looks at the storage verdict: an accepted type may be one that no storage buffer can hold.
  */
 #include <stdio.h>
 #include <stdlib.h>
@@ -37,8 +38,8 @@ static unsigned char buffer[BYTES];
 
 static void expect(const char *what, uint64_t found, uint64_t expected) {
     if (found == expected) return;
-    fprintf(stderr, "%s: %llu, expected %llu (answer %u %u %u %u)\n", what, (unsigned long long)found,
-            (unsigned long long)expected, answer[0], answer[1], answer[2], answer[3]);
+    fprintf(stderr, "%s: %llu, expected %llu (answer %u %u %u %u: %s)\n", what, (unsigned long long)found,
+            (unsigned long long)expected, answer[0], answer[1], answer[2], answer[3], wuldazin_meaning(answer[0]));
     exit(1);
 }
 
@@ -47,6 +48,15 @@ static const uint32_t *row(uint32_t ty) { return rows + ty * WULDAZIN_ROW_WORDS;
 static void judge(uint32_t number) {
     wuldazin_judge(types, LENGTH(types), members, LENGTH(members), 0, rows, LENGTH(rows), answer, LENGTH(answer));
     expect("judge", answer[0], number);
+}
+
+/* Whether a storage buffer may hold the type, which `judge` has accepted. */
+static bool is_usable_in_storage(uint32_t ty) {
+    const uint32_t *verdict = row(ty) + WULDAZIN_ROW_STORAGE, needed = WULDAZIN_DATA | WULDAZIN_HOST_SHAREABLE;
+    if (verdict[0] == WULDAZIN_VERDICT_OK) return (row(ty)[WULDAZIN_ROW_FLAGS] & needed) == needed;
+    printf("type %u is accepted, but not usable in storage: code %u, type %u, member %u at %u, alignment %u\n", ty, verdict[0],
+           verdict[1], verdict[2], verdict[3], verdict[4]);
+    return false;
 }
 
 /* A column is rows times width bytes long, every other leaf as long as its type. */
@@ -105,12 +115,60 @@ static void look_at_report(void) {
     printf("the kernel carries %u bytes and wastes %u\n", (unsigned)kernel[0], (unsigned)kernel[1]);
 }
 
+static void look_at_slots(void) {
+    uint64_t mask[WULDAZIN_MASK_WORDS];
+    wuldazin_slots(types, LENGTH(types), members, LENGTH(members), 0, rows, LENGTH(rows), CELL, 16, mask, LENGTH(mask), answer,
+                   LENGTH(answer));
+    expect("slots", answer[0], WULDAZIN_ACCEPTED);
+    expect("slots of a cell at 16", mask[0], 0xf0);
+    expect("slots of a cell at 16, in part", mask[1], 0);
+    expect("they have slot 5", wuldazin_contains(mask[0], 0x20), true);
+    expect("they have slots 3 and 5", wuldazin_contains(mask[0], 0x28), false);
+    expect("without slots 3 and 5", wuldazin_difference(mask[0], 0x28), 0xd0);
+    expect("and slots 3 and 5", wuldazin_union(mask[0], 0x28), 0xf8);
+    wuldazin_range(3, 6, mask, LENGTH(mask), answer, LENGTH(answer));
+    expect("range", answer[0], WULDAZIN_ACCEPTED);
+    expect("slots of bytes 3 to 8", mask[0], 7);
+    expect("slots of bytes 3 to 8, in part", mask[1], 5);
+    /* A host that asks for no second mask lends one word. */
+    wuldazin_range(252, 4, mask, 1, answer, LENGTH(answer));
+    expect("range", answer[0], WULDAZIN_ACCEPTED);
+    expect("slots of the last bytes", mask[0], UINT64_C(1) << 63);
+    expect("the word that was not lent", mask[1], 5);
+}
+
+static void look_at_members_and_plain_types(void) {
+    uint64_t part[2];
+    uint32_t numbers[3];
+    wuldazin_members(types, LENGTH(types), members, LENGTH(members), KERNEL, part, LENGTH(part));
+    expect("first member word", part[0], 4);
+    expect("member words", part[1], 8);
+    wuldazin_plain(8, 4, numbers, LENGTH(numbers), answer, LENGTH(answer));
+    expect("mat3x3 of f32", answer[0], WULDAZIN_ACCEPTED);
+    expect("its size", numbers[0], 48);
+    expect("its alignment", numbers[1], 16);
+    expect("its column step", numbers[2], 16);
+    wuldazin_plain(13, 4, numbers, LENGTH(numbers), answer, LENGTH(answer));
+    expect("shape 13", answer[0], WULDAZIN_FIELD);
+}
+
+/* The cell's members otherwise: its moisture in the temperature's bytes; then its moisture first and its temperature right after it. */
+static void try_other_cells(void) {
+    members[3] = 8;
+    judge(WULDAZIN_MEMBER_OVERLAP);
+    printf("moisture at byte 8: refused, number %u, type %u, member %u: %s\n", answer[0], answer[1], answer[2],
+           wuldazin_meaning(answer[0]));
+    memcpy(members, (uint32_t[]){F32, 0, VEC3, 4}, 4 * sizeof *members);
+    judge(WULDAZIN_ACCEPTED);
+    expect("usable in storage", is_usable_in_storage(CELL), false);
+    expect("its storage code", row(CELL)[WULDAZIN_ROW_STORAGE], WULDAZIN_VERDICT_MEMBER_OFFSET);
+}
+
 int main(void) {
     char name[64];
     judge(WULDAZIN_ACCEPTED);
-    expect("storage verdict", row(KERNEL)[WULDAZIN_ROW_STORAGE], WULDAZIN_VERDICT_OK);
+    expect("usable in storage", is_usable_in_storage(KERNEL), true);
     expect("storage alignment", row(KERNEL)[WULDAZIN_ROW_STORAGE + 1], 16);
-    expect("flags", row(KERNEL)[WULDAZIN_ROW_FLAGS] & WULDAZIN_HOST_SHAREABLE, WULDAZIN_HOST_SHAREABLE);
 
     fill_turn();
     put("steps", (uint32_t[]){1}, 1, U32, STEPS_START, &(uint32_t){1000});
@@ -126,41 +184,12 @@ int main(void) {
         put(name, (uint32_t[]){3, i}, 2, F32, TAIL_START + 4 * i, &(float){i});
     }
     for (size_t i = 0; i < BYTES; i++) printf("%02x%s", buffer[i], i % 16 == 15 ? "\n" : i % 4 == 3 ? "  " : " ");
-
-    uint64_t mask[WULDAZIN_MASK_WORDS], part[2];
-    wuldazin_slots(types, LENGTH(types), members, LENGTH(members), 0, rows, LENGTH(rows), CELL, 16, mask, LENGTH(mask), answer,
-                   LENGTH(answer));
-    expect("slots", answer[0], WULDAZIN_ACCEPTED);
-    expect("slots of a cell at 16", mask[0], 0xf0);
-    expect("slots of a cell at 16, in part", mask[1], 0);
-    wuldazin_range(3, 6, mask, LENGTH(mask), answer, LENGTH(answer));
-    expect("range", answer[0], WULDAZIN_ACCEPTED);
-    expect("slots of bytes 3 to 8", mask[0], 7);
-    expect("slots of bytes 3 to 8, in part", mask[1], 5);
-    /* A host that asks for no second mask lends one word. */
-    wuldazin_range(252, 4, mask, 1, answer, LENGTH(answer));
-    expect("range", answer[0], WULDAZIN_ACCEPTED);
-    expect("slots of the last bytes", mask[0], UINT64_C(1) << 63);
-    expect("the word that was not lent", mask[1], 5);
-    wuldazin_members(types, LENGTH(types), members, LENGTH(members), KERNEL, part, LENGTH(part));
-    expect("first member word", part[0], 4);
-    expect("member words", part[1], 8);
-    uint32_t numbers[3];
-    wuldazin_plain(8, 4, numbers, LENGTH(numbers), answer, LENGTH(answer));
-    expect("mat3x3 of f32", answer[0], WULDAZIN_ACCEPTED);
-    expect("its size", numbers[0], 48);
-    expect("its alignment", numbers[1], 16);
-    expect("its column step", numbers[2], 16);
-
-    look_at_report();
-
-    /* Refusals: no such shape; no such cell, no such column; then a moisture that stands in the temperature's bytes. */
-    wuldazin_plain(13, 4, numbers, LENGTH(numbers), answer, LENGTH(answer));
-    expect("shape 13", answer[0], WULDAZIN_FIELD);
     refuse_place("cells[4]", (uint32_t[]){2, CELL_COUNT, 0}, 3);
     refuse_place("turn[3]", (uint32_t[]){0, COLUMNS}, 2);
-    members[3] = 8;
-    judge(WULDAZIN_MEMBER_OVERLAP);
-    printf("moisture at byte 8: refused, number %u, type %u, member %u\n", answer[0], answer[1], answer[2]);
+
+    look_at_slots();
+    look_at_members_and_plain_types();
+    look_at_report();
+    try_other_cells();
     return 0;
 }

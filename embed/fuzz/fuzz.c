@@ -31,8 +31,9 @@ enum {
 
 enum { LAST_NUMBER = 27, UNANSWERED }; /* UNANSWERED: the buffer was too short for an answer */
 
-enum { LAYOUT, JUDGE, CHECK, RANGE, SLOTS, PLACE, REPORT, PLAIN, MEMBERS, DOORS };
-static const char *const door_names[DOORS] = {"layout", "judge", "check", "range", "slots", "place", "report", "plain", "members"};
+enum { LAYOUT, JUDGE, CHECK, RANGE, SLOTS, CONTAINS, DIFFERENCE, UNION, PLACE, REPORT, PLAIN, MEMBERS, DOORS };
+static const char *const door_names[DOORS] = {"layout",     "judge", "check", "range",  "slots", "contains",
+                                              "difference", "union", "place", "report", "plain", "members"};
 
 typedef struct {
     size_t types_length, members_length;
@@ -429,6 +430,35 @@ static void range_masks(uint32_t offset, uint32_t size, uint64_t *masks) {
     }
 }
 
+/* Bits that are set rarely, often or half of the time. */
+static uint64_t any_mask(void) {
+    switch (below(4)) {
+    case 0: return next();
+    case 1: return next() & next() & next();
+    case 2: return UINT64_C(1) << below(64);
+    default: return below(2) ? 0 : UINT64_MAX;
+    }
+}
+
+/* Masks that have slots in common or none, looked at slot by slot. */
+static void mask_call(void) {
+    uint64_t mask = any_mask(), other = any_mask(), left = 0, joined = 0;
+    bool contained = true;
+    if (below(4) == 0) other &= mask;
+    if (below(4) == 0) mask |= other & ~(UINT64_C(1) << below(64));
+    for (int slot = 0; slot < 64; slot++) {
+        bool in_mask = mask >> slot & 1, in_other = other >> slot & 1;
+        if (in_mask && !in_other) left += UINT64_C(1) << slot;
+        if (in_mask || in_other) joined += UINT64_C(1) << slot;
+        contained = contained && (in_mask || !in_other);
+    }
+    switch (door) {
+    case CONTAINS: require(wuldazin_contains(mask, other) == contained, "contains"); break;
+    case DIFFERENCE: require(wuldazin_difference(mask, other) == left, "difference"); break;
+    case UNION: require(wuldazin_union(mask, other) == joined, "union");
+    }
+}
+
 /* Shapes and widths of entries, near them, and any. */
 static void plain_call(size_t answer_length, size_t numbers_length) {
     uint32_t n[3], shape = below(4) ? below(16) : wild(), width = below(4) ? 1u << below(5) : wild();
@@ -477,10 +507,16 @@ static void look_at_check(uint32_t capabilities, size_t length, uint32_t count) 
 
 static void one_call(void) {
     static uint32_t list[STEPS_MOST];
-    static const unsigned char choice[] = {LAYOUT, JUDGE, JUDGE, CHECK, CHECK, RANGE, SLOTS, SLOTS, SLOTS, PLACE, PLACE, PLACE, REPORT, REPORT, PLAIN, MEMBERS};
+    static const unsigned char choice[] = {LAYOUT,     JUDGE, JUDGE, CHECK, CHECK, RANGE,  SLOTS,  SLOTS, SLOTS,  CONTAINS,
+                                           DIFFERENCE, UNION, PLACE, PLACE, PLACE, REPORT, REPORT, PLAIN, MEMBERS};
     size_t answer_length = below(16) ? 4 + below(ANSWER_MOST - 3) : below(4), output_length = below(OUTPUT_MOST + 1);
     uint64_t out[2] = {0, 0};
     door = choice[below(sizeof choice)];
+    if (door == CONTAINS || door == DIFFERENCE || door == UNION) {
+        mask_call();
+        doors[door]++;
+        return;
+    }
     if (door == PLAIN) {
         plain_call(answer_length, output_length);
         doors[door]++;
@@ -592,7 +628,7 @@ int main(int words, char **word_list) {
     clock_gettime(CLOCK_MONOTONIC, &end);
     double seconds = (end.tv_sec - start.tv_sec) + 1e-9 * (end.tv_nsec - start.tv_nsec);
 
-    for (int d = 0; d < DOORS; d++) printf("%-8s %9llu calls\n", door_names[d], (unsigned long long)doors[d]);
+    for (int d = 0; d < DOORS; d++) printf("%-10s %9llu calls\n", door_names[d], (unsigned long long)doors[d]);
     for (int n = 0; n <= LAST_NUMBER; n++) printf("number %2d %9llu\n", n, (unsigned long long)numbers[n]);
     printf("answer too short %llu\n", (unsigned long long)unanswered);
     printf("places that are columns %llu\n", (unsigned long long)columns);

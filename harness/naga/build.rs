@@ -4,8 +4,9 @@
 use std::path::{Path, PathBuf};
 use std::{env, fs};
 
-/// Where naga's sources lie, seen from this folder; NAGA_SRC overrides it.
-const DEFAULT_SOURCES: &str = "../../../shared/docs/src/src";
+/// Where naga's sources lie, seen from the folder that the repository is in;
+/// NAGA_SRC overrides it.
+const DEFAULT_SOURCES: &str = "shared/docs/src/src";
 
 const NAGA_FILES: [&str; 9] = [
     "arena/handle.rs",
@@ -43,8 +44,11 @@ fn main() {
     println!("cargo::rerun-if-env-changed=NAGA_SRC");
     let sources = match env::var_os("NAGA_SRC") {
         Some(path) => PathBuf::from(path),
-        None => here.join(DEFAULT_SOURCES),
+        None => here.ancestors().nth(3).unwrap().join(DEFAULT_SOURCES),
     };
+    if !has_naga(&sources) {
+        return;
+    }
     for file in NAGA_FILES {
         copy(&sources, &tree, file);
     }
@@ -54,6 +58,18 @@ fn main() {
     }
     copy(&stand_ins, &tree, "valid/handles/bridge.rs");
     fs::write(tree.join("widths.rs"), widths(&sources)).unwrap();
+}
+
+/// Says what is wanted where a file of naga is missing; cargo then ends with an
+/// error.
+fn has_naga(sources: &Path) -> bool {
+    let mut files = NAGA_FILES.iter().chain(&["lib.rs"]);
+    let Some(missing) = files.find(|file| !sources.join(file).is_file()) else {
+        return true;
+    };
+    let folder = sources.display();
+    println!("cargo::error=no {missing} in {folder}: put the folder src of naga 30.0.1 there, or set NAGA_SRC to it");
+    false
 }
 
 fn copy(from: &Path, to: &Path, file: &str) {

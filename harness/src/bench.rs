@@ -1,57 +1,73 @@
 //! Times the port beside the Rust on the same arenas; docs/PERFORMANCE.md says
 //! what is timed.
 
-use crate::fresh::Fresh;
-use crate::port;
 use crate::records::*;
 use crate::sides::{both, PortSide, RustSide};
-use crate::sized;
 use crate::stopwatch::in_turns;
-use std::hint::black_box;
+use crate::{shapes, sized};
+use std::collections::HashSet;
 
 const SEED: u64 = 1;
-/// The arenas of each size come to this many types in all.
-const TYPES_IN_ALL: usize = 1024;
+/// The repeated arenas of each size come to this many types in all.
+const REPEATED_TYPES: usize = 1024;
+/// The fresh ones come to so many, more than a processor can learn, and a run
+/// goes over so many of them.
+const FRESH_TYPES: usize = 131_072;
+const FRESH_TYPES_OF_A_RUN: usize = 4096;
 const ARENA_SIZES: [usize; 4] = [8, 64, 256, 1024];
 const MEMBER_COUNTS: [usize; 4] = [512, 1024, 2048, 4096];
-/// Arenas of each size that are called once a pass.
-const FRESH: [(usize, usize); 4] = [(4000, 8), (600, 64), (150, 256), (40, 1024)];
 
-/// Arenas of one size.
+/// What one row of a table is about.
 struct Subject {
     name: String,
-    ports: Vec<PortSide>,
-    rusts: Vec<RustSide>,
+    /// How many of the arenas a run goes over.
+    of_a_run: usize,
+    port: PortSide,
+    rust: RustSide,
 }
 
 pub fn bench() {
-    let mut by_types: Vec<Subject> = ARENA_SIZES.into_iter().map(of_types).collect();
+    let mut by_types: Vec<Subject> = ARENA_SIZES.into_iter().map(repeated).collect();
     let mut by_members: Vec<Subject> = MEMBER_COUNTS.into_iter().map(of_members).collect();
+    let mut by_shape: Vec<Subject> = shapes::all().into_iter().map(of_shape).collect();
+    let mut fresh: Vec<Subject> = ARENA_SIZES.into_iter().map(fresh).collect();
     let full = sized::one_struct_in_slots(MAX_MEMBERS);
     let mut in_slots = subject(format!("{MAX_MEMBERS} members over the slots"), vec![full]);
 
-    head("fresh arenas");
-    FRESH.into_iter().for_each(fresh);
+    println!("| arenas | types | members | layout | judge | check | Rust | Rust / judge | Rust / check |");
+    println!("|---|---|---|---|---|---|---|---|---|");
+    by_types.iter_mut().for_each(check);
+    fresh.iter_mut().for_each(check);
+    by_members.iter_mut().for_each(check);
+    by_shape.iter_mut().for_each(check);
 
-    println!();
-    head("the same again and again");
-    by_types.iter_mut().chain(&mut by_members).for_each(check);
-
-    println!("\n| slots | port, ns a call | Rust, ns a call | Rust / port |");
-    println!("|---|---|---|---|");
+    println!("\n| slots | parts, a call | port, ns a call | Rust, ns a call | Rust / port |");
+    println!("|---|---|---|---|---|");
     by_types.iter_mut().for_each(slots);
+    fresh.iter_mut().for_each(slots);
     slots(&mut in_slots);
 
     println!("\n| place | port, ns a call | lookups a second |");
     println!("|---|---|---|");
     by_types.iter_mut().for_each(place);
+    fresh.iter_mut().for_each(place);
     by_members.last_mut().map(place);
 }
 
-fn of_types(count: usize) -> Subject {
-    let how_many = TYPES_IN_ALL / count;
+fn repeated(count: usize) -> Subject {
+    let how_many = REPEATED_TYPES / count;
     let name = format!("{how_many} of {count} types");
     subject(name, sized::arenas(SEED, how_many, count))
+}
+
+/// Arenas that differ from one another, each met once in a pass.
+fn fresh(count: usize) -> Subject {
+    let how_many = FRESH_TYPES / count;
+    let arenas = sized::arenas(SEED, how_many, count);
+    let tables = arenas.iter().map(|arena| (&arena.types, &arena.members));
+    assert_eq!(tables.collect::<HashSet<_>>().len(), how_many);
+    let name = format!("fresh: {how_many} of {count} types");
+    in_runs_of(FRESH_TYPES_OF_A_RUN / count, name, arenas)
 }
 
 fn of_members(count: usize) -> Subject {
@@ -59,19 +75,48 @@ fn of_members(count: usize) -> Subject {
     subject(name, vec![sized::one_struct(count)])
 }
 
+fn of_shape((name, arena): (&str, Arena)) -> Subject {
+    subject(name.to_string(), vec![arena])
+}
+
 fn subject(name: String, arenas: Vec<Arena>) -> Subject {
-    let (ports, rusts) = arenas.into_iter().map(both).unzip();
-    Subject { name, ports, rusts }
+    in_runs_of(arenas.len(), name, arenas)
+}
+
+fn in_runs_of(of_a_run: usize, name: String, arenas: Vec<Arena>) -> Subject {
+    let (port, rust) = both(arenas, of_a_run);
+    Subject {
+        name,
+        of_a_run,
+        port,
+        rust,
+    }
+}
+
+impl Subject {
+    /// How much of all that the subject has a run goes over.
+    fn share(&self) -> f64 {
+        self.of_a_run as f64 / self.port.asked.len() as f64
+    }
 }
 
 /// Times are nanoseconds a type or member.
-fn head(name: &str) {
-    println!("| {name} | types | members | layout | judge | check | Rust | Rust / judge | Rust / check |");
-    println!("|---|---|---|---|---|---|---|---|---|");
-}
-
-fn line(name: &str, types: usize, members: usize, times: [f64; 4]) {
-    let [layout, judge, check, rust] = times.map(|time| time / (types + members) as f64);
+fn check(subject: &mut Subject) {
+    let arenas = subject.port.asked.iter().map(|asked| &asked.arena);
+    let types: usize = arenas.clone().map(Arena::type_count).sum();
+    let members: usize = arenas.map(Arena::member_count).sum();
+    let times = in_turns(
+        subject,
+        [
+            |subject| subject.port.layout(),
+            |subject| subject.port.judge(),
+            |subject| subject.port.check(),
+            |subject| subject.rust.check(),
+        ],
+    );
+    let n = subject.share() * (types + members) as f64;
+    let [layout, judge, check, rust] = times.map(|time| time / n);
+    let name = &subject.name;
     println!(
         "| {name} | {types} | {members} | {layout:.1} | {judge:.1} | {check:.1} | {rust:.1} | {:.2} | {:.2} |",
         rust / judge,
@@ -79,65 +124,27 @@ fn line(name: &str, types: usize, members: usize, times: [f64; 4]) {
     );
 }
 
-fn fresh((how_many, count): (usize, usize)) {
-    let mut subject = Fresh::new(SEED, how_many, count);
-    let times = in_turns(
-        &mut subject,
-        [
-            |fresh| fresh.port(port::layout),
-            |fresh| fresh.port(port::judge),
-            |fresh| fresh.port(port::check),
-            Fresh::rust,
-        ],
-    );
-    let name = format!("{how_many} of {count} types");
-    line(&name, subject.type_count(), subject.member_count(), times);
-}
-
-fn check(subject: &mut Subject) {
-    let arenas = subject.ports.iter().map(|port| &port.arena);
-    let types: usize = arenas.clone().map(Arena::type_count).sum();
-    let members: usize = arenas.map(Arena::member_count).sum();
-    let times = in_turns(
-        subject,
-        [
-            |subject| each(&mut subject.ports, PortSide::layout),
-            |subject| each(&mut subject.ports, PortSide::judge),
-            |subject| each(&mut subject.ports, PortSide::check),
-            |subject| each(&mut subject.rusts, RustSide::check),
-        ],
-    );
-    line(&subject.name, types, members, times);
-}
-
 fn slots(subject: &mut Subject) {
     let [port, rust] = in_turns(
         subject,
         [
-            |subject| each(&mut subject.ports, PortSide::slots),
-            |subject| each(&mut subject.rusts, RustSide::slots),
+            |subject| subject.port.slots(),
+            |subject| subject.rust.slots(),
         ],
     );
     let (name, ratio) = (&subject.name, rust / port);
-    let n = subject.ports.len() as f64;
+    let parts: usize = subject.port.asked.iter().map(|asked| asked.parts).sum();
+    let n = subject.of_a_run as f64;
     println!(
-        "| {name} | {:.0} | {:.0} | {ratio:.2} |",
+        "| {name} | {:.1} | {:.0} | {:.0} | {ratio:.2} |",
+        subject.share() * parts as f64 / n,
         port / n,
         rust / n
     );
 }
 
 fn place(subject: &mut Subject) {
-    let [port] = in_turns(
-        subject,
-        [|subject| each(&mut subject.ports, PortSide::place)],
-    );
-    let (name, call) = (&subject.name, port / subject.ports.len() as f64);
+    let [port] = in_turns(subject, [|subject| subject.port.place()]);
+    let (name, call) = (&subject.name, port / subject.of_a_run as f64);
     println!("| {name} | {call:.0} | {:.0} |", 1e9 / call);
-}
-
-fn each<S, R>(sides: &mut [S], call: fn(&mut S) -> R) {
-    for side in sides {
-        black_box(call(side));
-    }
 }

@@ -143,6 +143,18 @@ impl<'r> Builder<'r> {
         }
     }
 
+    /// One more type that is data and neither array nor struct.
+    pub fn plain_type(&mut self) -> u32 {
+        match self.random.weighted(&[5, 4, 3, 1, 2, 1]) {
+            0 => self.scalar(),
+            1 => self.vector(),
+            2 => self.matrix(),
+            3 => self.cooperative_matrix(),
+            4 => self.atomic(),
+            _ => self.ray_query(),
+        }
+    }
+
     /// A scalar kind and width that may stand, and its capability bit noted.
     pub fn scalar_pair(&mut self) -> (u32, u32) {
         const PAIRS: [(u32, u32, u32); 10] = [

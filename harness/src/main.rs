@@ -5,6 +5,7 @@
     not(all(
         feature = "check",
         feature = "slots",
+        feature = "masks",
         feature = "place",
         feature = "members",
         feature = "report",
@@ -15,11 +16,11 @@
 
 #[cfg(all(feature = "check", feature = "slots", feature = "place"))]
 mod bench;
+#[cfg(all(feature = "slots", feature = "place", feature = "members"))]
+mod borders;
 mod builder;
 mod compare;
 mod damage;
-#[cfg(all(feature = "check", feature = "slots", feature = "place"))]
-mod fresh;
 mod generator;
 mod growth;
 mod guarded;
@@ -28,6 +29,8 @@ mod histogram;
 mod leaves;
 #[cfg(test)]
 mod marked;
+#[cfg(feature = "masks")]
+mod mask_calls;
 #[cfg(feature = "members")]
 mod member_calls;
 #[cfg(all(feature = "slots", feature = "place"))]
@@ -55,6 +58,8 @@ mod report;
 #[cfg(feature = "report")]
 mod report_calls;
 #[cfg(all(feature = "check", feature = "slots", feature = "place"))]
+mod shapes;
+#[cfg(all(feature = "check", feature = "slots", feature = "place"))]
 mod sides;
 mod sized;
 #[cfg(feature = "slots")]
@@ -72,6 +77,7 @@ use std::process::ExitCode;
 const USAGE: &str = "usage: layout COUNT [SEED]
        judge COUNT [SEED] | check COUNT [SEED]  (feature check)
        range COUNT [SEED] | slots COUNT [SEED]  (feature slots)
+       masks COUNT [SEED]                       (feature masks)
        place COUNT [SEED]                       (feature place)
        members COUNT [SEED]                     (feature members)
        report COUNT [SEED]                      (feature report)
@@ -105,6 +111,8 @@ fn main() -> ExitCode {
         "range" => slot_calls::range(first, seed),
         #[cfg(feature = "slots")]
         "slots" => slot_calls::slots(first, seed),
+        #[cfg(feature = "masks")]
+        "masks" => mask_calls::masks(first, seed),
         #[cfg(feature = "place")]
         "place" => place_calls::place(first, seed),
         #[cfg(feature = "members")]

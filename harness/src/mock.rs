@@ -135,6 +135,24 @@ unsafe extern "C" fn wuldazin_slots(
     deliver(owed, types, rows, mask, answer);
 }
 
+#[cfg(feature = "masks")]
+#[no_mangle]
+extern "C" fn wuldazin_contains(mask: u64, other: u64) -> bool {
+    crate::mask_calls::contained(mask, other)
+}
+
+#[cfg(feature = "masks")]
+#[no_mangle]
+extern "C" fn wuldazin_difference(mask: u64, other: u64) -> u64 {
+    crate::mask_calls::left(mask, other)
+}
+
+#[cfg(feature = "masks")]
+#[no_mangle]
+extern "C" fn wuldazin_union(mask: u64, other: u64) -> u64 {
+    crate::mask_calls::joined(mask, other)
+}
+
 #[cfg(feature = "place")]
 #[no_mangle]
 unsafe extern "C" fn wuldazin_place(

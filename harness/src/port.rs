@@ -63,6 +63,12 @@ extern "C" {
         answer: *mut u32,
         answer_len: usize,
     );
+    #[cfg(feature = "masks")]
+    fn wuldazin_contains(mask: u64, other: u64) -> bool;
+    #[cfg(feature = "masks")]
+    fn wuldazin_difference(mask: u64, other: u64) -> u64;
+    #[cfg(feature = "masks")]
+    fn wuldazin_union(mask: u64, other: u64) -> u64;
     #[cfg(feature = "place")]
     fn wuldazin_place(
         types: *const u32,
@@ -204,6 +210,22 @@ pub fn slots(arena: &Arena, ty: u32, offset: u32, lent: Lent) {
             lent.answer.len(),
         )
     }
+}
+
+#[cfg(feature = "masks")]
+pub fn contains(mask: u64, other: u64) -> bool {
+    // Two numbers are handed over, and nothing is lent; so in the next two.
+    unsafe { wuldazin_contains(mask, other) }
+}
+
+#[cfg(feature = "masks")]
+pub fn difference(mask: u64, other: u64) -> u64 {
+    unsafe { wuldazin_difference(mask, other) }
+}
+
+#[cfg(feature = "masks")]
+pub fn union(mask: u64, other: u64) -> u64 {
+    unsafe { wuldazin_union(mask, other) }
 }
 
 #[cfg(feature = "place")]

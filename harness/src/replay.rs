@@ -1,8 +1,9 @@
 //! Writes a list of arenas and queries in the language of `inspect`, and the
 //! lines that it owes: naga's answers, and the readings of 01 and 02 that the
 //! harness keeps for numbers 1 to 3, places, member parts and the second of the
-//! two masks. The port is not called.
+//! two masks. The arenas at 01's borders come last. The port is not called.
 
+use crate::borders;
 use crate::generator;
 use crate::histogram::Histogram;
 use crate::random::Random;
@@ -35,6 +36,7 @@ struct Script {
     commands: String,
     answers: String,
     arenas: u64,
+    borders: u64,
     histogram: Histogram,
 }
 
@@ -53,6 +55,10 @@ pub fn replay(count: u64, seed: u64, paths: &[String]) -> bool {
     for (arena, index) in full.iter().zip(next..) {
         write_case(&mut script, arena, &mut Random::new(!seed, index));
     }
+    write_borders(
+        &mut script,
+        &mut Random::new(!seed, next + full.len() as u64),
+    );
     save(&script, paths);
     script.histogram.print();
     enough(&script.histogram)
@@ -68,6 +74,8 @@ fn head(script: &mut Script, count: u64, seed: u64) {
         "the second mask of slots and range by its reading of 02, over bytes.",
         "The port is not called.",
         "A place in a matrix is that of a column, by E6 of 02.",
+        "After COUNT arenas come those of harness/src/borders.rs; the answers of its",
+        "list by sentences of 01 are also written there by hand.",
     ];
     for line in lines {
         script.comment(line);
@@ -140,6 +148,29 @@ fn write_case(script: &mut Script, arena: &Arena, random: &mut Random) {
     if random.one_in(6) {
         write_range(script, random);
     }
+}
+
+/// The arenas at 01's borders, each with its check.
+fn write_borders(script: &mut Script, random: &mut Random) {
+    for border in borders::by_sentence() {
+        script.comment(border.sentence);
+        write_check(script, &border.arena, random);
+    }
+    script.comment("each word of a record of each kind at the borders of 01's sets");
+    for arena in borders::by_word() {
+        write_check(script, &arena, random);
+    }
+    script.comment("each capability alone, and all but that one");
+    for arena in borders::by_capability() {
+        write_check(script, &arena, random);
+    }
+}
+
+fn write_check(script: &mut Script, arena: &Arena, random: &mut Random) {
+    write_tables(script, arena, random);
+    script.command("check", &[]);
+    write_outcome(script, arena, &print::reference_of(arena));
+    script.borders += 1;
 }
 
 fn write_tables(script: &mut Script, arena: &Arena, random: &mut Random) {
@@ -278,7 +309,7 @@ fn save(script: &Script, paths: &[String]) {
         std::fs::write(&path, text).unwrap_or_else(|e| panic!("{}: {e}", path.display()));
         println!("{}: {} bytes", path.display(), text.len());
     }
-    println!("{} arenas", script.arenas);
+    println!("{} arenas, {} at borders", script.arenas, script.borders);
 }
 
 fn enough(histogram: &Histogram) -> bool {

@@ -1,96 +1,191 @@
-//! One arena in the port's form and in the Rust's, with the calls to be timed.
+//! Arenas in the port's form and in the Rust's, with the calls to be timed. Each
+//! side goes over its arenas with one stretch for results: the port's lent rows,
+//! the Rust's validator.
 
 use crate::compare::Lent;
+use crate::partly::Part;
 use crate::random::Random;
 use crate::records::*;
 use crate::reference::capability_set;
-use crate::{place, place_calls, port, print, slots, translate};
+use crate::{place, place_calls, port, print, slot_calls, slots, translate};
 use naga::proc::GlobalCtx;
 use naga::valid::{ImmediateSlots, ValidationFlags, Validator};
 use naga::{Type, UniqueArena};
 use std::hint::black_box;
+use std::ops::Range;
 
-const SLOT_BYTES: u32 = 256;
+const SLOT_BYTES: u64 = 256;
 
-pub struct PortSide {
+/// An arena, and what is asked of it.
+pub struct Asked {
     pub arena: Arena,
-    rows: Vec<u32>,
     /// The type whose slots are asked for.
     walked: u32,
+    /// How many parts that walk has.
+    pub parts: usize,
     /// The place that is looked up.
     start: u32,
     steps: Vec<u32>,
 }
 
+/// The arenas of the next run: all of them each time, or a part and then the
+/// part after it.
+#[derive(Clone)]
+struct Turn {
+    next: usize,
+    of_a_run: usize,
+    of_all: usize,
+}
+
+pub struct PortSide {
+    pub asked: Vec<Asked>,
+    rows: Vec<u32>,
+    turn: Turn,
+}
+
 pub struct RustSide {
-    types: UniqueArena<Type>,
+    arenas: Vec<RustArena>,
     validator: Validator,
+    turn: Turn,
+}
+
+struct RustArena {
+    types: UniqueArena<Type>,
     walked: u32,
 }
 
-/// Both sides; they have given the same results once.
-pub fn both(arena: Arena) -> (PortSide, RustSide) {
-    let walked = last_struct_in_slots(&arena);
-    let (start, steps) = deep_place(&arena);
+/// Both sides of arenas with the same capabilities, so many of them in a run;
+/// they have given the same results once.
+pub fn both(arenas: Vec<Arena>, of_a_run: usize) -> (PortSide, RustSide) {
+    let turn = Turn::new(of_a_run, arenas.len());
+    let capabilities = arenas[0].capabilities;
+    assert!(arenas
+        .iter()
+        .all(|arena| arena.capabilities == capabilities));
+    let most_rows = arenas.iter().map(|arena| arena.rows_len).max();
     let mut rust = RustSide {
-        types: translate::arena(&arena.types, &arena.members),
-        validator: Validator::new(ValidationFlags::all(), capability_set(arena.capabilities)),
-        walked,
+        arenas: Vec::new(),
+        validator: Validator::new(ValidationFlags::all(), capability_set(capabilities)),
+        turn: turn.clone(),
     };
     let mut port = PortSide {
-        rows: vec![0; arena.rows_len],
-        arena,
-        walked,
-        start,
-        steps,
+        asked: Vec::new(),
+        rows: vec![0; most_rows.unwrap()],
+        turn,
     };
-    assert!(rust.check());
-    port.assert_same(&rust);
+    for arena in arenas {
+        let types = translate::arena(&arena.types, &arena.members);
+        let asked = Asked::of(arena, &types);
+        let walked = asked.walked;
+        let arena = RustArena { types, walked };
+        assert!(arena.check(&mut rust.validator));
+        asked.assert_same(&arena, &mut port.rows);
+        rust.arenas.push(arena);
+        port.asked.push(asked);
+    }
     (port, rust)
 }
 
+impl Turn {
+    fn new(of_a_run: usize, of_all: usize) -> Self {
+        assert_eq!(of_all % of_a_run, 0);
+        Self {
+            next: 0,
+            of_a_run,
+            of_all,
+        }
+    }
+
+    fn next_run(&mut self) -> Range<usize> {
+        let start = self.next;
+        self.next = (start + self.of_a_run) % self.of_all;
+        start..start + self.of_a_run
+    }
+}
+
 impl PortSide {
-    fn assert_same(&mut self, rust: &RustSide) {
-        let rows = print::reference_of(&self.arena).rows.unwrap();
+    pub fn layout(&mut self) {
+        self.each(Asked::layout);
+    }
+
+    pub fn judge(&mut self) {
+        self.each(Asked::judge);
+    }
+
+    pub fn check(&mut self) {
+        self.each(Asked::check);
+    }
+
+    pub fn slots(&mut self) {
+        self.each(Asked::slots);
+    }
+
+    pub fn place(&mut self) {
+        self.each(Asked::place);
+    }
+
+    fn each<R>(&mut self, call: fn(&Asked, &mut [u32]) -> R) {
+        for asked in &self.asked[self.turn.next_run()] {
+            black_box(call(asked, &mut self.rows));
+        }
+    }
+}
+
+impl Asked {
+    fn of(arena: Arena, types: &UniqueArena<Type>) -> Self {
+        let (walked, parts) = last_in_slots(&arena, types);
+        let (start, steps) = deep_place(&arena);
+        Self {
+            arena,
+            walked,
+            parts,
+            start,
+            steps,
+        }
+    }
+
+    fn assert_same(&self, rust: &RustArena, rows: &mut [u32]) {
+        let owed = print::reference_of(&self.arena).rows.unwrap();
         for call in [Self::judge, Self::check] {
-            assert_eq!(call(self), ACCEPTED);
-            assert_eq!(self.rows, rows.as_flattened());
+            assert_eq!(call(self, rows), ACCEPTED);
+            assert_eq!(rows[..self.arena.rows_len], *owed.as_flattened());
         }
         let masks = slots::of_type(&rust.types, self.walked, 0).unwrap();
-        assert_eq!(self.slots(), (ACCEPTED, masks));
+        assert_eq!(self.slots(rows), (ACCEPTED, masks));
         let Arena { types, members, .. } = &self.arena;
         let (byte, leaf) = place::of(types, members, self.start, &self.steps).unwrap();
-        assert_eq!(self.place(), (ACCEPTED, [byte, u64::from(leaf)]));
+        assert_eq!(self.place(rows), (ACCEPTED, [byte, u64::from(leaf)]));
     }
 
-    pub fn layout(&mut self) -> Answer {
-        self.call::<0>(port::layout).0
+    fn layout(&self, rows: &mut [u32]) -> Answer {
+        self.call::<0>(rows, port::layout).0
     }
 
-    pub fn judge(&mut self) -> Answer {
-        self.call::<0>(port::judge).0
+    fn judge(&self, rows: &mut [u32]) -> Answer {
+        self.call::<0>(rows, port::judge).0
     }
 
-    pub fn check(&mut self) -> Answer {
-        self.call::<0>(port::check).0
+    fn check(&self, rows: &mut [u32]) -> Answer {
+        self.call::<0>(rows, port::check).0
     }
 
-    pub fn slots(&mut self) -> (Answer, slots::Masks) {
-        let ty = self.walked;
-        self.call(|arena, lent| port::slots(arena, ty, 0, lent))
+    fn slots(&self, rows: &mut [u32]) -> (Answer, slots::Masks) {
+        self.call(rows, |arena, lent| port::slots(arena, self.walked, 0, lent))
     }
 
-    pub fn place(&mut self) -> (Answer, [u64; 2]) {
-        let (start, steps) = (self.start, std::mem::take(&mut self.steps));
-        let result = self.call(|arena, lent| port::place(arena, start, &steps, lent));
-        self.steps = steps;
-        result
+    fn place(&self, rows: &mut [u32]) -> (Answer, [u64; 2]) {
+        let (start, steps) = (self.start, &self.steps);
+        self.call(rows, |arena, lent| port::place(arena, start, steps, lent))
     }
 
-    fn call<const N: usize>(&mut self, call: impl FnOnce(&Arena, Lent)) -> (Answer, [u64; N]) {
+    fn call<const N: usize>(
+        &self,
+        rows: &mut [u32],
+        call: impl FnOnce(&Arena, Lent),
+    ) -> (Answer, [u64; N]) {
         let (mut answer, mut output) = ([0; 4], [0; N]);
         let lent = Lent {
-            rows: &mut self.rows,
+            rows: &mut rows[..self.arena.rows_len],
             output: &mut output,
             answer: &mut answer,
         };
@@ -100,26 +195,52 @@ impl PortSide {
 }
 
 impl RustSide {
-    pub fn check(&mut self) -> bool {
-        self.validator.check_types(black_box(&self.types)).is_ok()
+    pub fn check(&mut self) {
+        self.each(RustArena::check);
     }
 
-    pub fn slots(&mut self) -> Option<ImmediateSlots> {
-        let accepted = self.check();
+    pub fn slots(&mut self) {
+        self.each(RustArena::slots);
+    }
+
+    fn each<R>(&mut self, call: fn(&RustArena, &mut Validator) -> R) {
+        for arena in &self.arenas[self.turn.next_run()] {
+            black_box(call(arena, &mut self.validator));
+        }
+    }
+}
+
+impl RustArena {
+    fn check(&self, validator: &mut Validator) -> bool {
+        validator.check_types(black_box(&self.types)).is_ok()
+    }
+
+    fn slots(&self, validator: &mut Validator) -> Option<ImmediateSlots> {
+        let accepted = self.check(validator);
         let types = &self.types;
         let inner = &types[naga::handle_of(self.walked)].inner;
         accepted.then(|| ImmediateSlots::from_type(inner, 0, types, GlobalCtx::of_types(types)))
     }
 }
 
-/// The last struct of at most 256 bytes: all its parts lie in the slots.
-fn last_struct_in_slots(arena: &Arena) -> u32 {
-    let rows = print::reference_of(arena).rows.unwrap();
-    let records = arena.types.chunks_exact(TYPE_WORDS);
-    let fits = |record: &[u32], row: &Row| record[0] == kind::STRUCT && row[0] <= SLOT_BYTES;
-    let mut pairs = records.zip(&rows).enumerate();
-    let found = pairs.rfind(|(_, (record, row))| fits(record, row));
-    found.map_or(0, |(number, _)| number as u32)
+/// The last struct whose parts all end within the slots, or the last other type
+/// of which that holds; and how many parts it has.
+fn last_in_slots(arena: &Arena, types: &UniqueArena<Type>) -> (u32, usize) {
+    let lengths = slot_calls::walk_lengths(arena);
+    let parts = |ty| slots::parts(types, &types[naga::handle_of(ty)].inner, 0);
+    let is_struct = |ty: u32| arena.types[TYPE_WORDS * ty as usize] == kind::STRUCT;
+    let fits = |ty: u32| {
+        let is_short = lengths[ty as usize] <= slot_calls::LONGEST_WALK;
+        is_short && parts(ty).into_iter().all(is_in_slots)
+    };
+    let numbers = 0..arena.type_count() as u32;
+    let fitting = numbers.filter(|&ty| fits(ty));
+    let walked = fitting.max_by_key(|&ty| (is_struct(ty), ty)).unwrap();
+    (walked, parts(walked).len())
+}
+
+fn is_in_slots((offset, size): Part) -> bool {
+    size == 0 || u64::from(offset) + u64::from(size) <= SLOT_BYTES
 }
 
 /// The longest of some ways to a leaf.

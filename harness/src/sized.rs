@@ -8,7 +8,17 @@ use crate::records::*;
 /// So many arenas of so many types each, mixed kinds and structs of several
 /// members.
 pub fn arenas(seed: u64, how_many: usize, types: usize) -> Vec<Arena> {
-    let arenas = (0..).map(|index| grown(&mut Random::new(seed, index), types));
+    arenas_of(seed, how_many, types, |builder| builder.grow())
+}
+
+/// The same, of the types that `grow` appends.
+pub fn arenas_of(
+    seed: u64,
+    how_many: usize,
+    types: usize,
+    grow: fn(&mut Builder) -> u32,
+) -> Vec<Arena> {
+    let arenas = (0..).map(|index| grown(&mut Random::new(seed, index), types, grow));
     arenas.filter(is_accepted).take(how_many).collect()
 }
 
@@ -16,11 +26,11 @@ fn is_accepted(arena: &Arena) -> bool {
     print::reference_of(arena).answer == ACCEPTED
 }
 
-fn grown(random: &mut Random, types: usize) -> Arena {
+fn grown(random: &mut Random, types: usize, grow: fn(&mut Builder) -> u32) -> Arena {
     let mut builder = Builder::new(random);
     builder.largest_member = 64;
     while (builder.count() as usize) < types {
-        builder.grow();
+        grow(&mut builder);
     }
     let (mut arena, _) = builder.into_arena();
     arena.types.truncate(TYPE_WORDS * types);
@@ -61,13 +71,21 @@ pub fn one_struct_in_slots(members: usize) -> Arena {
 fn struct_of(rows: Vec<[u32; MEMBER_WORDS]>) -> Arena {
     let end = rows.iter().map(|row| row[1]).max().unwrap_or(0);
     let span = round_up(16, u64::from(end) + 64) as u32;
-    let mut types = MEMBER_TYPES.as_flattened().to_vec();
-    types.extend([kind::STRUCT, 0, rows.len() as u32, span, 0, 0]);
-    let arena = Arena {
-        rows_len: ROW_WORDS * types.len() / TYPE_WORDS,
-        types,
-        members: rows.into_flattened(),
+    let mut types = MEMBER_TYPES.to_vec();
+    types.push([kind::STRUCT, 0, rows.len() as u32, span, 0, 0]);
+    Arena {
         capabilities: 0,
+        ..accepted_arena(types, rows)
+    }
+}
+
+/// The arena of these records, with every capability.
+pub fn accepted_arena(types: Vec<[u32; TYPE_WORDS]>, rows: Vec<[u32; MEMBER_WORDS]>) -> Arena {
+    let arena = Arena {
+        rows_len: ROW_WORDS * types.len(),
+        types: types.into_flattened(),
+        members: rows.into_flattened(),
+        capabilities: ALL_CAPABILITIES,
     };
     assert!(is_accepted(&arena));
     arena

@@ -9,7 +9,7 @@ use crate::{generator, port, print, slots};
 
 /// Shared structs can make a walk as long as one likes; longer ones than this
 /// are left out.
-const LONGEST_WALK: u64 = 20_000;
+pub const LONGEST_WALK: u64 = 20_000;
 
 pub fn range(count: u64, seed: u64) -> bool {
     let no_arena = |_, _| Arena::default();
@@ -122,7 +122,7 @@ pub fn walked_type(random: &mut Random, arena: &Arena) -> u32 {
 
 /// How many parts each type's walk comes to. Members that are no earlier types
 /// count one: such an arena is refused and not walked.
-fn walk_lengths(arena: &Arena) -> Vec<u64> {
+pub fn walk_lengths(arena: &Arena) -> Vec<u64> {
     let mut lengths: Vec<u64> = Vec::with_capacity(arena.type_count());
     for w in arena.types.chunks_exact(TYPE_WORDS) {
         let rows = arena.rows_of(w);

@@ -47,13 +47,17 @@ pub fn of_type(types: &UniqueArena<Type>, number: u32, offset: u32) -> Result<Ma
     let inner = &types[naga::handle_of(number)].inner;
     let touched =
         word(|| ImmediateSlots::from_type(inner, offset, types, GlobalCtx::of_types(types)))?;
-    let mut parts = Vec::new();
-    add_parts(types, inner, offset, &mut parts);
-    Ok([touched, partly::mask(&parts)])
+    Ok([touched, partly::mask(&parts(types, inner, offset))])
 }
 
-/// The parts of a type at an offset: itself, or the parts of its members if it
-/// is a struct. Where the Rust has a word, the sums stay within 32 bits.
+/// The parts of a type at an offset.
+pub fn parts(types: &UniqueArena<Type>, inner: &TypeInner, offset: u32) -> Vec<Part> {
+    let mut parts = Vec::new();
+    add_parts(types, inner, offset, &mut parts);
+    parts
+}
+
+/// The type itself, or the parts of its members if it is a struct. Where the Rust has a word, the sums stay within 32 bits.
 fn add_parts(types: &UniqueArena<Type>, inner: &TypeInner, offset: u32, parts: &mut Vec<Part>) {
     let TypeInner::Struct { members, .. } = inner else {
         return parts.push((offset, inner.size(GlobalCtx::of_types(types))));
@@ -65,8 +69,12 @@ fn add_parts(types: &UniqueArena<Type>, inner: &TypeInner, offset: u32, parts: &
 }
 
 fn word(slots: impl FnOnce() -> ImmediateSlots) -> Result<u64, u32> {
-    let slots = caught(slots).map_err(|_| PAST_THE_SLOTS)?;
+    caught(slots).map(bits).map_err(|_| PAST_THE_SLOTS)
+}
+
+/// The Rust's mask as a word; it hands out no bits, so each is asked for.
+pub fn bits(slots: ImmediateSlots) -> u64 {
     let bits = (0..SLOTS).map(|bit| 1u64 << bit);
     let set = bits.filter(|&bit| slots.contains(ImmediateSlots::from_raw(bit)));
-    Ok(set.fold(0, |word, bit| word | bit))
+    set.fold(0, |word, bit| word | bit)
 }

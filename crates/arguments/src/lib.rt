@@ -30,6 +30,10 @@ pub enum Reason {
     TooLarge(u32),
     // The word is no command, or has too few or too many numbers after it.
     Usage(Command),
+    // A byte that no line may hold.
+    ByteOrderMark,
+    Nul,
+    Return,
 }
 
 // The next number of a text, and where it ends.

@@ -94,6 +94,15 @@ fn stop(mut s: Session, reason: Reason) -> Session {
         Reason::Usage(command) => {
             s.why = output::usage_line(command);
         }
+        Reason::ByteOrderMark => {
+            s.why = output::BYTE_ORDER_MARK;
+        }
+        Reason::Nul => {
+            s.why = output::NUL;
+        }
+        Reason::Return => {
+            s.why = output::RETURN;
+        }
     }
     s
 }

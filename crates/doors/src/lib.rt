@@ -13,7 +13,7 @@ ghost use Rattle.records.specs.Record.{typeWord};
 ghost use lib.ListN.{length, drop};
 ghost use Rattle.layouter.specs.Layouter.{layoutAnswer, layoutWords};
 ghost use Rattle.valid.specs.Arena.{arenaAnswer, arenaWords};
-ghost use Rattle.slots.specs.Slots.{rangeSlots, partAnswer};
+ghost use Rattle.slots.specs.Slots.{rangeSlots, partAnswer, contains, difference, union};
 ghost use Rattle.immediates.specs.Immediates.{slotsAnswer};
 ghost use Rattle.place.specs.Place.{lookupAnswer};
 ghost use Rattle.plain_types.specs.PlainTypes.{plainAnswer};
@@ -350,6 +350,30 @@ pub extern "C" fn wuldazin_slots(
     let found = immediates::immediate_slots(types, members, capabilities, rows, ty, offset);
     put_masks(mask, found);
     put_answer(answer, slots_outcome(found));
+}
+
+// Whether every slot of other is one of this.
+#[no_mangle]
+pub extern "C" fn wuldazin_contains(this: u64, other: u64) -> bool
+    ensures { λ r. ⌜ r ≡ contains this other ⌝ }
+{
+    slots::contains_all(this, other)
+}
+
+// The slots of this that are not in other.
+#[no_mangle]
+pub extern "C" fn wuldazin_difference(this: u64, other: u64) -> u64
+    ensures { λ r. ⌜ r ≡ difference this other ⌝ }
+{
+    slots::difference_of(this, other)
+}
+
+// The slots of either.
+#[no_mangle]
+pub extern "C" fn wuldazin_union(this: u64, other: u64) -> u64
+    ensures { λ r. ⌜ r ≡ union this other ⌝ }
+{
+    slots::union_of(this, other)
 }
 
 // The byte place and the type of the leaf that steps lead to.

@@ -1,4 +1,4 @@
-// Answers the commands on standard input.
+// Answers its arguments, or the commands on standard input.
 fn main() {
-    session::run();
+    command_line::run();
 }

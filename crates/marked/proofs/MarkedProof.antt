@@ -31,7 +31,7 @@ use Rattle.slots.specs.declared.SlotsAnswer.the-variants.{Slots}
 use Rattle.slots.specs.Slots.{covers, coversAll, maskOf, rangeSlots, partAnswer}
 use Rattle.type_slots.specs.Walk.{membersSlots, slotsOf}
 use Rattle.immediates.specs.Immediates.{slotsAnswer}
-use Rattle.marked.specs.Marked.{Words, Example, lent, made, left, AllLeft, Holds, Case, arenaCase, slotsCase, rangeCase, CaseHolds, marked}
+use Rattle.marked.specs.Marked.{Words, Example, lent, made, left, AllLeft, Holds, Case, arenaCase, slotsCase, rangeCase, CaseHolds, AllHold, marked}
 
 -- ---- the test
 sameList : List ℕ → List ℕ → Bool
@@ -123,11 +123,6 @@ unfolding caseHolds
 case-holds (arenaCase x) t = example-holds x t
 case-holds (slotsCase x ty offset expected) t = slots-same (slotsAnswer (x .capabilities) (x .types) (x .members) (lent x) ty offset) expected t
 case-holds (rangeCase offset size expected) t = slots-same (partAnswer (rangeSlots offset size)) expected t
-
--- what each row of a table says
-pub AllHold : List Case → Type 0
-AllHold [] = Unit {0}
-AllHold (x ∷ xs) = CaseHolds x × AllHold xs
 
 all-hold : (xs : List Case) → T (every xs) → AllHold xs
 unfolding every AllHold

@@ -88,6 +88,11 @@ CaseHolds (arenaCase x) = Holds x
 CaseHolds (slotsCase x ty offset expected) = slotsAnswer (x .capabilities) (x .types) (x .members) (lent x) ty offset ≡ expected
 CaseHolds (rangeCase offset size expected) = partAnswer (rangeSlots offset size) ≡ expected
 
+-- what each row of a table says
+unfoldable pub AllHold : List Case → Type 0
+AllHold [] = Unit {0}
+AllHold (x ∷ xs) = CaseHolds x × AllHold xs
+
 -- ---- the table
 abbrev pub accepted : (types members : List ℕ) → List Words → Example
 accepted types members rows = record { capabilities = 0; types = types; members = members; answer = Accepted; rows = rows }

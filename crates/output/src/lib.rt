@@ -153,23 +153,29 @@ pub const TYPES_FULL: u32 = 6;
 
 pub const MEMBERS_FULL: u32 = 7;
 
+pub const BYTE_ORDER_MARK: u32 = 8;
+
+pub const NUL: u32 = 9;
+
+pub const RETURN: u32 = 10;
+
 // The line that says what a command takes.
 pub fn usage_line(command: arguments::Command) -> u32 {
     match command {
-        arguments::Command::Capabilities => 8,
-        arguments::Command::TypeRecord => 9,
-        arguments::Command::MemberRecord => 10,
-        arguments::Command::Layout => 11,
-        arguments::Command::Judge => 12,
-        arguments::Command::Check => 13,
-        arguments::Command::Members => 14,
-        arguments::Command::Slots => 15,
-        arguments::Command::Range => 16,
-        arguments::Command::Place => 17,
-        arguments::Command::Report => 18,
-        arguments::Command::Plain => 19,
-        arguments::Command::Clear => 20,
-        arguments::Command::Unknown => 21,
+        arguments::Command::Capabilities => 11,
+        arguments::Command::TypeRecord => 12,
+        arguments::Command::MemberRecord => 13,
+        arguments::Command::Layout => 14,
+        arguments::Command::Judge => 15,
+        arguments::Command::Check => 16,
+        arguments::Command::Members => 17,
+        arguments::Command::Slots => 18,
+        arguments::Command::Range => 19,
+        arguments::Command::Place => 20,
+        arguments::Command::Report => 21,
+        arguments::Command::Plain => 22,
+        arguments::Command::Clear => 23,
+        arguments::Command::Unknown => 24,
     }
 }
 
@@ -181,6 +187,9 @@ fn put_why(out: &mut Buffer, at: usize, why: u32) -> usize {
  is above 4294967295
 : the arena is full, with 1024 types
 : the member table is full, with 4096 members
+: a byte order mark stands in it
+: a NUL byte stands in it
+: a carriage return stands before its end
 : caps takes one number
 : type takes a kind and at most 5 words
 : member takes a type and an offset

@@ -24,28 +24,13 @@ use Rattle.member_bounds.specs.MemberBounds.{memberBounds, boundsAfter}
 use Rattle.member_rules.specs.MemberRules.{uniformAfter, storageAfter, immediatesAfter}
 use Rattle.validate_type.specs.ValidateType.{flagsOf, uniformOf, storageOf, immediatesOf, rowOf, judge}
 use Rattle.valid.specs.Arena.{row, judgeOutcome, arenaOutcome, arena}
-use Rattle.valid.proofs.AcceptedLaws.{AcceptedTypes, array-row, runtime-array-row, member-earlier}
 use Rattle.valid.proofs.ArenaLaws.{accepted-types}
 use Rattle.descent.specs.declared.Place.the-variants.{At, NoPlace}
 use Rattle.steps.specs.Steps.{stepOf}
 use Rattle.descent.specs.Place.{placeOf}
 use Rattle.term3.specs.Term3.{rowIn, InLeaf, HostShareableData, Reached, itself, element, runtimeElement, member, strideCovers, StridesCover, rewrite}
+use Rattle.term3.proofs.ReachedLaws.{strides-cover}
 use Rattle.term3.proofs.Term3Proof.{term3}
-
--- ---- what is reached from an accepted type is an accepted type
-pub reached-within : (c : ℕ) (types : ℕ → Decoded) (n : ℕ) → AcceptedTypes c types n → {t a : ℕ} → Reached types t a → t < n → a < n
-reached-within c types n acc itself h = h
-reached-within c types n acc (element {t = t} {base = base} {count = count} {stride = stride} e r) h =
-    let b = array-row c types n acc t h base count stride e .0 in reached-within c types n acc r (omega arith)
-reached-within c types n acc (runtimeElement {t = t} {base = base} {stride = stride} e r) h =
-    let b = runtime-array-row c types n acc t h base stride e .0 in reached-within c types n acc r (omega arith)
-reached-within c types n acc (member {t = t} {count = count} {span = span} j e l r) h =
-    let b = member-earlier c types n acc t h count span e j l in reached-within c types n acc r (omega arith)
-
--- where each array of the arena has a stride of at least its element's size, so has each that is reached
-pub strides-cover : (c : ℕ) (types : ℕ → Decoded) (n : ℕ) → AcceptedTypes c types n → ((a : ℕ) → a < n → strideCovers (row c types) (types a .inner))
-    → (t : ℕ) → t < n → StridesCover (row c types) types t
-strides-cover c types n acc each t h a r = each a (reached-within c types n acc r h)
 
 -- ---- the arena: 0 is f32, 1 is vec3<f32>, 2 is struct { vec3<f32> at 0, f32 at 12 }, 3 is array<2, 2>, 4 is array<f32>,
 -- 5 is struct { 3 at 0, 2 at 32, 4 at 48 }, 6 is mat3x3<f32>, 7 is struct { f32 at 0, 6 at 16 }

@@ -1,7 +1,10 @@
 pub mod BufferLaws
 pub mod ColumnLaws
 pub mod StepLaws
+pub mod ReachedLaws
 pub mod KeptLaws
 pub mod Term3Proof
+pub mod CallsProof
 pub mod Instance
 pub mod StridesMatter
+pub mod KeptInstance

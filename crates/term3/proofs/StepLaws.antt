@@ -121,7 +121,7 @@ module _ (c : ℕ) (types : ℕ → Decoded) (n : ℕ) (acc : AcceptedTypes c ty
   WayIn = Way (stepIn types) (leafIn types)
 
   -- a leaf's type is one of the arena
-  leaf-within : {steps : List ℕ} {t p byte leaf : ℕ} → WayIn t p steps byte leaf → t < n → leaf < n
+  pub leaf-within : {steps : List ℕ} {t p byte leaf : ℕ} → WayIn t p steps byte leaf → t < n → leaf < n
   leaf-within w l =
       along (stepIn types) (leafIn types) (λ (u q : ℕ). u < n) (λ u q s ty bytes o i. omega (arith, descent c types n acc u i s ty bytes o .earlier))
       (λ u q s bytes o i. i) w l

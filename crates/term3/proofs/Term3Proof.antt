@@ -39,7 +39,7 @@ none-of x m k f = go (decLe x k) (decLt k (x + m))
     go (yes a) (yes b) = absurd (f (a, b))
 
 -- the way to a place
-way-to : (ts ms : List ℕ) (t : ℕ) (steps : List ℕ) (byte leaf : ℕ) → placeOf ts ms t steps ≡ At byte leaf
+pub way-to : (ts ms : List ℕ) (t : ℕ) (steps : List ℕ) (byte leaf : ℕ) → placeOf ts ms t steps ≡ At byte leaf
     → Way (stepIn (decoded ts ms)) (leafIn (decoded ts ms)) t 0 steps byte leaf
 way-to ts ms t steps byte leaf e = way (stepIn (decoded ts ms)) (leafIn (decoded ts ms)) steps t 0 byte leaf (place-found ts ms t steps byte leaf e)
 

@@ -1,1 +1,2 @@
 pub mod Term3
+pub mod Calls

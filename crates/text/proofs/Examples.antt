@@ -5,8 +5,9 @@ use mathlib.Core.List.{List, [], _∷_}
 use Prim.Native.Nat.{ℕ}
 use Rattle.words.specs.Words.{runOf, beforeComment, withoutReturn, textOf, pieces, words}
 use Rattle.words.specs.Number.{allDigits, decimal, numberOf}
+use Rattle.words.specs.Stray.{strayOf, strayFrom}
 use Rattle.arguments.specs.Arguments.{numbersOf}
-use Rattle.text.specs.Line.{same, lastCommandOf, laterCommandOf, commandOf, argumentsOf, lineOf, numbersRead}
+use Rattle.text.specs.Line.{same, lastCommandOf, laterCommandOf, commandOf, argumentsOf, lineOf, numbersRead, lineIn}
 use Rattle.arguments.specs.declared.Command.the-variants as command
 use Rattle.arguments.specs.declared.Reason.the-variants as reason
 use Rattle.text.specs.declared.Line.{Line}
@@ -50,3 +51,22 @@ check-line = refl
 unknown-line : read (99 ∷ 104 ∷ 101 ∷ 99 ∷ []) ≡ line.Wrong (reason.Usage command.Unknown)
 unfolding runOf beforeComment withoutReturn pieces words allDigits decimal numberOf same lastCommandOf laterCommandOf commandOf numbersOf argumentsOf
 unknown-line = refl
+
+-- ---- bytes that no line may hold, before any word is looked at
+-- a byte order mark before "check", in UTF-8 and in UTF-16 of either order
+mark-line : (lineIn (239 ∷ 187 ∷ 191 ∷ 99 ∷ 104 ∷ 101 ∷ 99 ∷ 107 ∷ []) ≡ line.Wrong reason.ByteOrderMark)
+    × (lineIn (255 ∷ 254 ∷ 99 ∷ 0 ∷ []) ≡ line.Wrong reason.ByteOrderMark)
+    × (lineIn (254 ∷ 255 ∷ 0 ∷ 99 ∷ []) ≡ line.Wrong reason.ByteOrderMark)
+unfolding strayOf strayFrom
+mark-line = (refl, refl, refl)
+
+-- "#" and a NUL; "check", a return and "clear"
+stray-line : (lineIn (35 ∷ 0 ∷ []) ≡ line.Wrong reason.Nul)
+    × (lineIn (99 ∷ 104 ∷ 101 ∷ 99 ∷ 107 ∷ 13 ∷ 99 ∷ 108 ∷ 101 ∷ 97 ∷ 114 ∷ []) ≡ line.Wrong reason.Return)
+unfolding strayOf strayFrom
+stray-line = (refl, refl)
+
+-- "check" and a return; a comment with a full-width 1, which begins as the mark does
+plain-line : (lineIn (99 ∷ 104 ∷ 101 ∷ 99 ∷ 107 ∷ 13 ∷ []) ≡ line.Check) × (lineIn (35 ∷ 239 ∷ 188 ∷ 145 ∷ []) ≡ line.Nothing)
+unfolding strayOf strayFrom runOf beforeComment withoutReturn pieces words allDigits decimal numberOf same lastCommandOf laterCommandOf commandOf numbersOf argumentsOf
+plain-line = (refl, refl)

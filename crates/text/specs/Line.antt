@@ -1,4 +1,4 @@
--- What a line says, by its words: the command and the numbers after it.
+-- What a line says, by its bytes and its words: the command and the numbers after it.
 -- Assumes nothing.
 use mathlib.Core.Path.{_≡_}
 use mathlib.Core.Bool.{Bool, true, false, _&&_}
@@ -7,6 +7,10 @@ use Prim.Native.Nat.{ℕ, _+_, _*_, _-_}
 use lib.Dec.{eqb, leb}
 use lib.ListN.{length, getD, take}
 use Rattle.records.specs.Result.{pick}
+use Rattle.words.specs.Words.{textOf, words}
+use Rattle.words.specs.Stray.{strayIn}
+use Rattle.words.specs.declared.Stray.{Stray}
+use Rattle.words.specs.declared.Stray.the-variants as stray
 use Rattle.arguments.specs.Arguments.{Arguments, read, wrong, numbersOf}
 use Rattle.arguments.specs.declared.Command.{Command}
 use Rattle.arguments.specs.declared.Command.the-variants as command
@@ -122,6 +126,25 @@ lineOf (w ∷ ws) = lineWith (commandOf w) (argumentsOf (commandOf w) ws)
 abbrev pub numbersRead : List (List ℕ) → List ℕ
 numbersRead [] = []
 numbersRead (w ∷ ws) = listOf (argumentsOf (commandOf w) ws)
+
+-- ---- a line of bytes: a byte that no line may hold, or what its words say
+abbrev pub lineUnless : Stray → List (List ℕ) → Line
+lineUnless stray.Nothing ws = lineOf ws
+lineUnless stray.ByteOrderMark ws = line.Wrong reason.ByteOrderMark
+lineUnless stray.Nul ws = line.Wrong reason.Nul
+lineUnless stray.Return ws = line.Wrong reason.Return
+
+abbrev pub lineIn : List ℕ → Line
+lineIn s = lineUnless (strayIn s) (words (textOf s))
+
+abbrev pub numbersUnless : Stray → List (List ℕ) → List ℕ
+numbersUnless stray.Nothing ws = numbersRead ws
+numbersUnless stray.ByteOrderMark ws = []
+numbersUnless stray.Nul ws = []
+numbersUnless stray.Return ws = []
+
+abbrev pub lineNumbers : List ℕ → List ℕ
+lineNumbers s = numbersUnless (strayIn s) (words (textOf s))
 
 -- the words begin with the numbers
 abbrev pub Holds : List ℕ → List ℕ → Type 0

@@ -2,12 +2,13 @@
 use arguments::Command;
 use arguments::Count;
 use arguments::Reason;
+use words::Stray;
 use words::Word;
 ghost use mathlib.Core.Path.{_≡_};
 ghost use Prim.Native.Nat.{_≤_};
 ghost use lib.ListN.{length, drop};
 ghost use Rattle.words.specs.Words.{textOf, words};
-ghost use Rattle.text.specs.Line.{nameOf, commandOf, leastOf, mostOf, argumentsOf, listOf, Holds, lineBy, lineWith, lineOf, numbersRead};
+ghost use Rattle.text.specs.Line.{nameOf, commandOf, leastOf, mostOf, argumentsOf, listOf, Holds, lineBy, lineWith, lineOf, numbersRead, lineIn, lineNumbers};
 
 pub enum Line {
     Nothing,
@@ -186,8 +187,8 @@ fn read_command(s: &[u8], at: usize, command: Command, numbers: &mut [u32]) -> L
     }
 }
 
-// What a line says. Its numbers are left in the lent words.
-pub fn read_line(line: &[u8], numbers: &mut [u32]) -> Line
+// What the words of a line say.
+fn read_words(line: &[u8], numbers: &mut [u32]) -> Line
     requires { ⌜ 1025 ≤ length (now numbers) ⌝ }
     ensures { λ r. ⌜ r ≡ lineOf (words (textOf (now (line .entry)))) ⌝ }
     ensures { λ _. ⌜ Holds (now (numbers .exit)) (numbersRead (words (textOf (now (line .entry))))) ⌝ }
@@ -199,5 +200,19 @@ pub fn read_line(line: &[u8], numbers: &mut [u32]) -> Line
             let command = command_of(&s[start..end]);
             read_command(s, end, command, numbers)
         }
+    }
+}
+
+// What a line says. Its numbers are left in the lent words.
+pub fn read_line(line: &[u8], numbers: &mut [u32]) -> Line
+    requires { ⌜ 1025 ≤ length (now numbers) ⌝ }
+    ensures { λ r. ⌜ r ≡ lineIn (now (line .entry)) ⌝ }
+    ensures { λ _. ⌜ Holds (now (numbers .exit)) (lineNumbers (now (line .entry))) ⌝ }
+{
+    match words::stray_in(line) {
+        Stray::Nothing => read_words(line, numbers),
+        Stray::ByteOrderMark => Line::Wrong(Reason::ByteOrderMark),
+        Stray::Nul => Line::Wrong(Reason::Nul),
+        Stray::Return => Line::Wrong(Reason::Return),
     }
 }

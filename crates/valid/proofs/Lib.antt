@@ -4,3 +4,4 @@ pub mod DependLaws
 pub mod AcceptedLaws
 pub mod AppendLaws
 pub mod ArenaLaws
+pub mod WordLaws

@@ -1,9 +1,11 @@
-// The words of a line, and the number that a word is.
+// The words of a line, the number that a word is, and the bytes that no line may hold.
 ghost use mathlib.Core.Path.{_≡_};
 ghost use Prim.Native.Nat.{_+_, _-_, _≤_, _<_, min};
-ghost use lib.ListN.{length, drop};
+ghost use lib.Dec.{ltb};
+ghost use lib.ListN.{length, getD, drop};
 ghost use Rattle.words.specs.Words.{isIn, runOf, beforeComment, textOf, WordAt};
 ghost use Rattle.words.specs.Number.{isDigit, allDigits, decimal, numberOf};
+ghost use Rattle.words.specs.Stray.{isMark, strayOf, strayAt, strayIn};
 
 // What a byte is looked at for.
 pub enum Class {
@@ -29,9 +31,20 @@ pub enum Number {
     TooLarge,
 }
 
+// What no line may hold.
+pub enum Stray {
+    Nothing,
+    ByteOrderMark,
+    Nul,
+    // A carriage return that is not the last byte.
+    Return,
+}
+
 const SPACE: u8 = 32;
 
 const TAB: u8 = 9;
+
+const NUL: u8 = 0;
 
 const RETURN: u8 = 13;
 
@@ -168,4 +181,67 @@ pub fn number_of(word: &[u8]) -> Number
     } else {
         Number::TooLarge
     }
+}
+
+fn byte_at(s: &[u8], at: usize) -> u8
+    ensures { λ r. ⌜ r ≡ getD (now (s .entry)) at 0 ⌝ }
+{
+    if at < s.len() { s[at] } else { 0 }
+}
+
+// A byte order mark, of UTF-8 or UTF-16.
+fn is_mark(a: u8, b: u8, c: u8) -> bool
+    ensures { λ r. ⌜ r ≡ isMark a b c ⌝ }
+{
+    ((a == 0xef) & (b == 0xbb) & (c == 0xbf))
+        | ((a == 0xfe) & (b == 0xff))
+        | ((a == 0xff) & (b == 0xfe))
+}
+
+// What a byte is, by the two after it and whether it is not the last.
+fn stray_of(a: u8, b: u8, c: u8, more: bool) -> Stray
+    ensures { λ r. ⌜ r ≡ strayOf a b c more ⌝ }
+{
+    if a == NUL {
+        return Stray::Nul;
+    }
+    if (a == RETURN) & more {
+        return Stray::Return;
+    }
+    if is_mark(a, b, c) {
+        return Stray::ByteOrderMark;
+    }
+    Stray::Nothing
+}
+
+fn stray_at(line: &[u8], i: usize) -> Stray
+    requires { ⌜ i < length (now line) ⌝ }
+    ensures { λ r. ⌜ r ≡ strayAt (now (line .entry)) i ⌝ }
+{
+    let b = byte_at(line, i + 1);
+    let c = byte_at(line, i + 2);
+    stray_of(line[i], b, c, i + 1 < line.len())
+}
+
+// The first of a line's bytes that no line may hold.
+pub fn stray_in(line: &[u8]) -> Stray
+    ensures { λ r. ⌜ r ≡ strayIn (now (line .entry)) ⌝ }
+{
+    let mut i = 0;
+    while i < line.len() {
+        match stray_at(line, i) {
+            Stray::Nothing => {}
+            Stray::ByteOrderMark => {
+                return Stray::ByteOrderMark;
+            }
+            Stray::Nul => {
+                return Stray::Nul;
+            }
+            Stray::Return => {
+                return Stray::Return;
+            }
+        }
+        i += 1;
+    }
+    Stray::Nothing
 }

@@ -4,9 +4,10 @@
 //!   struct Kernel { turn: mat3x3<f32>, steps: u32, cells: array<Cell, 4>, tail: array<f32> }
 //!
 //! The matrix is filled column by column: 12 bytes at 0, 16 and 32. The host keeps a flag in the gap after each.
+//! Before it fills the buffer it looks at the storage verdict: an accepted type may be one that no storage buffer can hold.
 
 use std::ops::Range;
-use wuldazin::{flags, form, kind, scalar, Refusal, Row};
+use wuldazin::{flags, form, kind, scalar, verdict, Refusal, Row};
 
 const F32: u32 = 0;
 const VEC3: u32 = 1;
@@ -90,12 +91,28 @@ fn rewrite_each(buffer: &[u8; BYTES], leaves: &[(Vec<u32>, Vec<u8>)]) -> Result<
     Ok(())
 }
 
+/// The alignment that a storage buffer with this type needs, if it may hold it.
+fn storage_alignment(row: Row) -> Option<u32> {
+    let shareable = row.has(flags::DATA | flags::HOST_SHAREABLE);
+    row.storage().alignment().filter(|_| shareable)
+}
+
+/// The moisture first and the temperature right after it, at byte 4: accepted, and nothing is filled.
+fn accepted_and_not_usable() -> Result<(), Refusal> {
+    let mut rows = [0; 3 * wuldazin::ROW_WORDS];
+    wuldazin::judge(&TYPES[..18], &[F32, 0, VEC3, 4], 0, &mut rows)?;
+    let cell = Row::of(&rows, CELL).unwrap();
+    assert_eq!(storage_alignment(cell), None);
+    assert_eq!(cell.storage().code, verdict::MEMBER_OFFSET);
+    println!("temperature at byte 4: accepted, {:?}", cell.storage());
+    Ok(())
+}
+
 fn main() -> Result<(), Refusal> {
     let mut rows = [0; 8 * wuldazin::ROW_WORDS];
     wuldazin::judge(&TYPES, &MEMBERS, 0, &mut rows)?;
     let kernel = Row::of(&rows, KERNEL).unwrap();
-    assert!(kernel.has(flags::DATA | flags::HOST_SHAREABLE));
-    assert_eq!(kernel.storage().alignment(), Some(16));
+    assert_eq!(storage_alignment(kernel), Some(16));
     assert_eq!(wuldazin::members(&TYPES, &MEMBERS, KERNEL), &MEMBERS[4..]);
 
     let mut buffer = [0; BYTES];
@@ -118,5 +135,5 @@ fn main() -> Result<(), Refusal> {
 
     println!("cells[4]: {}", bytes(&[2, 4, 0]).unwrap_err());
     println!("turn[3]: {}", bytes(&[0, 3]).unwrap_err());
-    Ok(())
+    accepted_and_not_usable()
 }

@@ -56,6 +56,9 @@ extern "C" {
         answer: *mut u32,
         answer_length: usize,
     );
+    pub fn wuldazin_contains(mask: u64, other: u64) -> bool;
+    pub fn wuldazin_difference(mask: u64, other: u64) -> u64;
+    pub fn wuldazin_union(mask: u64, other: u64) -> u64;
     pub fn wuldazin_place(
         types: *const u32,
         types_length: usize,

@@ -53,6 +53,36 @@ pub mod form {
     pub const DYNAMIC: u32 = 1;
 }
 
+/// Address spaces.
+pub mod space {
+    pub const FUNCTION: u32 = 0;
+    pub const PRIVATE: u32 = 1;
+    pub const WORK_GROUP: u32 = 2;
+    pub const UNIFORM: u32 = 3;
+    pub const STORAGE: u32 = 4;
+    pub const HANDLE: u32 = 5;
+    pub const IMMEDIATE: u32 = 6;
+    pub const TASK_PAYLOAD: u32 = 7;
+    pub const RAY_PAYLOAD: u32 = 8;
+    pub const INCOMING_RAY_PAYLOAD: u32 = 9;
+}
+
+/// Dimensions of an image.
+pub mod dimension {
+    pub const D1: u32 = 0;
+    pub const D2: u32 = 1;
+    pub const D3: u32 = 2;
+    pub const CUBE: u32 = 3;
+}
+
+/// Classes of an image.
+pub mod class {
+    pub const SAMPLED: u32 = 0;
+    pub const DEPTH: u32 = 1;
+    pub const EXTERNAL: u32 = 2;
+    pub const STORAGE: u32 = 3;
+}
+
 /// Bits of the capability word.
 pub mod capabilities {
     pub const FLOAT64: u32 = 1;
@@ -122,6 +152,9 @@ pub fn layout(types: &[u32], members: &[u32], rows: &mut [u32]) -> Result<(), Re
 }
 
 /// Judges an arena. Numbers 1 to 24.
+///
+/// Accepted does not mean usable in an address space: before a buffer is filled, look at [`Row::storage`] or [`Row::uniform`]
+/// of its type.
 ///
 /// `rows` may hold anything, laid out or not: the result and the rows depend on the tables, the capability word and the
 /// length of `rows` alone. Where the capability word is in order, what [`layout`] refuses is refused alike. So this is the
@@ -231,6 +264,24 @@ pub fn slots(
     }
     let [touched, partly] = mask;
     Refusal::of(answer).map(|()| Slots { touched, partly })
+}
+
+/// Whether every slot of `other` is one of `mask`; each is a mask of [`Slots`], or any other 64 bits.
+pub fn contains(mask: u64, other: u64) -> bool {
+    // SAFETY: two numbers are handed over, and nothing is lent. So in the next two.
+    unsafe { door::wuldazin_contains(mask, other) }
+}
+
+/// The slots of `mask` that are not in `other`.
+pub fn difference(mask: u64, other: u64) -> u64 {
+    // SAFETY: as in contains.
+    unsafe { door::wuldazin_difference(mask, other) }
+}
+
+/// The slots of either.
+pub fn union(mask: u64, other: u64) -> u64 {
+    // SAFETY: as in contains.
+    unsafe { door::wuldazin_union(mask, other) }
 }
 
 /// The leaf that `steps`, member, element and column numbers, lead to from type `start`. Judges the arena first. Numbers 1

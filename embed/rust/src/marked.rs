@@ -1,4 +1,5 @@
-//! The marked examples M1 to M12, the standard's figures for plain types and the columns of matrices, through the safe calls.
+//! The marked examples M1 to M12, the standard's figures for plain types, the columns of matrices, masks, names and sentences,
+//! through the safe calls.
 
 use crate::*;
 
@@ -167,6 +168,25 @@ fn slots_in_part() {
     assert_eq!(walk(&[F16, array(3, 2)], &[]), masks(3, 2));
 }
 
+/// By 01 they follow the Rust: all of other's bits; the bits of this that are not other's; the bits of either.
+#[test]
+fn masks_together() {
+    let (all, last) = (u64::MAX, 1 << 63);
+    for (mask, other, contained, left, joined) in [
+        (0, 0, true, 0, 0),
+        (15, 6, true, 9, 15),
+        (6, 15, false, 0, 15),
+        (6, 9, false, 6, 15),
+        (last, 1, false, last, last + 1),
+        (all, last, true, last - 1, all),
+        (last - 1, all, false, 0, all),
+    ] {
+        assert_eq!(contains(mask, other), contained, "{mask} {other}");
+        assert_eq!(difference(mask, other), left, "{mask} {other}");
+        assert_eq!(union(mask, other), joined, "{mask} {other}");
+    }
+}
+
 #[test]
 fn rows_after_a_refusal() {
     let types = [E, V, structure(0, 2, 15)];
@@ -262,19 +282,77 @@ fn columns() {
     }
 }
 
+/// Rules of single address spaces, dimensions and classes.
+#[test]
+fn spaces_dimensions_and_classes() {
+    let runtime = [kind::ARRAY, 0, form::DYNAMIC, 0, 4, 0];
+    for space in space::FUNCTION..=space::INCOMING_RAY_PAYLOAD {
+        let pointer = [kind::POINTER, 1, space, 0, 0, 0];
+        let answer = judged(&[E, runtime, pointer], &[], 0);
+        let refusal = (space != space::STORAGE).then(|| refused(14, 2, 0, 0));
+        assert_eq!(answer.err(), refusal);
+    }
+    let image = |dimension, arrayed, class, capabilities| {
+        let record = [kind::IMAGE, dimension, arrayed, class, 0, 0];
+        judged(&[record], &[], capabilities).err()
+    };
+    let external = capabilities::TEXTURE_EXTERNAL;
+    assert_eq!(image(dimension::D2, 0, class::EXTERNAL, external), None);
+    for class in [class::SAMPLED, class::DEPTH, class::STORAGE] {
+        assert_eq!(image(dimension::D1, 1, class, 0), None);
+        assert_eq!(
+            image(dimension::D3, 1, class, 0),
+            Some(refused(22, 0, 0, 0))
+        );
+        assert_eq!(
+            image(dimension::CUBE, 1, class, 0),
+            Some(refused(8, 0, 0, 8))
+        );
+    }
+    for dimension in [dimension::D1, dimension::D3, dimension::CUBE] {
+        let refusal = image(dimension, 0, class::EXTERNAL, external);
+        assert_eq!(refusal, Some(refused(22, 0, 0, 0)));
+    }
+}
+
+/// A vec3 at offset 4: accepted, and not usable in either address space.
+#[test]
+fn accepted_and_not_usable() {
+    let rows = judged(&[E, V, structure(0, 2, 16)], &[0, 0, 1, 4], 0).unwrap();
+    let expected = Verdict {
+        code: verdict::MEMBER_OFFSET,
+        ty: 2,
+        index: 1,
+        value: 4,
+        bound: 16,
+    };
+    assert_eq!(row(&rows, 2).storage(), expected);
+    assert_eq!(row(&rows, 2).uniform(), expected);
+}
+
+#[test]
+fn the_header_has_the_same_sentences() {
+    let header = include_str!("../../wuldazin.h");
+    let (_, function) = header.split_once("*wuldazin_meaning(").unwrap();
+    let (function, _) = function.split_once("\n}").unwrap();
+    let sentences = function.split('"').skip(1).step_by(2);
+    let meanings = (0..29).map(|number| refused(number, 0, 0, 0).meaning());
+    assert!(sentences.eq(meanings));
+}
+
 #[test]
 fn refusals_in_words() {
     let text = refused(18, 2, 1, 0).to_string();
     assert_eq!(
         text,
-        "18: member overlaps the one before (type 2, member 1)"
+        "18: a member overlaps the one before (type 2, member 1)"
     );
     assert_eq!(
         refused(8, 0, 0, 1).to_string(),
-        "8: capability missing (type 0, bit 1)"
+        "8: a capability is missing (type 0, bit 1)"
     );
     assert_eq!(
         refused(26, 0, 0, 0).to_string(),
-        "26: no such type or place"
+        "26: no type has that number, or the steps lead to no place"
     );
 }

@@ -15,35 +15,36 @@ pub struct Refusal {
     pub detail: u32,
 }
 
+/// As in `wuldazin_meaning` of wuldazin.h.
 const MEANINGS: [&str; 28] = [
     "accepted",
-    "table length: not whole records, too many, rows or report too short, or capability bits above 12",
-    "field outside its set, or member rows past the member table; no such plain shape or width",
-    "pointer or binding-array base outside the arena",
-    "array's count or measure above 2,147,483,647",
-    "array element not an earlier type",
-    "member not an earlier type",
-    "width no power of two",
-    "capability missing",
-    "width invalid",
-    "abstract scalar",
-    "matrix element not float",
-    "atomic width",
-    "pointer base not data",
-    "pointer to unsized outside Storage",
-    "type that no array may have as its element",
-    "empty struct",
-    "not data",
-    "member overlaps the one before",
-    "member reaches past the struct's span",
-    "dynamic member not last, or not an array",
-    "a struct sum above 4,294,967,295 or difference below 0",
-    "image form",
-    "binding array of data that is no struct",
-    "binding array of external images",
-    "slots: a part ends past byte 256, or an offset sum leaves 32 bits",
-    "no such type or place",
-    "host-shareable struct reaches an array with a stride below its element's size",
+    "a table is no whole number of records or too long, the rows or the report are too short, or a capability bit above 12 is set",
+    "a field lies outside its set, member rows reach past the table, or no plain type has that shape and width",
+    "the base of a pointer or binding array lies outside the arena",
+    "an array's count or size is above 2,147,483,647",
+    "an array's element is no earlier type",
+    "a struct's member is no earlier type",
+    "a width is no power of two",
+    "a capability is missing",
+    "a scalar has a width that its kind may not have",
+    "a scalar is abstract",
+    "a matrix has elements that are no floats",
+    "an atomic has a scalar kind and width that no atomic may have",
+    "a pointer's base is no data",
+    "a pointer to an unsized type stands in another address space than Storage",
+    "an array's base is a type that cannot be an element",
+    "a struct has no members",
+    "a member is no data, or a binding array's base is no earlier type",
+    "a member overlaps the one before",
+    "a member ends past the struct's span",
+    "a dynamic member is not the last, or no array",
+    "a struct's sum or difference leaves 32 bits",
+    "an image is arrayed and 3D, or external and arrayed or not 2D",
+    "a binding array's base is data and no struct",
+    "a binding array's base is an external image",
+    "a nonempty part ends past byte 256, or an offset sum leaves 32 bits",
+    "no type has that number, or the steps lead to no place",
+    "a host-shareable struct reaches an array with a stride below its element's size",
 ];
 
 impl Refusal {
@@ -59,11 +60,11 @@ impl Refusal {
         }
     }
 
-    /// What the number stands for.
+    /// A sentence for a message: what the number stands for.
     pub fn meaning(&self) -> &'static str {
         MEANINGS
             .get(self.number as usize)
-            .unwrap_or(&"unknown number")
+            .unwrap_or(&"no number of an answer")
     }
 }
 

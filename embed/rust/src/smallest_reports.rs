@@ -70,7 +70,7 @@ fn narrow_strides() {
     assert_eq!(rows, accepted);
     assert_eq!(
         refused(27, 2).to_string(),
-        "27: host-shareable struct reaches an array with a stride below its element's size (type 2)"
+        "27: a host-shareable struct reaches an array with a stride below its element's size (type 2)"
     );
     let nested = [E, array(2, 2), structure(0, 1, 4), structure(1, 1, 8)];
     assert_eq!(reported(&nested, &[1, 0, 2, 0]), Err(refused(27, 2)));

@@ -1,2 +1,0 @@
-pub mod Wgsl
-pub mod Constraints
