@@ -1,4 +1,5 @@
-/* Type tables of naga 30.0.1: layouts, verdicts, immediate slots, places and a report of bytes; and plain types from a table.
+/* Type tables of naga 30.0.1: layouts, verdicts, immediate slots, passes tried with them, places and a report of bytes; and plain types
+ * from a table.
  *
  * Link with libdoors.a (x86-64 Linux). Nothing is kept between calls, nothing is allocated.
  *
@@ -12,19 +13,23 @@
  * members: WULDAZIN_MEMBER_WORDS words a member, its type and its offset; structs may share rows.
  *
  * rows takes WULDAZIN_ROW_WORDS words a type; n types need n * WULDAZIN_ROW_WORDS words, and no word after them is ever written.
- *  - accepted: the row of each type. Also with numbers 25 to 27, which come after the arena was accepted. Accepted does not mean usable in
+ *  - accepted: the row of each type. Also with numbers 25 to 27 and 37, which come after the arena was accepted. Accepted does not mean usable in
  *    an address space: before a buffer is filled, look at the verdict of its type. A vec3 at offset 4 is accepted, with storage code 3.
  *  - number 1: untouched.
  *  - numbers 2 to 24: n * WULDAZIN_ROW_WORDS zeros.
  *
- * answer takes WULDAZIN_ANSWER_WORDS words: number, type, member, detail; all 0 when accepted. Numbers 1, 25 and 26, and 2 of
+ * answer takes WULDAZIN_ANSWER_WORDS words: number, type, member, detail; all 0 when accepted. Numbers 1, 25, 26, 36 and 37, and 2 of
  * wuldazin_plain, have zeros after the number. member is the position in the struct for 6 and 17 to 21, else 0; detail is the missing
  * capability's bit for 8, else 0.
  *
  * mask takes WULDAZIN_MASK_WORDS words, bit k of each for slot k, bytes 4k to 4k + 3: the slots that are touched, then those that a part
  * covers only in part, one of their bytes and not all four. Zeros on a refusal. A buffer of one word gets the first mask alone.
  *
- * An answer, place, totals, numbers or part buffer that is too short for its words is left as it was. Words after its own are left in every buffer.
+ * pass takes WULDAZIN_PASS_WORDS words: the slots set so far, the slots that the chosen pipeline's type needs, and whether a pipeline is
+ * chosen, 0 or not. The host keeps them from call to call; any three words are a pass. An accepted step writes all three, 1 for a
+ * pipeline; a refused one writes none. On a shorter buffer every step is refused with number 1, before everything else.
+ *
+ * An answer, place, totals, numbers, missing or part buffer that is too short for its words is left as it was. Words after its own are left in every buffer.
  */
 #ifndef WULDAZIN_H
 #define WULDAZIN_H
@@ -44,6 +49,7 @@ enum {
     WULDAZIN_ANSWER_WORDS = 4,
     WULDAZIN_MASK_WORDS = 2,
     WULDAZIN_REPORT_WORDS = 2,
+    WULDAZIN_PASS_WORDS = 3,
     WULDAZIN_MOST_TYPES = 1024,
     WULDAZIN_MOST_MEMBERS = 4096,
     WULDAZIN_ALL_CAPABILITIES = 8191
@@ -192,7 +198,9 @@ enum {
     WULDAZIN_BINDING_ARRAY_EXTERNAL = 24,
     WULDAZIN_SLOTS_PAST = 25,
     WULDAZIN_NO_SUCH_PLACE = 26,
-    WULDAZIN_NARROW_STRIDE = 27
+    WULDAZIN_NARROW_STRIDE = 27,
+    WULDAZIN_NOT_READY = 36,
+    WULDAZIN_NO_IMMEDIATES = 37
 };
 
 /* A sentence for a message: what a number stands for. */
@@ -200,7 +208,7 @@ static inline const char *wuldazin_meaning(uint32_t number) {
     switch (number) {
     case WULDAZIN_ACCEPTED: return "accepted";
     case WULDAZIN_TABLE_LENGTH:
-        return "a table is no whole number of records or too long, the rows or the report are too short, or a capability bit above 12 is set";
+        return "a table is no whole number of records or too long, the rows, the report or the pass are too short, or a capability bit above 12 is set";
     case WULDAZIN_FIELD:
         return "a field lies outside its set, member rows reach past the table, or no plain type has that shape and width";
     case WULDAZIN_BASE_OUTSIDE: return "the base of a pointer or binding array lies outside the arena";
@@ -228,6 +236,8 @@ static inline const char *wuldazin_meaning(uint32_t number) {
     case WULDAZIN_SLOTS_PAST: return "a nonempty part ends past byte 256, or an offset sum leaves 32 bits";
     case WULDAZIN_NO_SUCH_PLACE: return "no type has that number, or the steps lead to no place";
     case WULDAZIN_NARROW_STRIDE: return "a host-shareable struct reaches an array with a stride below its element's size";
+    case WULDAZIN_NOT_READY: return "a dispatch has no pipeline, or slots that it needs are not set";
+    case WULDAZIN_NO_IMMEDIATES: return "a type's immediates word is not 0, or a range's offset or size is no multiple of 4";
     default: return "no number of an answer";
     }
 }
@@ -266,8 +276,8 @@ void wuldazin_range(uint32_t offset, uint32_t size,
  * A part is what is no struct, arrays taken whole. Each mask has the slots of all parts: a slot of which two parts cover a half each is in
  * the second mask.
  * The walk visits every member of every nested struct anew: in an arena whose structs hold others several times over, it may double
- * with each level. Do not call it on tables of unknown origin without a limit on time. No other call has this. It recurses, at most
- * once a type: 200 KB of stack. */
+ * with each level. Do not call it on tables of unknown origin without a limit on time. Of the other calls only wuldazin_pass_choose
+ * has this. It recurses, at most once a type: 200 KB of stack. */
 void wuldazin_slots(const uint32_t *types, size_t types_length,
                     const uint32_t *members, size_t members_length,
                     uint32_t capabilities,
@@ -285,6 +295,32 @@ uint64_t wuldazin_difference(uint64_t mask, uint64_t other);
 
 /* The slots of either. */
 uint64_t wuldazin_union(uint64_t mask, uint64_t other);
+
+/* Starts a pass: no slot set and no pipeline. */
+void wuldazin_pass_start(uint64_t *pass, size_t pass_length);
+
+/* Sets the size bytes of immediates from offset on. An empty range sets nothing. Numbers 1, 37 and then 25, which is for a range that is
+ * not empty and ends past byte 256. */
+void wuldazin_pass_set(uint64_t *pass, size_t pass_length,
+                       uint32_t offset, uint32_t size,
+                       uint32_t *answer, size_t answer_length);
+
+/* Chooses a pipeline by its immediate type, ty. The pass then needs the first mask of wuldazin_slots at offset 0, whatever becomes of the
+ * tables; slots set before stay set. Judges the arena first. Numbers 1 to 24, then 26, 37 and 25. On a refusal the former pipeline stays.
+ * What is said of time and stack at wuldazin_slots holds here too. */
+void wuldazin_pass_choose(const uint32_t *types, size_t types_length,
+                          const uint32_t *members, size_t members_length,
+                          uint32_t capabilities,
+                          uint32_t *rows, size_t rows_length,
+                          uint32_t ty,
+                          uint64_t *pass, size_t pass_length,
+                          uint32_t *answer, size_t answer_length);
+
+/* Accepted exactly when a pipeline is chosen and each slot that it needs is set. Changes no pass. Numbers 1 and 36.
+ * missing: one word, the slots needed and not set; 0 where it is accepted, and 0 without a pipeline. */
+void wuldazin_pass_dispatch(const uint64_t *pass, size_t pass_length,
+                            uint64_t *missing, size_t missing_length,
+                            uint32_t *answer, size_t answer_length);
 
 /* The leaf that steps (member, element and column numbers) lead to from type start. Judges the arena first.
  * A matrix takes one further step, its column, and the leaf is that column: rows * width bytes. The column step, from one to the next,

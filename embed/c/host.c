@@ -102,6 +102,31 @@ static void refuse_place(const char *name, const uint32_t *steps, size_t count) 
     expect(name, answer[0], WULDAZIN_NO_SUCH_PLACE);
 }
 
+static void dispatch(const uint64_t *pass, uint32_t number, uint64_t slots) {
+    uint64_t missing[1];
+    wuldazin_pass_dispatch(pass, WULDAZIN_PASS_WORDS, missing, LENGTH(missing), answer, LENGTH(answer));
+    expect("dispatch", answer[0], number);
+    expect("missing slots", missing[0], slots);
+}
+
+/* A pipeline whose immediates are a cell needs slots 0 to 3. */
+static void try_pass(void) {
+    uint64_t pass[WULDAZIN_PASS_WORDS];
+    wuldazin_pass_start(pass, LENGTH(pass));
+    wuldazin_pass_set(pass, LENGTH(pass), 0, 8, answer, LENGTH(answer));
+    expect("bytes 0 to 7", answer[0], WULDAZIN_ACCEPTED);
+    dispatch(pass, WULDAZIN_NOT_READY, 0);
+    wuldazin_pass_choose(types, LENGTH(types), members, LENGTH(members), 0, rows, LENGTH(rows), CELL, pass, LENGTH(pass), answer,
+                         LENGTH(answer));
+    expect("pipeline", answer[0], WULDAZIN_ACCEPTED);
+    dispatch(pass, WULDAZIN_NOT_READY, 0xc);
+    wuldazin_pass_set(pass, LENGTH(pass), 8, 6, answer, LENGTH(answer));
+    expect("bytes 8 to 13", answer[0], WULDAZIN_NO_IMMEDIATES);
+    wuldazin_pass_set(pass, LENGTH(pass), 8, 8, answer, LENGTH(answer));
+    expect("bytes 8 to 15", answer[0], WULDAZIN_ACCEPTED);
+    dispatch(pass, WULDAZIN_ACCEPTED, 0);
+}
+
 /* A cell carries all of its 16 bytes, the kernel 36 of its matrix and 4 + 64 + 4 of the rest, of 144. */
 static void look_at_report(void) {
     uint64_t report[TYPES * WULDAZIN_REPORT_WORDS], totals[2], *kernel = report + KERNEL * WULDAZIN_REPORT_WORDS;
@@ -190,6 +215,7 @@ int main(void) {
     look_at_slots();
     look_at_members_and_plain_types();
     look_at_report();
+    try_pass();
     try_other_cells();
     return 0;
 }

@@ -23,17 +23,17 @@ enum {
     ROWS_MOST = 14 * (TYPES_MOST / 6) + 64,
     STEPS_MOST = 2048,
     REPORT_MOST = 2 * (TYPES_MOST / 6) + 64, /* 64-bit words */
-    OUTPUT_MOST = 5, /* mask, place, totals or part: 64-bit words; numbers: 32-bit words */
+    OUTPUT_MOST = 5, /* mask, pass, place, totals or part: 64-bit words; numbers: 32-bit words */
     ANSWER_MOST = 8,
     PARTS_MOST = 100000, /* of a slot walk: longer ones are not asked for */
     TEMPLATES = 64
 };
 
-enum { LAST_NUMBER = 27, UNANSWERED }; /* UNANSWERED: the buffer was too short for an answer */
+enum { LAST_NUMBER = 37, UNANSWERED }; /* UNANSWERED: the buffer was too short for an answer */
 
-enum { LAYOUT, JUDGE, CHECK, RANGE, SLOTS, CONTAINS, DIFFERENCE, UNION, PLACE, REPORT, PLAIN, MEMBERS, DOORS };
-static const char *const door_names[DOORS] = {"layout",     "judge", "check", "range",  "slots", "contains",
-                                              "difference", "union", "place", "report", "plain", "members"};
+enum { LAYOUT, JUDGE, CHECK, RANGE, SLOTS, CONTAINS, DIFFERENCE, UNION, START, SET, CHOOSE, DISPATCH, PLACE, REPORT, PLAIN, MEMBERS, DOORS };
+static const char *const door_names[DOORS] = {"layout", "judge", "check",  "range",    "slots", "contains", "difference", "union",
+                                              "start",  "set",   "choose", "dispatch", "place", "report",   "plain",      "members"};
 
 typedef struct {
     size_t types_length, members_length;
@@ -381,7 +381,7 @@ static uint32_t number_of(bool fits, uint32_t count) {
     require(a[0] <= LAST_NUMBER, "number above the last");
     require((a[0] == 1) == !fits, "number 1 given or kept back wrongly");
     require(a[1] < count || a[1] == 0, "type outside the arena");
-    bool bare = a[0] <= 1 || a[0] == 25 || a[0] == 26 || door == PLAIN;
+    bool bare = a[0] <= 1 || a[0] == 25 || a[0] == 26 || a[0] > 27 || door == PLAIN;
     require(!bare || (a[1] | a[2] | a[3]) == 0, "words beside a number that has none");
     require(a[0] != 27 || a[2] == 0, "member beside a number that has none");
     require(a[0] == 8 ? a[3] <= 12 : a[3] == 0, "detail");
@@ -478,6 +478,67 @@ static void plain_call(size_t answer_length, size_t numbers_length) {
     take_back(&answer, answer_length < 4 ? 0 : 16);
 }
 
+/* A range in fours or not, the words of a pass before and after it. */
+static uint32_t set_number(uint32_t offset, uint32_t size, bool fits, uint64_t *after) {
+    uint64_t masks[2];
+    if (!fits) return 1;
+    if ((offset | size) & 3) return 37;
+    if (size && (uint64_t)offset + size > 256) return 25;
+    range_masks(offset, size, masks);
+    after[0] |= masks[0], after[2] = after[2] != 0;
+    return 0;
+}
+
+/* Starting, setting and dispatching, on any words: fewer than three are refused, and no other word is touched. */
+static void pass_call(size_t answer_length, size_t length) {
+    uint64_t after[OUTPUT_MOST], missing[2] = {0, 0}, slots = 0;
+    bool fits = length >= 3;
+    uint32_t offset = below(2) ? 4 * below(70) : wild(), size = below(2) ? 4 * below(70) : wild(), number = 0;
+    for (int i = 0; i < OUTPUT_MOST; i++) after[i] = below(3) ? next() & next() & next() : 0;
+    if (below(2)) after[0] |= after[1];
+    uint64_t *pass = lend(&output, after, 8 * length);
+    uint32_t *a = lend(&answer, noise + below(1024), 4 * answer_length);
+    if (door == START) {
+        wuldazin_pass_start(pass, length);
+        if (fits) after[0] = after[1] = after[2] = 0;
+    } else if (door == SET) {
+        wuldazin_pass_set(pass, length, offset, size, a, answer_length);
+        number = set_number(offset, size, fits, after);
+    } else {
+        size_t missing_length = below(3);
+        uint64_t *m = lend(&report, noise + below(1024), 8 * missing_length);
+        wuldazin_pass_dispatch(pass, length, m, missing_length, a, answer_length);
+        if (fits && after[2]) slots = after[1] & ~after[0];
+        number = !fits ? 1 : after[2] && !slots ? 0 : 36;
+        memcpy(missing, report.data, 8 * missing_length);
+        require(!missing_length || missing[0] == slots, "missing slots");
+        take_back(&report, missing_length ? 8 : 0);
+    }
+    if (door != START) {
+        uint32_t found = number_of(fits, 0);
+        require(found == UNANSWERED || found == number, "number of a step");
+    }
+    require(!memcmp(output.data, after, 8 * length), "words of a pass");
+    take_back(&output, 8 * length);
+    take_back(&answer, door == START || answer_length < 4 ? 0 : 16);
+}
+
+/* An accepted choice leaves the slots set, the first mask of the type and 1; a refused one leaves the pass. Takes the pass back. */
+static void look_at_choice(uint32_t number, uint32_t capabilities, uint32_t ty) {
+    static uint32_t row[ROWS_MOST];
+    uint32_t found[4];
+    uint64_t before[3], after[3], masks[2];
+    if (number == 0) {
+        memcpy(before, output.before, sizeof before);
+        memcpy(after, output.data, sizeof after);
+        wuldazin_slots(now.types, now.types_length, now.members, now.members_length, capabilities, row, ROWS_MOST, ty, 0, masks, 2, found, 4);
+        require(found[0] == 0, "chosen, but its slots are refused");
+        require(after[0] == before[0] && after[1] == masks[0] && after[2] == 1, "pass after a choice");
+    }
+    bool told_refused = number != 0 && number != UNANSWERED;
+    take_back(&output, told_refused || output.bytes < sizeof after ? 0 : sizeof after);
+}
+
 /* The two words of a host-shareable struct make up its size, others are 0, and the totals are the sums. Takes the report back. */
 static void look_at_report(uint32_t number, bool fits, uint32_t count) {
     bool told = fits && number != UNANSWERED;
@@ -507,11 +568,12 @@ static void look_at_check(uint32_t capabilities, size_t length, uint32_t count) 
 
 static void one_call(void) {
     static uint32_t list[STEPS_MOST];
-    static const unsigned char choice[] = {LAYOUT,     JUDGE, JUDGE, CHECK, CHECK, RANGE,  SLOTS,  SLOTS, SLOTS,  CONTAINS,
-                                           DIFFERENCE, UNION, PLACE, PLACE, PLACE, REPORT, REPORT, PLAIN, MEMBERS};
+    static const unsigned char choice[] = {LAYOUT, JUDGE, JUDGE, CHECK,  CHECK,  RANGE,  SLOTS,    SLOTS, SLOTS, CONTAINS, DIFFERENCE, UNION, START,
+                                           SET,    SET,   CHOOSE, CHOOSE, CHOOSE, DISPATCH, PLACE, PLACE, PLACE, REPORT,   REPORT,     PLAIN, MEMBERS};
     size_t answer_length = below(16) ? 4 + below(ANSWER_MOST - 3) : below(4), output_length = below(OUTPUT_MOST + 1);
     uint64_t out[2] = {0, 0};
     door = choice[below(sizeof choice)];
+    if (door >= START && door <= DISPATCH && below(8)) output_length = 3 + below(OUTPUT_MOST - 2);
     if (door == CONTAINS || door == DIFFERENCE || door == UNION) {
         mask_call();
         doors[door]++;
@@ -519,6 +581,11 @@ static void one_call(void) {
     }
     if (door == PLAIN) {
         plain_call(answer_length, output_length);
+        doors[door]++;
+        return;
+    }
+    if (door == START || door == SET || door == DISPATCH) {
+        pass_call(answer_length, output_length);
         doors[door]++;
         return;
     }
@@ -541,14 +608,15 @@ static void one_call(void) {
 
     make_tables();
     uint32_t ty = type_number(), capabilities = capability_word(), count = now.types_length / 6;
-    if (door == SLOTS && parts(ty) >= PARTS_MOST) door = CHECK;
+    if ((door == SLOTS || door == CHOOSE) && parts(ty) >= PARTS_MOST) door = CHECK;
     types_seen[now.types_length] = members_seen[now.members_length] = true;
     size_t tl = now.types_length, ml = now.members_length, rl = rows_length(), sl = door == PLACE ? make_steps(list, ty) : 0;
     size_t pl = door == REPORT ? report_length() : 0;
     bool fits = tl % 6 == 0 && tl <= 6 * 1024 && ml % 2 == 0 && ml <= 2 * 4096 && rl / 14 >= count;
     if (door != LAYOUT) fits = fits && capabilities <= 8191;
     if (door == REPORT) fits = fits && pl / 2 >= count;
-    bool has_rows = door != MEMBERS, has_output = door == SLOTS || door == PLACE || door == REPORT || door == MEMBERS;
+    if (door == CHOOSE) fits = fits && output_length >= 3;
+    bool has_rows = door != MEMBERS, has_output = door == SLOTS || door == CHOOSE || door == PLACE || door == REPORT || door == MEMBERS;
 
     const uint32_t *t = lend(&types, now.types, 4 * tl), *m = lend(&members, now.members, 4 * ml), *s = NULL;
     uint32_t *r = NULL, *a = NULL;
@@ -562,6 +630,7 @@ static void one_call(void) {
     case JUDGE: wuldazin_judge(t, tl, m, ml, capabilities, r, rl, a, answer_length); break;
     case CHECK: wuldazin_check(t, tl, m, ml, capabilities, r, rl, a, answer_length); break;
     case SLOTS: wuldazin_slots(t, tl, m, ml, capabilities, r, rl, ty, wild(), o, output_length, a, answer_length); break;
+    case CHOOSE: wuldazin_pass_choose(t, tl, m, ml, capabilities, r, rl, ty, o, output_length, a, answer_length); break;
     case PLACE: wuldazin_place(t, tl, m, ml, capabilities, r, rl, ty, s, sl, o, output_length, a, answer_length); break;
     case REPORT: wuldazin_report(t, tl, m, ml, capabilities, r, rl, p, pl, o, output_length, a, answer_length); break;
     case MEMBERS: wuldazin_members(t, tl, m, ml, ty, o, output_length);
@@ -572,8 +641,9 @@ static void one_call(void) {
     if (has_rows) {
         number = number_of(fits, count);
         uint32_t last = door == LAYOUT ? 7 : door == JUDGE || door == CHECK ? 24 : door == REPORT ? 27 : 26;
-        require(number == UNANSWERED || number <= last, "number of another door");
-        require(number != 25 || door == SLOTS, "number of another door");
+        bool barred = number == 37 && door == CHOOSE;
+        require(number == UNANSWERED || number <= last || barred, "number of another door");
+        require(number != 25 || door == SLOTS || door == CHOOSE, "number of another door");
         require(number != 26 || door != REPORT, "number of another door");
         if (fits) look_at_rows(number, count);
         if (door == JUDGE) look_at_check(capabilities, rl, fits ? count : 0);
@@ -581,7 +651,8 @@ static void one_call(void) {
         take_back(&rows, fits ? 56 * count : 0);
         take_back(&answer, answer_length < 4 ? 0 : 16);
     }
-    if (has_output) {
+    if (door == CHOOSE) look_at_choice(number, capabilities, ty);
+    else if (has_output) {
         size_t written = words_written(output_length);
         memcpy(out, output.data, 8 * written);
         if (door == MEMBERS)
@@ -629,7 +700,7 @@ int main(int words, char **word_list) {
     double seconds = (end.tv_sec - start.tv_sec) + 1e-9 * (end.tv_nsec - start.tv_nsec);
 
     for (int d = 0; d < DOORS; d++) printf("%-10s %9llu calls\n", door_names[d], (unsigned long long)doors[d]);
-    for (int n = 0; n <= LAST_NUMBER; n++) printf("number %2d %9llu\n", n, (unsigned long long)numbers[n]);
+    for (int n = 0; n <= LAST_NUMBER; n++) if (n <= 27 || n >= 36) printf("number %2d %9llu\n", n, (unsigned long long)numbers[n]);
     printf("answer too short %llu\n", (unsigned long long)unanswered);
     printf("places that are columns %llu\n", (unsigned long long)columns);
     printf("lengths met: types %zu of %d, members %zu of %d\n", seen(types_seen, TYPES_MOST + 1), TYPES_MOST + 1,

@@ -9,7 +9,8 @@
         feature = "place",
         feature = "members",
         feature = "report",
-        feature = "plain"
+        feature = "plain",
+        feature = "pass"
     )),
     allow(dead_code)
 )]
@@ -40,6 +41,9 @@ mod members;
 mod mock;
 mod panics;
 mod partly;
+mod pass;
+#[cfg(all(feature = "pass", feature = "slots"))]
+mod pass_calls;
 mod place;
 #[cfg(feature = "place")]
 mod place_calls;
@@ -82,6 +86,7 @@ const USAGE: &str = "usage: layout COUNT [SEED]
        members COUNT [SEED]                     (feature members)
        report COUNT [SEED]                      (feature report)
        plain COUNT [SEED]                       (feature plain)
+       pass COUNT [SEED]                        (features pass, slots)
        replay COUNT [SEED [STDIN STDOUT]]       (features slots, place, members)
        member_records COUNT SEED FOLDER         (features slots, place)
        bench                                    (features check, slots, place)
@@ -121,6 +126,8 @@ fn main() -> ExitCode {
         "report" => report_calls::report(first, seed),
         #[cfg(feature = "plain")]
         "plain" => plain_calls::plain(first, seed),
+        #[cfg(all(feature = "pass", feature = "slots"))]
+        "pass" => pass_calls::pass(first, seed),
         #[cfg(all(feature = "slots", feature = "place", feature = "members"))]
         "replay" => replay::replay(first, seed, words.get(3..).unwrap_or_default()),
         #[cfg(all(feature = "slots", feature = "place"))]

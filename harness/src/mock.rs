@@ -248,3 +248,86 @@ unsafe extern "C" fn wuldazin_plain(
         *first = owed_numbers;
     }
 }
+
+/// An accepted step leaves its pass.
+#[cfg(feature = "pass")]
+fn leave(words: &mut [u64], after: Option<crate::pass::Pass>) {
+    if let (Some(first), Some(after)) = (words.first_chunk_mut(), after) {
+        *first = after.words();
+    }
+}
+
+#[cfg(feature = "pass")]
+#[no_mangle]
+unsafe extern "C" fn wuldazin_pass_start(pass: *mut u64, pass_len: usize) {
+    let words = from_raw_parts_mut(pass, pass_len);
+    leave(words, crate::pass::Pass::of(&[0; crate::pass::PASS_WORDS]));
+}
+
+#[cfg(feature = "pass")]
+#[no_mangle]
+unsafe extern "C" fn wuldazin_pass_set(
+    pass: *mut u64,
+    pass_len: usize,
+    offset: u32,
+    size: u32,
+    answer: *mut u32,
+    answer_len: usize,
+) {
+    let words = from_raw_parts_mut(pass, pass_len);
+    let before = crate::pass::Pass::of(words);
+    let after = before.map_or(Err(1), |pass| pass.set(offset, size));
+    let number = after.as_ref().err().copied().unwrap_or(0);
+    from_raw_parts_mut(answer, answer_len).copy_from_slice(&[number, 0, 0, 0]);
+    leave(words, after.ok());
+}
+
+#[cfg(feature = "pass")]
+#[no_mangle]
+unsafe extern "C" fn wuldazin_pass_choose(
+    types: *const u32,
+    types_len: usize,
+    members: *const u32,
+    members_len: usize,
+    capabilities: u32,
+    rows: *mut u32,
+    rows_len: usize,
+    ty: u32,
+    pass: *mut u64,
+    pass_len: usize,
+    answer: *mut u32,
+    answer_len: usize,
+) {
+    let types = from_raw_parts(types, types_len);
+    let members = from_raw_parts(members, members_len);
+    let rows = from_raw_parts_mut(rows, rows_len);
+    let words = from_raw_parts_mut(pass, pass_len);
+    let answer = from_raw_parts_mut(answer, answer_len);
+    let outcome = reference::check(types, members, capabilities, rows_len);
+    let before = crate::pass::Pass::of(words);
+    let (owed, after) = crate::pass::choose(before.as_ref(), outcome, ty);
+    deliver(owed, types, rows, &mut [], answer);
+    leave(words, after);
+}
+
+#[cfg(feature = "pass")]
+#[no_mangle]
+unsafe extern "C" fn wuldazin_pass_dispatch(
+    pass: *const u64,
+    pass_len: usize,
+    missing: *mut u64,
+    missing_len: usize,
+    answer: *mut u32,
+    answer_len: usize,
+) {
+    let before = crate::pass::Pass::of(from_raw_parts(pass, pass_len));
+    let (number, slots) = match before.map(|pass| pass.dispatch()) {
+        None => (1, 0),
+        Some(Ok(())) => (0, 0),
+        Some(Err(slots)) => (crate::pass::NOT_READY, slots),
+    };
+    from_raw_parts_mut(answer, answer_len).copy_from_slice(&[number, 0, 0, 0]);
+    if let Some(first) = from_raw_parts_mut(missing, missing_len).first_mut() {
+        *first = slots;
+    }
+}

@@ -121,6 +121,41 @@ extern "C" {
         answer: *mut u32,
         answer_len: usize,
     );
+    #[cfg(feature = "pass")]
+    fn wuldazin_pass_start(pass: *mut u64, pass_len: usize);
+    #[cfg(feature = "pass")]
+    fn wuldazin_pass_set(
+        pass: *mut u64,
+        pass_len: usize,
+        offset: u32,
+        size: u32,
+        answer: *mut u32,
+        answer_len: usize,
+    );
+    #[cfg(feature = "pass")]
+    fn wuldazin_pass_choose(
+        types: *const u32,
+        types_len: usize,
+        members: *const u32,
+        members_len: usize,
+        capabilities: u32,
+        rows: *mut u32,
+        rows_len: usize,
+        ty: u32,
+        pass: *mut u64,
+        pass_len: usize,
+        answer: *mut u32,
+        answer_len: usize,
+    );
+    #[cfg(feature = "pass")]
+    fn wuldazin_pass_dispatch(
+        pass: *const u64,
+        pass_len: usize,
+        missing: *mut u64,
+        missing_len: usize,
+        answer: *mut u32,
+        answer_len: usize,
+    );
 }
 
 pub fn layout(arena: &Arena, lent: Lent) {
@@ -298,6 +333,64 @@ pub fn plain(shape: u32, width: u32, numbers: &mut [u32], answer: &mut [u32]) {
             width,
             numbers.as_mut_ptr(),
             numbers.len(),
+            answer.as_mut_ptr(),
+            answer.len(),
+        )
+    }
+}
+
+#[cfg(feature = "pass")]
+pub fn pass_start(pass: &mut [u64]) {
+    // As above.
+    unsafe { wuldazin_pass_start(pass.as_mut_ptr(), pass.len()) }
+}
+
+#[cfg(feature = "pass")]
+pub fn pass_set(pass: &mut [u64], offset: u32, size: u32, answer: &mut [u32]) {
+    // As above.
+    unsafe {
+        wuldazin_pass_set(
+            pass.as_mut_ptr(),
+            pass.len(),
+            offset,
+            size,
+            answer.as_mut_ptr(),
+            answer.len(),
+        )
+    }
+}
+
+/// The output is the pass.
+#[cfg(feature = "pass")]
+pub fn pass_choose(arena: &Arena, ty: u32, lent: Lent) {
+    // As above.
+    unsafe {
+        wuldazin_pass_choose(
+            arena.types.as_ptr(),
+            arena.types.len(),
+            arena.members.as_ptr(),
+            arena.members.len(),
+            arena.capabilities,
+            lent.rows.as_mut_ptr(),
+            lent.rows.len(),
+            ty,
+            lent.output.as_mut_ptr(),
+            lent.output.len(),
+            lent.answer.as_mut_ptr(),
+            lent.answer.len(),
+        )
+    }
+}
+
+#[cfg(feature = "pass")]
+pub fn pass_dispatch(pass: &[u64], missing: &mut [u64], answer: &mut [u32]) {
+    // As above.
+    unsafe {
+        wuldazin_pass_dispatch(
+            pass.as_ptr(),
+            pass.len(),
+            missing.as_mut_ptr(),
+            missing.len(),
             answer.as_mut_ptr(),
             answer.len(),
         )

@@ -20,6 +20,10 @@ pub enum Command {
     Place,
     Report,
     Plain,
+    Pass,
+    SetRange,
+    Choose,
+    Run,
     Clear,
     Unknown,
 }

@@ -31,6 +31,10 @@ fn put_help() {
   place T S1 .. Sk    place BYTE TYPE
   report              report CARRIED WASTED, and a line for each type: its number and its two counts
   plain SHAPE WIDTH   plain SIZE ALIGNMENT STEP
+  pass                starts a pass: no slot set, no pipeline
+  set OFFSET SIZE     set MASK, all slots set so far
+  choose T            needs MASK, the slots that the type needs
+  run                 passes, or a refusal and missing MASK
 A refusal is refused NUMBER TYPE MEMBER DETAIL. A line that cannot be read ends the program.
 ",
     );

@@ -1,5 +1,6 @@
 // The state of a session, and what the lines that ask for no answer do to it.
 use arguments::Reason;
+use immediates_pass::Pass;
 use output::Buffer;
 use text::Line;
 ghost use Prim.Native.Nat.{_≤_};
@@ -20,6 +21,8 @@ pub struct Session {
     // Where the types and the members end in the arena.
     pub types: usize,
     pub members: usize,
+    // The pass that the lines `set`, `choose` and `run` try.
+    pub pass: Pass,
     // The number of the line.
     pub line: u64,
     // How many bytes of answers wait to be written.
@@ -37,6 +40,7 @@ pub fn start() -> Session {
         capabilities: 0,
         types: 0,
         members: MEMBERS_AT,
+        pass: immediates_pass::start(),
         line: 1,
         waiting: 0,
         held: 0,
@@ -125,6 +129,9 @@ pub fn change(line: Line, mut s: Session, arena: &mut Arena) -> Session {
         }
         Line::MemberRecord { ty, offset } => {
             s = add(s, arena, s.members, ARENA_WORDS, &[ty, offset]);
+        }
+        Line::Pass => {
+            s.pass = immediates_pass::start();
         }
         Line::Clear => {
             s.capabilities = 0;

@@ -1,4 +1,4 @@
--- Stores from the front of a list: four words, three, two, and the masks.
+-- Stores from the front of a list: four words, three, two, the masks, and one.
 -- Assumes nothing.
 use mathlib.Core.Path.{_≡_, refl}
 use mathlib.Core.List.{List, [], _∷_}
@@ -6,7 +6,7 @@ use Prim.Native.Nat.{ℕ, _<_, _≤_}
 use native.Mathlib.Omega.{arith}
 use lib.ListN.{length, set, drop}
 use Rattle.slots.specs.declared.SlotsAnswer.{SlotsAnswer}
-use Rattle.doors.specs.Doors.{touchedOf, partlyOf, withMasks}
+use Rattle.doors.specs.Doors.{touchedOf, partlyOf, withMasks, withOne}
 
 pub four-stores : (l : List ℕ) (a b c d : ℕ) → 4 ≤ length l → set (set (set (set l 0 a) 1 b) 2 c) 3 d ≡ a ∷ b ∷ c ∷ d ∷ drop 4 l
 four-stores [] a b c d h = absurd (omega arith)
@@ -43,3 +43,14 @@ unfolding withMasks
 two-masks [] found h = absurd (omega arith)
 two-masks (w ∷ []) found h = absurd (omega arith)
 two-masks (w ∷ x ∷ l) found h = refl
+
+-- one word, where there is one
+pub no-word : (l : List ℕ) (a : ℕ) → length l < 1 → l ≡ withOne l a
+unfolding withOne
+no-word [] a h = refl
+no-word (w ∷ l) a h = absurd (omega arith)
+
+pub one-store : (l : List ℕ) (a : ℕ) → 1 ≤ length l → set l 0 a ≡ withOne l a
+unfolding withOne
+one-store [] a h = absurd (omega arith)
+one-store (w ∷ l) a h = refl

@@ -1,16 +1,21 @@
 -- What the calls for C leave in the buffers that they are lent. An answer is four words, number, type, member, detail; zeros for an accepted one.
 -- A buffer of one word gets the first of the two masks; any other buffer that is too short for its words is left as it was.
 -- Assumes nothing.
+use mathlib.Core.Bool.{Bool, true, false, not}
 use mathlib.Core.List.{List, [], _∷_, _++_}
 use Prim.Native.Nat.{ℕ, _*_}
 use lib.Dec.{eqb, leb}
-use lib.ListN.{length, drop}
+use lib.ListN.{length, getD, drop}
 use Rattle.records.specs.Result.{pick}
 use Rattle.records.specs.Record.{typeWord, memberWords, structMembers}
 use Rattle.records.specs.declared.Outcome.{Outcome}
 use Rattle.records.specs.declared.Outcome.the-variants.{Accepted, Refused}
 use Rattle.slots.specs.declared.SlotsAnswer.{SlotsAnswer}
 use Rattle.slots.specs.declared.SlotsAnswer.the-variants as slots
+use Rattle.valid.specs.Arena.{arenaWords}
+use Rattle.immediates_pass.specs.declared.Pass.{Pass}
+use Rattle.immediates_pass.specs.declared.Tried.{Tried}
+use Rattle.immediates_pass.specs.Pass.{PassStep, tried}
 use Rattle.place.specs.declared.PlaceAnswer.{PlaceAnswer}
 use Rattle.place.specs.declared.PlaceAnswer.the-variants as place
 use Rattle.plain_types.specs.declared.PlainAnswer.{PlainAnswer}
@@ -92,3 +97,38 @@ unfoldable pub withMasks : List ℕ → SlotsAnswer → List ℕ
 withMasks [] found = []
 withMasks (w ∷ []) found = touchedOf found ∷ []
 withMasks (w ∷ x ∷ words) found = touchedOf found ∷ partlyOf found ∷ words
+
+unfoldable pub withOne : List ℕ → ℕ → List ℕ
+withOne [] a = []
+withOne (w ∷ words) a = a ∷ words
+
+-- ---- a pass in three lent words: the slots set, the slots needed, and 0 for no pipeline; any three words are one
+abbrev pub passOf : List ℕ → Pass
+passOf words = record { set = getD words 0 0; needed = getD words 1 0; chosen = not (eqb (getD words 2 0) 0) }
+
+abbrev pub chosenWord : Bool → ℕ
+chosenWord true = 1
+chosenWord false = 0
+
+abbrev pub passWords : Pass → List ℕ
+passWords p = p .set ∷ p .needed ∷ chosenWord (p .chosen) ∷ []
+
+unfoldable pub withPass : List ℕ → Pass → List ℕ
+withPass words p = pick (leb 3 (length words)) (passWords p ++ drop 3 words) words
+
+-- what a step comes to on them; fewer than three are no pass, and any step on them is refused with 1
+unfoldable pub triedIn : List ℕ → PassStep → Tried
+triedIn words step =
+    pick (leb 3 (length words)) (tried (passOf words) step) (record { pass = passOf words; outcome = Refused 1 0 0 0; missing = 0 })
+
+-- an accepted step leaves the pass after it, a refused one leaves the words
+abbrev pub keptWords : Outcome → (after before : List ℕ) → List ℕ
+keptWords Accepted after before = after
+keptWords (Refused number ty member detail) after before = before
+
+unfoldable pub withTried : List ℕ → Tried → List ℕ
+withTried words r = keptWords (r .outcome) (withPass words (r .pass)) words
+
+-- the lent rows of a choice: on fewer than three words of a pass no arena is judged
+unfoldable pub passRows : (words : List ℕ) (c : ℕ) (ts ms rows : List ℕ) → List ℕ
+passRows words c ts ms rows = pick (leb 3 (length words)) (arenaWords c ts ms rows) rows

@@ -1,4 +1,6 @@
 // The static library: the public calls with C's calling convention. A slice is a pointer and a length.
+use immediates_pass::Pass;
+use immediates_pass::Tried;
 use place::PlaceAnswer;
 use plain_types::PlainAnswer;
 use records::Outcome;
@@ -10,15 +12,17 @@ ghost use Prim.Native.Nat.{_*_, _≤_};
 ghost use lib.Dec.{eqb};
 ghost use Rattle.records.specs.Result.{pick};
 ghost use Rattle.records.specs.Record.{typeWord};
+ghost use Rattle.records.specs.declared.Outcome.the-variants.{Refused};
 ghost use lib.ListN.{length, drop};
 ghost use Rattle.layouter.specs.Layouter.{layoutAnswer, layoutWords};
 ghost use Rattle.valid.specs.Arena.{arenaAnswer, arenaWords};
 ghost use Rattle.slots.specs.Slots.{rangeSlots, partAnswer, contains, difference, union};
 ghost use Rattle.immediates.specs.Immediates.{slotsAnswer};
+ghost use Rattle.immediates_pass.specs.Pass.{begin, SetRange, Choose, Dispatch};
 ghost use Rattle.place.specs.Place.{lookupAnswer};
 ghost use Rattle.plain_types.specs.PlainTypes.{plainAnswer};
 ghost use Rattle.report.specs.Report.{reportAnswer, reportRows, reportWords};
-ghost use Rattle.doors.specs.Doors.{slotsOutcome, placeOutcome, totalsOutcome, plainOutcome, touchedOf, partlyOf, byteOf, leafOf, carriedOf, wastedOf, partStart, partLength, withAnswer, withTwo, withNumbers, withMasks};
+ghost use Rattle.doors.specs.Doors.{slotsOutcome, placeOutcome, totalsOutcome, plainOutcome, touchedOf, partlyOf, byteOf, leafOf, carriedOf, wastedOf, partStart, partLength, withAnswer, withTwo, withNumbers, withMasks, passOf, chosenWord, withPass, withTried, triedIn, passRows, withOne};
 
 fn put_four(answer: &mut [u32], a: u32, b: u32, c: u32, d: u32)
     requires { ⌜ 4 ≤ length (now answer) ⌝ }
@@ -273,6 +277,77 @@ fn put_numbers(numbers: &mut [u32], found: PlainAnswer)
     }
 }
 
+// A pass in three lent words.
+fn pass_of(words: &[u64]) -> Pass
+    requires { ⌜ 3 ≤ length (now words) ⌝ }
+    ensures { λ r. ⌜ r ≡ passOf (now (words .entry)) ⌝ }
+{
+    Pass {
+        set: words[0],
+        needed: words[1],
+        chosen: words[2] != 0,
+    }
+}
+
+fn chosen_word(chosen: bool) -> u64
+    ensures { λ r. ⌜ r ≡ chosenWord chosen ⌝ }
+{
+    if chosen {
+        return 1;
+    }
+    0
+}
+
+// Fewer than three words are left as they were.
+fn put_pass(words: &mut [u64], pass: Pass)
+    ensures { λ _. ⌜ now (words .exit) ≡ withPass (now (words .entry)) pass ⌝ }
+{
+    if words.len() < 3 {
+        return;
+    }
+    words[0] = pass.set;
+    words[1] = pass.needed;
+    words[2] = chosen_word(pass.chosen);
+}
+
+// The pass after an accepted step; a refused one leaves the words as they were.
+fn put_tried(words: &mut [u64], tried: Tried)
+    ensures { λ _. ⌜ now (words .exit) ≡ withTried (now (words .entry)) tried ⌝ }
+{
+    let pass = tried.pass;
+    let outcome = tried.outcome;
+    match outcome {
+        Outcome::Accepted => put_pass(words, pass),
+        Outcome::Refused {
+            number: _,
+            ty: _,
+            member: _,
+            detail: _,
+        } => {}
+    }
+}
+
+fn put_one(words: &mut [u64], a: u64)
+    ensures { λ _. ⌜ now (words .exit) ≡ withOne (now (words .entry)) a ⌝ }
+{
+    if words.len() < 1 {
+        return;
+    }
+    words[0] = a;
+}
+
+// The answer to a step on fewer than three words.
+fn short_pass() -> Outcome
+    ensures { λ r. ⌜ r ≡ Refused 1 0 0 0 ⌝ }
+{
+    Outcome::Refused {
+        number: 1,
+        ty: 0,
+        member: 0,
+        detail: 0,
+    }
+}
+
 // Sizes and alignments of an arena, in the first two words of the lent rows.
 #[no_mangle]
 pub extern "C" fn wuldazin_layout(
@@ -416,6 +491,72 @@ pub extern "C" fn wuldazin_report(
     let found = report::report(types, members, capabilities, rows, report);
     put_two(totals, carried_of(found), wasted_of(found));
     put_answer(answer, totals_outcome(found));
+}
+
+// A pass with no slot set and no pipeline.
+#[no_mangle]
+pub extern "C" fn wuldazin_pass_start(pass: &mut [u64])
+    ensures { λ _. ⌜ now (pass .exit) ≡ withPass (now (pass .entry)) begin ⌝ }
+{
+    put_pass(pass, immediates_pass::start());
+}
+
+// Sets a byte range of immediates.
+#[no_mangle]
+pub extern "C" fn wuldazin_pass_set(pass: &mut [u64], offset: u32, size: u32, answer: &mut [u32])
+    ensures { λ _. ⌜ now (pass .exit) ≡ withTried (now (pass .entry)) (triedIn (now (pass .entry)) (SetRange offset size)) ⌝ }
+    ensures { λ _. ⌜ now (answer .exit) ≡ withAnswer (now (answer .entry)) (triedIn (now (pass .entry)) (SetRange offset size) .outcome) ⌝ }
+{
+    if pass.len() < 3 {
+        put_answer(answer, short_pass());
+        return;
+    }
+    let tried = immediates_pass::set_range(pass_of(pass), offset, size);
+    let outcome = tried.outcome;
+    put_tried(pass, tried);
+    put_answer(answer, outcome);
+}
+
+// Chooses a pipeline by its immediate type.
+#[no_mangle]
+pub extern "C" fn wuldazin_pass_choose(
+    types: &[u32],
+    members: &[u32],
+    capabilities: u32,
+    rows: &mut [u32],
+    ty: u32,
+    pass: &mut [u64],
+    answer: &mut [u32],
+)
+    ensures { λ _. ⌜ now (rows .exit) ≡ passRows (now (pass .entry)) capabilities (now (types .entry)) (now (members .entry)) (now (rows .entry)) ⌝ }
+    ensures { λ _. ⌜ now (pass .exit) ≡ withTried (now (pass .entry)) (triedIn (now (pass .entry)) (Choose capabilities (now (types .entry)) (now (members .entry)) (now (rows .entry)) ty)) ⌝ }
+    ensures { λ _. ⌜ now (answer .exit) ≡ withAnswer (now (answer .entry)) (triedIn (now (pass .entry)) (Choose capabilities (now (types .entry)) (now (members .entry)) (now (rows .entry)) ty) .outcome) ⌝ }
+{
+    if pass.len() < 3 {
+        put_answer(answer, short_pass());
+        return;
+    }
+    let tried = immediates_pass::choose(pass_of(pass), types, members, capabilities, rows, ty);
+    let outcome = tried.outcome;
+    put_tried(pass, tried);
+    put_answer(answer, outcome);
+}
+
+// Whether the pass may be dispatched, and the slots that it misses.
+#[no_mangle]
+pub extern "C" fn wuldazin_pass_dispatch(pass: &[u64], missing: &mut [u64], answer: &mut [u32])
+    ensures { λ _. ⌜ now (missing .exit) ≡ withOne (now (missing .entry)) (triedIn (now (pass .entry)) Dispatch .missing) ⌝ }
+    ensures { λ _. ⌜ now (answer .exit) ≡ withAnswer (now (answer .entry)) (triedIn (now (pass .entry)) Dispatch .outcome) ⌝ }
+{
+    if pass.len() < 3 {
+        put_one(missing, 0);
+        put_answer(answer, short_pass());
+        return;
+    }
+    let tried = immediates_pass::dispatch(pass_of(pass));
+    let outcome = tried.outcome;
+    put_one(missing, tried.missing);
+    put_answer(answer, outcome);
 }
 
 // Size, alignment and column step of a shape at a width.

@@ -46,6 +46,13 @@ fn later_usage() {
     stop(b"place");
     stop(b"report 0");
     stop(b"plain 0 4 0");
+}
+
+fn last_usage() {
+    stop(b"pass 0");
+    stop(b"set 0");
+    stop(b"choose");
+    stop(b"run 0");
     stop(b"clear 0");
 }
 
@@ -64,5 +71,6 @@ fn main() {
     words();
     usage();
     later_usage();
+    last_usage();
     full();
 }

@@ -144,6 +144,39 @@ pub fn put_plain(out: &mut Buffer, at: usize, size: u32, alignment: u32, step: u
     put_words(out, at, b"plain", &[size, alignment, step], false)
 }
 
+// The slots after a step of a pass that was accepted.
+pub fn put_step(out: &mut Buffer, at: usize, name: &[u8], mask: u64, outcome: Outcome) -> usize {
+    match outcome {
+        Outcome::Accepted => {
+            let end = put_named(out, at, name, mask);
+            put_byte(out, end, b'\n')
+        }
+        Outcome::Refused {
+            number,
+            ty,
+            member,
+            detail,
+        } => put_refusal(out, at, number, ty, member, detail),
+    }
+}
+
+// Whether a dispatch passes, and the slots that are missing where it does not.
+pub fn put_dispatch(out: &mut Buffer, at: usize, outcome: Outcome, missing: u64) -> usize {
+    match outcome {
+        Outcome::Accepted => put_text(out, at, b"passes\n"),
+        Outcome::Refused {
+            number,
+            ty,
+            member,
+            detail,
+        } => {
+            let a = put_refusal(out, at, number, ty, member, detail);
+            let b = put_named(out, a, b"missing", missing);
+            put_byte(out, b, b'\n')
+        }
+    }
+}
+
 // Why a session stops: the numbers of the lines of the text in `put_why`. The first two, 2 and 3, are FULL and FAILED of the crate input.
 pub const NOT_A_NUMBER: u32 = 4;
 
@@ -174,8 +207,12 @@ pub fn usage_line(command: arguments::Command) -> u32 {
         arguments::Command::Place => 20,
         arguments::Command::Report => 21,
         arguments::Command::Plain => 22,
-        arguments::Command::Clear => 23,
-        arguments::Command::Unknown => 24,
+        arguments::Command::Pass => 23,
+        arguments::Command::SetRange => 24,
+        arguments::Command::Choose => 25,
+        arguments::Command::Run => 26,
+        arguments::Command::Clear => 27,
+        arguments::Command::Unknown => 28,
     }
 }
 
@@ -202,8 +239,12 @@ fn put_why(out: &mut Buffer, at: usize, why: u32) -> usize {
 : place takes a type and at most 1024 steps
 : report takes no number
 : plain takes a shape and a width
+: pass takes no number
+: set takes an offset and a size
+: choose takes a type
+: run takes no number
 : clear takes no number
-: no such command; there are caps, type, member, layout, judge, check, members, slots, range, place, report, plain and clear
+: no such command; there are caps, type, member, layout, judge, check, members, slots, range, place, report, plain, pass, set, choose, run and clear
 ";
     let mut end = at;
     let mut line: u32 = 2;

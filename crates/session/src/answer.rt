@@ -2,6 +2,7 @@
 use commands::Arena;
 use commands::Rows;
 use commands::Session;
+use immediates_pass::Tried;
 use output::Buffer;
 use place::PlaceAnswer;
 use plain_types::PlainAnswer;
@@ -131,6 +132,43 @@ fn put_plain(out: &mut Buffer, at: usize, shape: u32, width: u32) -> usize {
     }
 }
 
+// The step of a pass that a line asks for; any other line is tried as a dispatch, which leaves the pass.
+fn step_of(line: Line, session: Session, arena: &[u32], rows: &mut Rows) -> Tried {
+    let pass = session.pass;
+    let types = commands::part(arena, 0, session.types);
+    let members = commands::part(arena, commands::MEMBERS_AT, session.members);
+    match line {
+        Line::SetRange { offset, size } => immediates_pass::set_range(pass, offset, size),
+        Line::Choose(ty) => immediates_pass::choose(
+            pass,
+            types,
+            members,
+            session.capabilities,
+            rows,
+            ty,
+        ),
+        _ => immediates_pass::dispatch(pass),
+    }
+}
+
+// Puts the answer to a step of a pass; any other line puts nothing.
+fn put_step(line: Line, tried: Tried, at: usize, out: &mut Buffer) -> usize {
+    let pass = tried.pass;
+    let outcome = tried.outcome;
+    match line {
+        Line::SetRange { offset: _, size: _ } => output::put_step(
+            out,
+            at,
+            b"set",
+            pass.set,
+            outcome,
+        ),
+        Line::Choose(_) => output::put_step(out, at, b"needs", pass.needed, outcome),
+        Line::Run => output::put_dispatch(out, at, outcome, tried.missing),
+        _ => at,
+    }
+}
+
 // Puts what a line asks for; any other puts nothing.
 fn put_answer(
     line: Line,
@@ -193,6 +231,10 @@ pub fn answer(
     let mut numbers = [0u32; 1025];
     let read = text::read_line(line, &mut numbers);
     s = commands::change(read, s, arena);
+    let tried = step_of(read, s, arena, rows);
+    let pass = tried.pass;
+    s.pass = pass;
+    s.waiting = put_step(read, tried, s.waiting, out);
     let waiting = put_answer(read, &numbers, s, arena, rows, out);
     s.waiting = waiting;
     s

@@ -24,17 +24,26 @@ same [] (y ∷ t) = false
 same (x ∷ s) [] = false
 same (x ∷ s) (y ∷ t) = eqb x y && same s t
 
--- range, place, report, plain, clear
+-- pass, set, choose, run, clear
 unfoldable pub lastCommandOf : List ℕ → Command
 lastCommandOf w =
+    pick (same w (112 ∷ 97 ∷ 115 ∷ 115 ∷ [])) command.Pass
+    (pick (same w (115 ∷ 101 ∷ 116 ∷ [])) command.SetRange
+    (pick (same w (99 ∷ 104 ∷ 111 ∷ 111 ∷ 115 ∷ 101 ∷ [])) command.Choose
+    (pick (same w (114 ∷ 117 ∷ 110 ∷ [])) command.Run
+    (pick (same w (99 ∷ 108 ∷ 101 ∷ 97 ∷ 114 ∷ [])) command.Clear
+    command.Unknown))))
+
+-- range, place, report, plain, and those above
+unfoldable pub answerCommandOf : List ℕ → Command
+answerCommandOf w =
     pick (same w (114 ∷ 97 ∷ 110 ∷ 103 ∷ 101 ∷ [])) command.Range
     (pick (same w (112 ∷ 108 ∷ 97 ∷ 99 ∷ 101 ∷ [])) command.Place
     (pick (same w (114 ∷ 101 ∷ 112 ∷ 111 ∷ 114 ∷ 116 ∷ [])) command.Report
     (pick (same w (112 ∷ 108 ∷ 97 ∷ 105 ∷ 110 ∷ [])) command.Plain
-    (pick (same w (99 ∷ 108 ∷ 101 ∷ 97 ∷ 114 ∷ [])) command.Clear
-    command.Unknown))))
+    (lastCommandOf w))))
 
--- layout, judge, check, members, slots
+-- layout, judge, check, members, slots, and those above
 unfoldable pub laterCommandOf : List ℕ → Command
 laterCommandOf w =
     pick (same w (108 ∷ 97 ∷ 121 ∷ 111 ∷ 117 ∷ 116 ∷ [])) command.Layout
@@ -42,7 +51,7 @@ laterCommandOf w =
     (pick (same w (99 ∷ 104 ∷ 101 ∷ 99 ∷ 107 ∷ [])) command.Check
     (pick (same w (109 ∷ 101 ∷ 109 ∷ 98 ∷ 101 ∷ 114 ∷ 115 ∷ [])) command.Members
     (pick (same w (115 ∷ 108 ∷ 111 ∷ 116 ∷ 115 ∷ [])) command.Slots
-    (lastCommandOf w)))))
+    (answerCommandOf w)))))
 
 -- caps, type, member, and those above
 unfoldable pub commandOf : List ℕ → Command
@@ -66,6 +75,10 @@ leastOf command.Range = 2
 leastOf command.Place = 1
 leastOf command.Report = 0
 leastOf command.Plain = 2
+leastOf command.Pass = 0
+leastOf command.SetRange = 2
+leastOf command.Choose = 1
+leastOf command.Run = 0
 leastOf command.Clear = 0
 leastOf command.Unknown = 1
 
@@ -82,6 +95,10 @@ mostOf command.Range = 2
 mostOf command.Place = 1025
 mostOf command.Report = 0
 mostOf command.Plain = 2
+mostOf command.Pass = 0
+mostOf command.SetRange = 2
+mostOf command.Choose = 1
+mostOf command.Run = 0
 mostOf command.Clear = 0
 mostOf command.Unknown = 0
 
@@ -111,6 +128,10 @@ lineBy command.Range ns = line.Range (getD ns 0 0) (getD ns 1 0)
 lineBy command.Place ns = line.Place (getD ns 0 0) (length ns - 1)
 lineBy command.Report ns = line.Report
 lineBy command.Plain ns = line.Plain (getD ns 0 0) (getD ns 1 0)
+lineBy command.Pass ns = line.Pass
+lineBy command.SetRange ns = line.SetRange (getD ns 0 0) (getD ns 1 0)
+lineBy command.Choose ns = line.Choose (getD ns 0 0)
+lineBy command.Run ns = line.Run
 lineBy command.Clear ns = line.Clear
 lineBy command.Unknown ns = line.Nothing
 

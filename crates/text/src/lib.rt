@@ -47,6 +47,13 @@ pub enum Line {
         shape: u32,
         width: u32,
     },
+    Pass,
+    SetRange {
+        offset: u32,
+        size: u32,
+    },
+    Choose(u32),
+    Run,
     Clear,
     Wrong(Reason),
 }
@@ -95,6 +102,14 @@ pub fn command_of(word: &[u8]) -> Command
         0x174726f706572 => Command::Report,
         // plain
         0x16e69616c70 => Command::Plain,
+        // pass
+        0x173736170 => Command::Pass,
+        // set
+        0x1746573 => Command::SetRange,
+        // choose
+        0x165736f6f6863 => Command::Choose,
+        // run
+        0x16e7572 => Command::Run,
         // clear
         0x17261656c63 => Command::Clear,
         _ => Command::Unknown,
@@ -126,6 +141,10 @@ fn usage_of(command: Command) -> Usage
         },
         Command::Report => Usage { least: 0, most: 0 },
         Command::Plain => Usage { least: 2, most: 2 },
+        Command::Pass => Usage { least: 0, most: 0 },
+        Command::SetRange => Usage { least: 2, most: 2 },
+        Command::Choose => Usage { least: 1, most: 1 },
+        Command::Run => Usage { least: 0, most: 0 },
         Command::Clear => Usage { least: 0, most: 0 },
         Command::Unknown => Usage { least: 1, most: 0 },
     }
@@ -161,6 +180,10 @@ fn line_by(command: Command, numbers: &[u32]) -> Line
         }
         Command::Report => Line::Report,
         Command::Plain => Line::Plain { shape: a, width: b },
+        Command::Pass => Line::Pass,
+        Command::SetRange => Line::SetRange { offset: a, size: b },
+        Command::Choose => Line::Choose(a),
+        Command::Run => Line::Run,
         Command::Clear => Line::Clear,
         Command::Unknown => Line::Nothing,
     }

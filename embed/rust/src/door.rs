@@ -90,6 +90,37 @@ extern "C" {
         answer: *mut u32,
         answer_length: usize,
     );
+    pub fn wuldazin_pass_start(pass: *mut u64, pass_length: usize);
+    pub fn wuldazin_pass_set(
+        pass: *mut u64,
+        pass_length: usize,
+        offset: u32,
+        size: u32,
+        answer: *mut u32,
+        answer_length: usize,
+    );
+    pub fn wuldazin_pass_choose(
+        types: *const u32,
+        types_length: usize,
+        members: *const u32,
+        members_length: usize,
+        capabilities: u32,
+        rows: *mut u32,
+        rows_length: usize,
+        ty: u32,
+        pass: *mut u64,
+        pass_length: usize,
+        answer: *mut u32,
+        answer_length: usize,
+    );
+    pub fn wuldazin_pass_dispatch(
+        pass: *const u64,
+        pass_length: usize,
+        missing: *mut u64,
+        missing_length: usize,
+        answer: *mut u32,
+        answer_length: usize,
+    );
     pub fn wuldazin_plain(
         shape: u32,
         width: u32,

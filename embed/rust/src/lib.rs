@@ -1,14 +1,16 @@
-//! Layouts, verdicts, immediate slots, places and a report of bytes for GPU type tables: safe calls to the proved static
-//! library.
+//! Layouts, verdicts, immediate slots and passes tried with them, places and a report of bytes for GPU type tables: safe
+//! calls to the proved static library.
 //!
 //! Tables are slices of words, as wuldazin.h describes them; lengths and words may be anything. `rows` is lent for the
 //! result rows, [`ROW_WORDS`] a type: filled where the arena is accepted, zeros on numbers 2 to 24, untouched on number 1.
 //! Words after those of the arena's types are never written.
 
 mod door;
+mod pass;
 mod refusal;
 mod row;
 
+pub use pass::{NotReady, Pass};
 pub use refusal::Refusal;
 pub use row::{flags, verdict, Row, Verdict};
 
@@ -407,5 +409,7 @@ pub fn members<'a>(types: &[u32], members: &'a [u32], ty: u32) -> &'a [u32] {
 
 #[cfg(test)]
 mod marked;
+#[cfg(test)]
+mod smallest_passes;
 #[cfg(test)]
 mod smallest_reports;

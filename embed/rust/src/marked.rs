@@ -336,7 +336,8 @@ fn the_header_has_the_same_sentences() {
     let (_, function) = header.split_once("*wuldazin_meaning(").unwrap();
     let (function, _) = function.split_once("\n}").unwrap();
     let sentences = function.split('"').skip(1).step_by(2);
-    let meanings = (0..29).map(|number| refused(number, 0, 0, 0).meaning());
+    let numbers = (0..28).chain([36, 37, 38]);
+    let meanings = numbers.map(|number| refused(number, 0, 0, 0).meaning());
     assert!(sentences.eq(meanings));
 }
 

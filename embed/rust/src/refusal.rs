@@ -1,13 +1,13 @@
-//! Why an arena, a type or a place was refused.
+//! Why an arena, a type, a place or a step of a pass was refused.
 
 use std::fmt;
 
 /// The first thing refused.
 #[derive(Clone, Copy, Debug, PartialEq, Eq, Hash)]
 pub struct Refusal {
-    /// 1 to 27.
+    /// 1 to 27, 36 and 37.
     pub number: u32,
-    /// The first type refused; 0 for 1, 25 and 26, and for 2 of [`crate::plain`].
+    /// The first type refused; 0 for 1, 25, 26, 36 and 37, and for 2 of [`crate::plain`].
     pub ty: u32,
     /// Its position in the struct for 6 and 17 to 21, else 0.
     pub member: u32,
@@ -18,7 +18,7 @@ pub struct Refusal {
 /// As in `wuldazin_meaning` of wuldazin.h.
 const MEANINGS: [&str; 28] = [
     "accepted",
-    "a table is no whole number of records or too long, the rows or the report are too short, or a capability bit above 12 is set",
+    "a table is no whole number of records or too long, the rows, the report or the pass are too short, or a capability bit above 12 is set",
     "a field lies outside its set, member rows reach past the table, or no plain type has that shape and width",
     "the base of a pointer or binding array lies outside the arena",
     "an array's count or size is above 2,147,483,647",
@@ -62,9 +62,13 @@ impl Refusal {
 
     /// A sentence for a message: what the number stands for.
     pub fn meaning(&self) -> &'static str {
-        MEANINGS
-            .get(self.number as usize)
-            .unwrap_or(&"no number of an answer")
+        match self.number {
+            36 => "a dispatch has no pipeline, or slots that it needs are not set",
+            37 => "a type's immediates word is not 0, or a range's offset or size is no multiple of 4",
+            number => MEANINGS
+                .get(number as usize)
+                .unwrap_or(&"no number of an answer"),
+        }
     }
 }
 
@@ -78,7 +82,7 @@ impl fmt::Display for Refusal {
         } = self;
         write!(f, "{number}: {}", self.meaning())?;
         match number {
-            1 | 25 | 26 => Ok(()),
+            1 | 25 | 26 | 36 | 37 => Ok(()),
             6 | 17..=21 => write!(f, " (type {ty}, member {member})"),
             8 => write!(f, " (type {ty}, bit {detail})"),
             _ => write!(f, " (type {ty})"),

@@ -30,6 +30,12 @@ returns-10 c = rw (c .enum-told10 .given .1, c .before .before .before .word-at 
 returns-12 : tie.Need-returns-12
 returns-12 c = rw (c .enum-told12 .given .1, c .before .before .word-at2 .ensures, c .before .before .before .word-at .ensures)
 
+returns-14 : tie.Need-returns-14
+returns-14 c = rw (c .enum-told14 .given .1, c .before .before .word-at2 .ensures, c .before .before .before .word-at .ensures)
+
+returns-15 : tie.Need-returns-15
+returns-15 c = rw (c .enum-told15 .given .1, c .before .before .before .word-at .ensures)
+
 pub line-by-spec : {M : Type 1} → statement M
 line-by-spec =
     tie.close
@@ -56,17 +62,25 @@ line-by-spec =
     (λ c. search needs)
     (λ c. search needs)
     (λ c. search needs)
+    (λ c. search needs)
+    (λ c. search needs)
+    (λ c. search needs)
+    (λ c. search needs)
     returns
     returns-2
     returns-3
-    (λ c. search needs)
-    (λ c. search needs)
-    (λ c. search needs)
+    (λ c. rw (c .enum-told4 .given .1))
+    (λ c. rw (c .enum-told5 .given .1))
+    (λ c. rw (c .enum-told6 .given .1))
     returns-7
     returns-8
     returns-9
     returns-10
-    (λ c. search needs)
+    (λ c. rw (c .enum-told11 .given .1))
     returns-12
-    (λ c. search needs)
-    (λ c. search needs))
+    (λ c. rw (c .enum-told13 .given .1))
+    returns-14
+    returns-15
+    (λ c. rw (c .enum-told16 .given .1))
+    (λ c. rw (c .enum-told17 .given .1))
+    (λ c. rw (c .enum-told18 .given .1)))

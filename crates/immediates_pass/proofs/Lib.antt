@@ -1,0 +1,4 @@
+pub mod ChooseLaws
+pub mod PassLaws
+pub mod CallLaws
+pub mod Examples
