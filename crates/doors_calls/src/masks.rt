@@ -1,13 +1,11 @@
 // Ranges, and the masks as sets: "`contains`, `difference` and union follow the Rust".
-use super::calls;
-use super::print;
 
 // M12: "(300, 0) gives 0; (3, 2) gives 3; (252, 4) gives bit 63 alone; (252, 5) gives 25"
 fn ranges() {
-    calls::range(b"range 300 0", 300, 0);
-    calls::range(b"range 3 2", 3, 2);
-    calls::range(b"range 252 4", 252, 4);
-    calls::range(b"range 252 5", 252, 5);
+    doors_lent::range(b"range 300 0", 300, 0);
+    doors_lent::range(b"range 3 2", 3, 2);
+    doors_lent::range(b"range 252 4", 252, 4);
+    doors_lent::range(b"range 252 5", 252, 5);
 }
 
 fn one_if(holds: bool) -> u64 {
@@ -18,13 +16,13 @@ fn one_if(holds: bool) -> u64 {
 fn sets(this: u64, other: u64) {
     // "Returns true if `self` contains all bits in `other`."
     let contains = [this, other, one_if(doors::wuldazin_contains(this, other))];
-    print::three(b"contains", &contains);
+    doors_lent::three(b"contains", &contains);
     // "Returns the bits in `self` that are not set in `other`."
     let difference = [this, other, doors::wuldazin_difference(this, other)];
-    print::three(b"difference", &difference);
+    doors_lent::three(b"difference", &difference);
     // `self.0 | rhs.0`
     let union = [this, other, doors::wuldazin_union(this, other)];
-    print::three(b"union", &union);
+    doors_lent::three(b"union", &union);
 }
 
 pub fn run() {

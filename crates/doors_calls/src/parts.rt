@@ -1,25 +1,24 @@
 // "The member rows of a struct are handed back as that part of the caller's table; an empty part for a number that is no struct or
 // whose rows reach past it." embed/wuldazin.h: the part's first word and how many words it has.
-use super::calls;
 
 fn whole() {
-    calls::members_m1(b"members of struct 2", 18, 4, 2);
+    doors_lent::members_m1(b"members of struct 2", 18, 4, 2);
     // no struct; no type
-    calls::members_m1(b"members of type 1", 18, 4, 1);
-    calls::members_m1(b"members of type 3", 18, 4, 3);
+    doors_lent::members_m1(b"members of type 1", 18, 4, 1);
+    doors_lent::members_m1(b"members of type 3", 18, 4, 3);
 }
 
 // Tables that end in the middle of a record.
 fn cut() {
     // five words of "six 32-bit words a type" are no struct, though those that say its rows are there
-    calls::members_m1(b"members, types of 17 words", 17, 4, 2);
+    doors_lent::members_m1(b"members, types of 17 words", 17, 4, 2);
     // "Two words: type, offset.": three have one row
-    calls::members_m1(b"members, 3 words for 2 rows", 18, 3, 2);
+    doors_lent::members_m1(b"members, 3 words for 2 rows", 18, 3, 2);
 }
 
 // A struct of row 0, or of row 1.
 fn one_row(name: &[u8], first: u32, members: usize) {
-    calls::members(name, &[8, first, 1, 16, 0, 0], members, 0);
+    doors_lent::members(name, &[8, first, 1, 16, 0, 0], members, 0);
 }
 
 pub fn run() {

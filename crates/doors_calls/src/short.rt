@@ -1,21 +1,19 @@
 // embed/wuldazin.h: "An answer, place, numbers or part buffer that is too short for its words is left as it was", and of a mask
 // "A buffer of one word gets the first mask alone." A buffer here is the first words of a longer one, which is printed whole.
-use super::calls;
-use super::print;
 
 // The rows are those of the accepted arena all the same.
 fn answer_of_check() {
     let mut rows = [9u32; 44];
     let mut answer = [9u32; 5];
     doors::wuldazin_check(
-        &calls::TYPES,
-        &calls::MEMBERS,
+        &doors_lent::TYPES,
+        &doors_lent::MEMBERS,
         0,
         &mut rows,
         &mut answer[..3],
     );
-    print::five(b"an answer of 3 words", &answer);
-    print::words(b"rows", &rows);
+    doors_lent::five(b"an answer of 3 words", &answer);
+    doors_lent::words(b"rows", &rows);
 }
 
 // The refusal is told by the mask alone.
@@ -23,15 +21,15 @@ fn answer_of_range() {
     let mut mask = [9u64; 3];
     let mut answer = [9u32; 5];
     doors::wuldazin_range(252, 5, &mut mask, &mut answer[..3]);
-    print::five(b"an answer of 3 words, 25", &answer);
-    print::three(b"mask", &mask);
+    doors_lent::five(b"an answer of 3 words, 25", &answer);
+    doors_lent::three(b"mask", &mask);
 }
 
 fn whole_answer() {
     let mut mask = [9u64; 3];
     let mut answer = [9u32; 5];
     doors::wuldazin_range(252, 5, &mut mask, &mut answer[..4]);
-    print::five(b"an answer of 4 words, 25", &answer);
+    doors_lent::five(b"an answer of 4 words, 25", &answer);
 }
 
 // (3, 2) has the masks 3 and 3.
@@ -39,24 +37,24 @@ fn no_mask() {
     let mut mask = [9u64; 3];
     let mut answer = [9u32; 5];
     doors::wuldazin_range(3, 2, &mut mask[..0], &mut answer);
-    print::five(b"a mask of 0 words", &answer);
-    print::three(b"mask", &mask);
+    doors_lent::five(b"a mask of 0 words", &answer);
+    doors_lent::three(b"mask", &mask);
 }
 
 fn one_mask(name: &[u8], offset: u32, size: u32) {
     let mut mask = [9u64; 3];
     let mut answer = [9u32; 5];
     doors::wuldazin_range(offset, size, &mut mask[..1], &mut answer);
-    print::five(name, &answer);
-    print::three(b"mask", &mask);
+    doors_lent::five(name, &answer);
+    doors_lent::three(b"mask", &mask);
 }
 
 fn two_masks() {
     let mut mask = [9u64; 3];
     let mut answer = [9u32; 5];
     doors::wuldazin_range(3, 2, &mut mask[..2], &mut answer);
-    print::five(b"a mask of 2 words", &answer);
-    print::three(b"mask", &mask);
+    doors_lent::five(b"a mask of 2 words", &answer);
+    doors_lent::three(b"mask", &mask);
 }
 
 fn place() {
@@ -64,8 +62,8 @@ fn place() {
     let mut place = [9u64; 3];
     let mut answer = [9u32; 5];
     doors::wuldazin_place(
-        &calls::TYPES,
-        &calls::MEMBERS,
+        &doors_lent::TYPES,
+        &doors_lent::MEMBERS,
         0,
         &mut rows,
         2,
@@ -73,22 +71,22 @@ fn place() {
         &mut place[..1],
         &mut answer,
     );
-    print::five(b"a place of 1 word", &answer);
-    print::three(b"place", &place);
+    doors_lent::five(b"a place of 1 word", &answer);
+    doors_lent::three(b"place", &place);
 }
 
 fn part() {
     let mut part = [9u64; 3];
-    doors::wuldazin_members(&calls::TYPES, &calls::MEMBERS, 2, &mut part[..1]);
-    print::three(b"a part of 1 word", &part);
+    doors::wuldazin_members(&doors_lent::TYPES, &doors_lent::MEMBERS, 2, &mut part[..1]);
+    doors_lent::three(b"a part of 1 word", &part);
 }
 
 fn numbers() {
     let mut numbers = [9u32; 5];
     let mut answer = [9u32; 5];
     doors::wuldazin_plain(5, 4, &mut numbers[..2], &mut answer);
-    print::five(b"numbers of 2 words", &answer);
-    print::five(b"numbers", &numbers);
+    doors_lent::five(b"numbers of 2 words", &answer);
+    doors_lent::five(b"numbers", &numbers);
 }
 
 pub fn run() {

@@ -1,36 +1,34 @@
 // Number 1: "table length: not whole records, too many, rows too short, or capability bits above 12".
 // "Number 1 touches nothing", and "1, 25 and 26 carry zeros only".
-use super::calls;
-use super::print;
 
 fn records() {
-    calls::check_m1(b"M1", 18, 4, 0);
+    doors_lent::check_m1(b"M1", 18, 4, 0);
     // "six 32-bit words a type"
-    calls::check_m1(b"types of 17 words", 17, 4, 0);
+    doors_lent::check_m1(b"types of 17 words", 17, 4, 0);
     // "Two words: type, offset."
-    calls::check_m1(b"members of 3 words", 18, 3, 0);
+    doors_lent::check_m1(b"members of 3 words", 18, 3, 0);
     // "the arena may be empty"
-    calls::check_m1(b"no types", 0, 0, 0);
+    doors_lent::check_m1(b"no types", 0, 0, 0);
     // "Bits: 0 FLOAT64, .. 12 RAY_HIT_VERTEX_POSITION."
-    calls::check_m1(b"capabilities 8191", 18, 4, 8191);
-    calls::check_m1(b"capabilities 8192", 18, 4, 8192);
+    doors_lent::check_m1(b"capabilities 8191", 18, 4, 8191);
+    doors_lent::check_m1(b"capabilities 8192", 18, 4, 8192);
 }
 
 // "Fourteen words: size, alignment, flags; uniform verdict (five); storage verdict (five); immediates word."
 fn rows() {
     let mut rows = [9u32; 42];
-    calls::check_m1_rows(b"rows of 42 words", &mut rows);
+    doors_lent::check_m1_rows(b"rows of 42 words", &mut rows);
     let mut short = [9u32; 41];
-    calls::check_m1_rows(b"rows of 41 words", &mut short);
+    doors_lent::check_m1_rows(b"rows of 41 words", &mut short);
 }
 
 fn check_long(name: &[u8], types: &[u32]) {
     let mut rows = [9u32; 14350];
     let mut answer = [9u32; 5];
     doors::wuldazin_check(types, &[], 0, &mut rows, &mut answer);
-    print::words(name, &answer);
-    print::count(b"rows that are 0", &rows, 0);
-    print::count(b"rows that are 9", &rows, 9);
+    doors_lent::words(name, &answer);
+    doors_lent::count(b"rows that are 0", &rows, 0);
+    doors_lent::count(b"rows that are 9", &rows, 9);
 }
 
 // "At most 1,024 types". A record of zeros is a scalar of width 0, which is no power of two: 7.
@@ -43,23 +41,23 @@ fn types() {
 // "At most 4,096." No type names one here: E alone.
 fn members() {
     let members = [0u32; 8194];
-    calls::check_three(b"4096 members", &[0, 2, 4, 0, 0, 0], &members[..8192], 0);
-    calls::check_three(b"4097 members", &[0, 2, 4, 0, 0, 0], &members, 0);
+    doors_lent::check_three(b"4096 members", &[0, 2, 4, 0, 0, 0], &members[..8192], 0);
+    doors_lent::check_three(b"4097 members", &[0, 2, 4, 0, 0, 0], &members, 0);
 }
 
 // embed/wuldazin.h: "rows get size, alignment and twelve zeros a type".
 fn layouts() {
-    calls::layout_m1(b"layout of M1", 18, 4);
-    calls::layout_m1(b"layout, types of 17 words", 17, 4);
-    calls::layout_m1(b"layout, members of 3 words", 18, 3);
+    doors_lent::layout_m1(b"layout of M1", 18, 4);
+    doors_lent::layout_m1(b"layout, types of 17 words", 17, 4);
+    doors_lent::layout_m1(b"layout, members of 3 words", 18, 3);
     // 5: "array element not an earlier type"
-    calls::layout(b"layout, 5", &[0, 2, 4, 0, 0, 0, 7, 1, 0, 1, 4, 0], &[]);
+    doors_lent::layout(b"layout, 5", &[0, 2, 4, 0, 0, 0, 7, 1, 0, 1, 4, 0], &[]);
 }
 
 // "the walk of a type and the place lookup take the tables and a lent stretch for rows, judge the arena first, and pass on its refusal"
 fn passed_on() {
-    calls::slots_m1(b"slots, types of 17 words", 17, 2, 0);
-    calls::place_m1(b"place, capabilities 8192", 8192, 2, &[1]);
+    doors_lent::slots_m1(b"slots, types of 17 words", 17, 2, 0);
+    doors_lent::place_m1(b"place, capabilities 8192", 8192, 2, &[1]);
 }
 
 pub fn run() {

@@ -2,8 +2,8 @@
 use borrow.Author.Needs.{needs}
 use Prim.Native.Nat.{_-_, _≤_}
 use lib.ListN.{length}
-use Rattle.doors_calls.proofs.print.count.Statement.{statement}
-use Rattle.doors_calls.proofs.print.count.Tie as tie
+use Rattle.doors_lent.proofs.count.Statement.{statement}
+use Rattle.doors_lent.proofs.count.Tie as tie
 
 abbrev Inv-loop : tie.InvT-loop
 Inv-loop name words n found₀ i₀ found i = i ≤ length words

@@ -2,8 +2,8 @@
 use borrow.Author.Needs.{needs}
 use Prim.Native.Nat.{_-_, _≤_}
 use lib.ListN.{length}
-use Rattle.doors_calls.proofs.print.words.Statement.{statement}
-use Rattle.doors_calls.proofs.print.words.Tie as tie
+use Rattle.doors_lent.proofs.words.Statement.{statement}
+use Rattle.doors_lent.proofs.words.Tie as tie
 
 abbrev Inv-loop : tie.InvT-loop
 Inv-loop name words i₀ i = i ≤ length words

@@ -1,14 +1,13 @@
 // "Every other arena refusal zeroes 14 words for each type and leaves the rest". The answer is "number, type, member, detail".
 // "The type is the first one refused; the member is its position in the struct, for 6 and 17 to 21 in a struct; all else is 0".
-use super::print;
 
 // An arena for a number: its answer, and rows for three types and two words more.
 fn refuse(number: u32, types: &[u32], members: &[u32], capabilities: u32) {
     let mut rows = [9u32; 44];
     let mut answer = [9u32; 5];
     doors::wuldazin_check(types, members, capabilities, &mut rows, &mut answer);
-    print::refusal(number, &answer);
-    print::words(b"rows", &rows);
+    doors_lent::refusal(number, &answer);
+    doors_lent::words(b"rows", &rows);
 }
 
 fn refuse_types(number: u32, types: &[u32], capabilities: u32) {
