@@ -296,7 +296,7 @@ uint64_t wuldazin_difference(uint64_t mask, uint64_t other);
 /* The slots of either. */
 uint64_t wuldazin_union(uint64_t mask, uint64_t other);
 
-/* Starts a pass: no slot set and no pipeline. */
+/* Starts a pass: no slot set and no pipeline. A shorter buffer is left as it was. */
 void wuldazin_pass_start(uint64_t *pass, size_t pass_length);
 
 /* Sets the size bytes of immediates from offset on. An empty range sets nothing. Numbers 1, 37 and then 25, which is for a range that is
