@@ -10,17 +10,18 @@
  *  - Lengths and words may otherwise be anything: they are judged, never trusted.
  *
  * Tables. types: WULDAZIN_TYPE_WORDS words a type, the kind first, unnamed words 0.
- * members: WULDAZIN_MEMBER_WORDS words a member, its type and its offset; structs may share rows.
+ * members: WULDAZIN_MEMBER_WORDS words a member, its type, its offset, its location and its blend source, the last two as value plus one,
+ * 0 for none; structs may share rows.
  *
  * rows takes WULDAZIN_ROW_WORDS words a type; n types need n * WULDAZIN_ROW_WORDS words, and no word after them is ever written.
  *  - accepted: the row of each type. Also with numbers 25 to 27 and 37, which come after the arena was accepted. Accepted does not mean usable in
  *    an address space: before a buffer is filled, look at the verdict of its type. A vec3 at offset 4 is accepted, with storage code 3.
  *  - number 1: untouched.
- *  - numbers 2 to 24: n * WULDAZIN_ROW_WORDS zeros.
+ *  - numbers 2 to 24 and 34: n * WULDAZIN_ROW_WORDS zeros.
  *
  * answer takes WULDAZIN_ANSWER_WORDS words: number, type, member, detail; all 0 when accepted. Numbers 1, 25, 26, 36 and 37, and 2 of
  * wuldazin_plain, have zeros after the number. member is the position in the struct for 6 and 17 to 21, else 0; detail is the missing
- * capability's bit for 8, else 0.
+ * capability's bit for 8, what is wrong with a blend source for 34, else 0.
  *
  * mask takes WULDAZIN_MASK_WORDS words, bit k of each for slot k, bytes 4k to 4k + 3: the slots that are touched, then those that a part
  * covers only in part, one of their bytes and not all four. Zeros on a refusal. A buffer of one word gets the first mask alone.
@@ -44,7 +45,7 @@ extern "C" {
 
 enum {
     WULDAZIN_TYPE_WORDS = 6,
-    WULDAZIN_MEMBER_WORDS = 2,
+    WULDAZIN_MEMBER_WORDS = 4,
     WULDAZIN_ROW_WORDS = 14,
     WULDAZIN_ANSWER_WORDS = 4,
     WULDAZIN_MASK_WORDS = 2,
@@ -52,7 +53,7 @@ enum {
     WULDAZIN_PASS_WORDS = 3,
     WULDAZIN_MOST_TYPES = 1024,
     WULDAZIN_MOST_MEMBERS = 4096,
-    WULDAZIN_ALL_CAPABILITIES = 8191
+    WULDAZIN_ALL_CAPABILITIES = 16383
 };
 
 /* Word 0 of a type; the words after it. */
@@ -133,7 +134,8 @@ enum {
     WULDAZIN_TEXTURE_EXTERNAL = 1 << 9,
     WULDAZIN_CAPABILITY_RAY_QUERY = 1 << 10,
     WULDAZIN_RAY_TRACING_PIPELINE = 1 << 11,
-    WULDAZIN_RAY_HIT_VERTEX_POSITION = 1 << 12
+    WULDAZIN_RAY_HIT_VERTEX_POSITION = 1 << 12,
+    WULDAZIN_DUAL_SOURCE_BLENDING = 1 << 13
 };
 
 /* Words of a row. */
@@ -199,8 +201,19 @@ enum {
     WULDAZIN_SLOTS_PAST = 25,
     WULDAZIN_NO_SUCH_PLACE = 26,
     WULDAZIN_NARROW_STRIDE = 27,
+    WULDAZIN_BLEND_SOURCE = 34,
     WULDAZIN_NOT_READY = 36,
     WULDAZIN_NO_IMMEDIATES = 37
+};
+
+/* Word 3 of an answer with WULDAZIN_BLEND_SOURCE. */
+enum {
+    WULDAZIN_BLEND_BAD_INDEX = 1,       /* a source above 1, or a location other than 0 with a source */
+    WULDAZIN_BLEND_COLLISION = 2,       /* two members with one source */
+    WULDAZIN_BLEND_OTHER_LOCATIONS = 3, /* beside both sources a member has a location alone */
+    WULDAZIN_BLEND_TYPES_DIFFER = 4,    /* the two types are not the same, or structs */
+    WULDAZIN_BLEND_NOT_SHAREABLE = 5,   /* their type is not IO-shareable */
+    WULDAZIN_BLEND_ONE_MISSING = 6      /* one source alone */
 };
 
 /* A sentence for a message: what a number stands for. */
@@ -208,9 +221,9 @@ static inline const char *wuldazin_meaning(uint32_t number) {
     switch (number) {
     case WULDAZIN_ACCEPTED: return "accepted";
     case WULDAZIN_TABLE_LENGTH:
-        return "a table is no whole number of records or too long, the rows, the report or the pass are too short, or a capability bit above 12 is set";
+        return "a table is no whole number of records or too long, the rows, the report or the pass are too short, or a capability bit above 13 is set";
     case WULDAZIN_FIELD:
-        return "a field lies outside its set, member rows reach past the table, or no plain type has that shape and width";
+        return "a field lies outside its set, member rows reach past the table, a blend source has no location, or no plain type has that shape and width";
     case WULDAZIN_BASE_OUTSIDE: return "the base of a pointer or binding array lies outside the arena";
     case WULDAZIN_ARRAY_TOO_LARGE: return "an array's count or size is above 2,147,483,647";
     case WULDAZIN_ELEMENT_NOT_EARLIER: return "an array's element is no earlier type";
@@ -236,6 +249,7 @@ static inline const char *wuldazin_meaning(uint32_t number) {
     case WULDAZIN_SLOTS_PAST: return "a nonempty part ends past byte 256, or an offset sum leaves 32 bits";
     case WULDAZIN_NO_SUCH_PLACE: return "no type has that number, or the steps lead to no place";
     case WULDAZIN_NARROW_STRIDE: return "a host-shareable struct reaches an array with a stride below its element's size";
+    case WULDAZIN_BLEND_SOURCE: return "the blend sources of a struct's members are refused";
     case WULDAZIN_NOT_READY: return "a dispatch has no pipeline, or slots that it needs are not set";
     case WULDAZIN_NO_IMMEDIATES: return "a type's immediates word is not 0, or a range's offset or size is no multiple of 4";
     default: return "no number of an answer";
@@ -249,7 +263,7 @@ void wuldazin_layout(const uint32_t *types, size_t types_length,
                      uint32_t *rows, size_t rows_length,
                      uint32_t *answer, size_t answer_length);
 
-/* Judges an arena. Numbers 1 to 24. rows may hold anything, laid out or not: no word of it is read before it is written, and the
+/* Judges an arena. Numbers 1 to 24 and 34. rows may hold anything, laid out or not: no word of it is read before it is written, and the
  * answer and the rows depend on the tables, the capability word and rows_length alone. Where the capability word is in order, what
  * wuldazin_layout refuses is refused with the same answer. So this is the whole check, and the fastest one: a host that has no use
  * for laid-out rows calls it and nothing else. */
@@ -260,7 +274,7 @@ void wuldazin_judge(const uint32_t *types, size_t types_length,
                     uint32_t *answer, size_t answer_length);
 
 /* Tests the capability word, then does what wuldazin_layout and, where that accepts, wuldazin_judge do one after the other. The
- * answer and the rows are those of wuldazin_judge. Numbers 1 to 24. */
+ * answer and the rows are those of wuldazin_judge. Numbers 1 to 24 and 34. */
 void wuldazin_check(const uint32_t *types, size_t types_length,
                     const uint32_t *members, size_t members_length,
                     uint32_t capabilities,
@@ -272,7 +286,7 @@ void wuldazin_range(uint32_t offset, uint32_t size,
                     uint64_t *mask, size_t mask_length,
                     uint32_t *answer, size_t answer_length);
 
-/* The immediate slots of type ty that stands at offset. Judges the arena first. Numbers 1 to 26.
+/* The immediate slots of type ty that stands at offset. Judges the arena first. Numbers 1 to 26 and 34.
  * A part is what is no struct, arrays taken whole. Each mask has the slots of all parts: a slot of which two parts cover a half each is in
  * the second mask.
  * The walk visits every member of every nested struct anew: in an arena whose structs hold others several times over, it may double
@@ -306,7 +320,7 @@ void wuldazin_pass_set(uint64_t *pass, size_t pass_length,
                        uint32_t *answer, size_t answer_length);
 
 /* Chooses a pipeline by its immediate type, ty. The pass then needs the first mask of wuldazin_slots at offset 0, whatever becomes of the
- * tables; slots set before stay set. Judges the arena first. Numbers 1 to 24, then 26, 37 and 25. On a refusal the former pipeline stays.
+ * tables; slots set before stay set. Judges the arena first. Numbers 1 to 24 and 34, then 26, 37 and 25. On a refusal the former pipeline stays.
  * What is said of time and stack at wuldazin_slots holds here too. */
 void wuldazin_pass_choose(const uint32_t *types, size_t types_length,
                           const uint32_t *members, size_t members_length,
@@ -325,7 +339,7 @@ void wuldazin_pass_dispatch(const uint64_t *pass, size_t pass_length,
 /* The leaf that steps (member, element and column numbers) lead to from type start. Judges the arena first.
  * A matrix takes one further step, its column, and the leaf is that column: rows * width bytes. The column step, from one to the next,
  * is the matrix's alignment; the bytes between columns of three rows are in no leaf. Every other leaf is as long as its type's size.
- * place: two words, the leaf's first byte and its type, of a column the matrix's; zeros on a refusal. Numbers 1 to 24 and 26. */
+ * place: two words, the leaf's first byte and its type, of a column the matrix's; zeros on a refusal. Numbers 1 to 24, 26 and 34. */
 void wuldazin_place(const uint32_t *types, size_t types_length,
                     const uint32_t *members, size_t members_length,
                     uint32_t capabilities,
@@ -336,7 +350,7 @@ void wuldazin_place(const uint32_t *types, size_t types_length,
                     uint32_t *answer, size_t answer_length);
 
 /* The bytes that lie in leaves and those of the span that lie in none, for each struct with WULDAZIN_HOST_SHAREABLE. A runtime array
- * counts as one element. Judges the arena first. Numbers 1 to 24 and 27.
+ * counts as one element. Judges the arena first. Numbers 1 to 24, 27 and 34.
  * report takes WULDAZIN_REPORT_WORDS words a type, bytes carried and bytes wasted; n types need n * WULDAZIN_REPORT_WORDS words, and no
  * word after them is ever written.
  *  - accepted: the words of each type, zeros for a type that is no such struct.

@@ -29,8 +29,8 @@ static uint32_t types[] = {
     WULDAZIN_STRUCT, 2, 4, 144, 0, 0,
 };
 static uint32_t members[] = {
-    VEC3, 0, F32, 12,
-    MAT3X3, 0, U32, STEPS_START, CELLS, CELLS_START, TAIL, TAIL_START,
+    VEC3, 0, 0, 0, F32, 12, 0, 0,
+    MAT3X3, 0, 0, 0, U32, STEPS_START, 0, 0, CELLS, CELLS_START, 0, 0, TAIL, TAIL_START, 0, 0,
 };
 static uint32_t rows[TYPES * WULDAZIN_ROW_WORDS];
 static uint32_t answer[WULDAZIN_ANSWER_WORDS];
@@ -166,8 +166,8 @@ static void look_at_members_and_plain_types(void) {
     uint64_t part[2];
     uint32_t numbers[3];
     wuldazin_members(types, LENGTH(types), members, LENGTH(members), KERNEL, part, LENGTH(part));
-    expect("first member word", part[0], 4);
-    expect("member words", part[1], 8);
+    expect("first member word", part[0], 2 * WULDAZIN_MEMBER_WORDS);
+    expect("member words", part[1], 4 * WULDAZIN_MEMBER_WORDS);
     wuldazin_plain(8, 4, numbers, LENGTH(numbers), answer, LENGTH(answer));
     expect("mat3x3 of f32", answer[0], WULDAZIN_ACCEPTED);
     expect("its size", numbers[0], 48);
@@ -179,11 +179,11 @@ static void look_at_members_and_plain_types(void) {
 
 /* The cell's members otherwise: its moisture in the temperature's bytes; then its moisture first and its temperature right after it. */
 static void try_other_cells(void) {
-    members[3] = 8;
+    members[WULDAZIN_MEMBER_WORDS + 1] = 8;
     judge(WULDAZIN_MEMBER_OVERLAP);
     printf("moisture at byte 8: refused, number %u, type %u, member %u: %s\n", answer[0], answer[1], answer[2],
            wuldazin_meaning(answer[0]));
-    memcpy(members, (uint32_t[]){F32, 0, VEC3, 4}, 4 * sizeof *members);
+    memcpy(members, (uint32_t[]){F32, 0, 0, 0, VEC3, 4, 0, 0}, 2 * WULDAZIN_MEMBER_WORDS * sizeof *members);
     judge(WULDAZIN_ACCEPTED);
     expect("usable in storage", is_usable_in_storage(CELL), false);
     expect("its storage code", row(CELL)[WULDAZIN_ROW_STORAGE], WULDAZIN_VERDICT_MEMBER_OFFSET);

@@ -19,8 +19,9 @@ enum {
     PAGE = 4096,
     GUARD = 64, /* bytes */
     TYPES_MOST = 6 * 1024 + 55,
-    MEMBERS_MOST = 2 * 4096 + 57,
+    MEMBERS_MOST = WULDAZIN_MEMBER_WORDS * 4096 + 57,
     ROWS_MOST = 14 * (TYPES_MOST / 6) + 64,
+    LENT_MOST = MEMBERS_MOST > ROWS_MOST ? MEMBERS_MOST : ROWS_MOST, /* the longest buffer */
     STEPS_MOST = 2048,
     REPORT_MOST = 2 * (TYPES_MOST / 6) + 64, /* 64-bit words */
     OUTPUT_MOST = 5, /* mask, pass, place, totals or part: 64-bit words; numbers: 32-bit words */
@@ -48,7 +49,7 @@ typedef struct {
 
 typedef struct {
     Room room;
-    unsigned char before[4 * ROWS_MOST]; /* what was lent */
+    unsigned char before[4 * LENT_MOST]; /* what was lent */
     size_t bytes;
     unsigned char *data, *low, *high, *block;
 } Lent;
@@ -59,7 +60,7 @@ static uint32_t noise[ROWS_MOST + 1024];
 static unsigned char guard[GUARD];
 static uint64_t seed = 1, call, state;
 static int door;
-static uint64_t doors[DOORS], numbers[LAST_NUMBER + 1], unanswered, columns;
+static uint64_t doors[DOORS], numbers[LAST_NUMBER + 1], blend_details[7], unanswered, columns;
 static bool types_seen[TYPES_MOST + 1], members_seen[MEMBERS_MOST + 1];
 
 static void say_where(void) {
@@ -104,9 +105,9 @@ static uint32_t capability_word(void) {
     switch (below(16)) {
     case 0: return wild();
     case 1: return 0;
-    case 2: return 8191 ^ 1 << below(13);
-    case 3: return below(8192);
-    default: return 8191;
+    case 2: return WULDAZIN_ALL_CAPABILITIES ^ 1 << below(14);
+    case 3: return below(WULDAZIN_ALL_CAPABILITIES + 1);
+    default: return WULDAZIN_ALL_CAPABILITIES;
     }
 }
 
@@ -173,7 +174,7 @@ static void propose(Tables *t, const uint32_t *row) {
     uint32_t *r = t->types + t->types_length;
     memset(r, 0, 6 * sizeof *r);
     t->types_length += 6;
-    uint32_t first = t->members_length / 2;
+    uint32_t first = t->members_length / WULDAZIN_MEMBER_WORDS;
     switch (r[0] = kinds[below(sizeof kinds)]) {
     case 0: case 4: r[1] = below(4), r[2] = width; break;
     case 1: r[1] = 2 + below(3), r[2] = below(4), r[3] = width; break;
@@ -187,12 +188,12 @@ static void propose(Tables *t, const uint32_t *row) {
         break;
     case 8:
         r[1] = first, r[2] = 1 + below(4);
-        for (uint32_t j = 0; j < r[2] && count && t->members_length < 8192; j++) {
+        for (uint32_t j = 0; j < r[2] && count && t->members_length < WULDAZIN_MEMBER_WORDS * 4096; j++) {
             uint32_t ty = below(count), *m = t->members + t->members_length;
             at = rounded(at, row[14 * ty + 1]);
             align = row[14 * ty + 1] > align ? row[14 * ty + 1] : align;
-            m[0] = ty, m[1] = at, at += row[14 * ty];
-            t->members_length += 2;
+            m[0] = ty, m[1] = at, m[2] = below(4) ? 0 : 1 + below(3), m[3] = 0, at += row[14 * ty];
+            t->members_length += WULDAZIN_MEMBER_WORDS;
         }
         r[3] = rounded(at, align);
         break;
@@ -210,21 +211,21 @@ static void grow(Tables *t, uint32_t count) {
         require(tries < 1000 + 100 * count, "no arena is accepted");
         size_t types_length = t->types_length, members_length = t->members_length;
         propose(t, row);
-        wuldazin_check(t->types, t->types_length, t->members, t->members_length, 8191, row, ROWS_MOST, found, 4);
+        wuldazin_check(t->types, t->types_length, t->members, t->members_length, WULDAZIN_ALL_CAPABILITIES, row, ROWS_MOST, found, 4);
         if (found[0] || row[14 * (types_length / 6)] > 1 << 20) {
             t->types_length = types_length, t->members_length = members_length;
-            wuldazin_check(t->types, types_length, t->members, members_length, 8191, row, ROWS_MOST, found, 4);
+            wuldazin_check(t->types, types_length, t->members, members_length, WULDAZIN_ALL_CAPABILITIES, row, ROWS_MOST, found, 4);
         }
     }
 }
 
 /* Structs in structs, as deep as an arena can have them, and in the last a mat2x2<f32>: no place has more steps. */
 static void nest(Tables *t) {
-    t->types_length = 6 * 1024, t->members_length = 2 * 1023;
+    t->types_length = 6 * 1024, t->members_length = WULDAZIN_MEMBER_WORDS * 1023;
     memcpy(t->types, (uint32_t[]){2, 2, 2, 2, 4, 0}, 24);
     for (uint32_t i = 1; i < 1024; i++) {
         memcpy(t->types + 6 * i, (uint32_t[]){8, i - 1, 1, 16, 0, 0}, 24);
-        memcpy(t->members + 2 * (i - 1), (uint32_t[]){i - 1, 0}, 8);
+        memcpy(t->members + WULDAZIN_MEMBER_WORDS * (i - 1), (uint32_t[]){i - 1, 0, 0, 0}, 16);
     }
 }
 
@@ -240,27 +241,35 @@ static void hand_made(Tables *t) {
         13, 5, 0, 4, 0, 0, /* binding array of it */
     };
     memcpy(t->types, records, sizeof records);
-    memcpy(t->members, (uint32_t[]){0, 0, 1, 4}, 16);
-    t->types_length = sizeof records / 4, t->members_length = 4;
+    memcpy(t->members, (uint32_t[]){0, 0, 0, 0, 1, 4, 0, 0}, 32);
+    t->types_length = sizeof records / 4, t->members_length = 8;
 }
 
 /* A host-shareable struct that reaches an array with a stride below its element's size, which only the report refuses. */
 static void narrow(Tables *t) {
     memcpy(t->types, (uint32_t[]){0, 2, 4, 0, 0, 0, 7, 0, 0, 3, 2, 0, 8, 0, 1, 8, 0, 0}, 72);
-    memcpy(t->members, (uint32_t[]){1, 0}, 8);
-    t->types_length = 18, t->members_length = 2;
+    memcpy(t->members, (uint32_t[]){1, 0, 0, 0}, 16);
+    t->types_length = 18, t->members_length = 4;
+}
+
+/* Two blend sources: one word away from each refusal of a blend source, from 5 by an atomic<f32> in place of the f32. */
+static void blended(Tables *t) {
+    memcpy(t->types, (uint32_t[]){0, 2, 4, 0, 0, 0, 0, 1, 4, 0, 0, 0, 8, 0, 3, 12, 0, 0}, 72);
+    memcpy(t->members, (uint32_t[]){0, 0, 1, 1, 0, 4, 1, 2, 1, 8, 0, 0}, 48);
+    t->types_length = 18, t->members_length = 12;
 }
 
 /* Templates 0 to 2 are full, up to 11 of middle size, the others small. */
 static void make_templates(void) {
     nest(templates);
-    for (uint32_t k = 1; k < TEMPLATES - 2; k++) grow(templates + k, k < 3 ? 1024 : k < 12 ? 30 * k : 1 + below(20));
+    for (uint32_t k = 1; k < TEMPLATES - 12; k++) grow(templates + k, k < 3 ? 1024 : k < 12 ? 30 * k : 1 + below(20));
+    for (uint32_t k = TEMPLATES - 12; k < TEMPLATES - 2; k++) blended(templates + k);
     narrow(templates + TEMPLATES - 2);
     hand_made(templates + TEMPLATES - 1);
     for (Tables *t = templates; t < templates + TEMPLATES; t++) {
         static uint32_t row[ROWS_MOST];
         uint32_t found[4];
-        wuldazin_check(t->types, t->types_length, t->members, t->members_length, 8191, row, ROWS_MOST, found, 4);
+        wuldazin_check(t->types, t->types_length, t->members, t->members_length, WULDAZIN_ALL_CAPABILITIES, row, ROWS_MOST, found, 4);
         require(found[0] == 0, "a template is refused");
     }
 }
@@ -292,7 +301,12 @@ static void make_tables(void) {
             size_t at = below(now.types_length + now.members_length);
             w = at < now.types_length ? now.types + at : now.members + at - now.types_length;
         } while (*w == 0 && --tries);
-        *w = below(8) ? *w ^ 1u << below(below(4) ? 5 : 32) : wild();
+        switch (below(8)) {
+        case 0: *w = wild(); break;
+        case 1: *w = now.types_length ? now.types[below(now.types_length)] : 0; break;
+        case 2: *w = now.members_length ? now.members[below(now.members_length)] : 0; break;
+        default: *w ^= 1u << below(below(4) ? 5 : 32);
+        }
     }
     if (below(16) == 0) now.types_length = below(now.types_length + 1);
     if (below(16) == 0) now.types_length -= now.types_length % 6;
@@ -326,8 +340,8 @@ static uint32_t type_number(void) { return below(8) ? below(now.types_length / 6
 
 /* The member rows of a record, or none. */
 static const uint32_t *member_rows(const uint32_t *r) {
-    bool within = r[0] == 8 && (uint64_t)r[1] + r[2] <= now.members_length / 2;
-    return within ? now.members + 2 * r[1] : NULL;
+    bool within = r[0] == 8 && (uint64_t)r[1] + r[2] <= now.members_length / WULDAZIN_MEMBER_WORDS;
+    return within ? now.members + WULDAZIN_MEMBER_WORDS * r[1] : NULL;
 }
 
 /* How many parts the slot walk of a type has, at most PARTS_MOST. */
@@ -338,7 +352,7 @@ static uint32_t parts(uint32_t ty) {
         const uint32_t *r = now.types + 6 * i, *m = member_rows(r);
         of[i] = 1;
         for (uint32_t j = 0; m && j < r[2]; j++)
-            if (m[2 * j] < i && of[i] < PARTS_MOST) of[i] += of[m[2 * j]];
+            if (m[WULDAZIN_MEMBER_WORDS * j] < i && of[i] < PARTS_MOST) of[i] += of[m[WULDAZIN_MEMBER_WORDS * j]];
         if (of[i] > PARTS_MOST) of[i] = PARTS_MOST;
     }
     return of[ty];
@@ -355,7 +369,7 @@ static size_t make_steps(uint32_t *list, uint32_t ty) {
     while (length < STEPS_MOST - 1 && ty < now.types_length / 6) {
         const uint32_t *r = now.types + 6 * ty, *m = member_rows(r);
         if (r[0] == 7) list[length++] = r[2] ? wild() : below(r[3]), ty = r[1];
-        else if (m && r[2]) list[length] = below(r[2]), ty = m[2 * list[length++]];
+        else if (m && r[2]) list[length] = below(r[2]), ty = m[WULDAZIN_MEMBER_WORDS * list[length++]];
         else {
             if (r[0] == 2) list[length++] = below(r[1]);
             break;
@@ -381,11 +395,12 @@ static uint32_t number_of(bool fits, uint32_t count) {
     require(a[0] <= LAST_NUMBER, "number above the last");
     require((a[0] == 1) == !fits, "number 1 given or kept back wrongly");
     require(a[1] < count || a[1] == 0, "type outside the arena");
-    bool bare = a[0] <= 1 || a[0] == 25 || a[0] == 26 || a[0] > 27 || door == PLAIN;
+    bool bare = a[0] <= 1 || a[0] == 25 || a[0] == 26 || (a[0] > 27 && a[0] != 34) || door == PLAIN;
     require(!bare || (a[1] | a[2] | a[3]) == 0, "words beside a number that has none");
-    require(a[0] != 27 || a[2] == 0, "member beside a number that has none");
-    require(a[0] == 8 ? a[3] <= 12 : a[3] == 0, "detail");
+    require((a[0] != 27 && a[0] != 34) || a[2] == 0, "member beside a number that has none");
+    require(a[0] == 8 ? a[3] <= 13 : a[0] == 34 ? a[3] >= 1 && a[3] <= 6 : a[3] == 0, "detail");
     numbers[a[0]]++;
+    if (a[0] == 34) blend_details[a[3]]++;
     return a[0];
 }
 
@@ -400,13 +415,13 @@ static void look_at_leaf(uint64_t leaf, const uint32_t *list, size_t length) {
 
 /* Zeros in refused rows, sane words in accepted ones. */
 static void look_at_rows(uint32_t number, uint32_t count) {
-    bool refused = number >= 2 && number <= 24;
+    bool refused = (number >= 2 && number <= 24) || number == 34;
     for (uint32_t i = 0; i < count; i++) {
         uint32_t r[14], all = 0;
         memcpy(r, rows.data + i * sizeof r, sizeof r);
         for (int k = refused ? 0 : 2; k < 14; k++) all |= r[k];
         if (refused || door == LAYOUT) require(all == 0, "words that are to be 0");
-        if (number == 0 || (number >= 25 && number <= LAST_NUMBER)) {
+        if (number == 0 || (number >= 25 && number <= LAST_NUMBER && number != 34)) {
             require(r[1] && !(r[1] & (r[1] - 1)), "alignment no power of two");
             require(r[2] <= 255 && r[3] <= 6 && r[8] <= 6 && r[13] <= 6, "flags, codes or immediates word");
         }
@@ -612,8 +627,8 @@ static void one_call(void) {
     types_seen[now.types_length] = members_seen[now.members_length] = true;
     size_t tl = now.types_length, ml = now.members_length, rl = rows_length(), sl = door == PLACE ? make_steps(list, ty) : 0;
     size_t pl = door == REPORT ? report_length() : 0;
-    bool fits = tl % 6 == 0 && tl <= 6 * 1024 && ml % 2 == 0 && ml <= 2 * 4096 && rl / 14 >= count;
-    if (door != LAYOUT) fits = fits && capabilities <= 8191;
+    bool fits = tl % 6 == 0 && tl <= 6 * 1024 && ml % WULDAZIN_MEMBER_WORDS == 0 && ml <= WULDAZIN_MEMBER_WORDS * 4096 && rl / 14 >= count;
+    if (door != LAYOUT) fits = fits && capabilities <= WULDAZIN_ALL_CAPABILITIES;
     if (door == REPORT) fits = fits && pl / 2 >= count;
     if (door == CHOOSE) fits = fits && output_length >= 3;
     bool has_rows = door != MEMBERS, has_output = door == SLOTS || door == CHOOSE || door == PLACE || door == REPORT || door == MEMBERS;
@@ -641,8 +656,8 @@ static void one_call(void) {
     if (has_rows) {
         number = number_of(fits, count);
         uint32_t last = door == LAYOUT ? 7 : door == JUDGE || door == CHECK ? 24 : door == REPORT ? 27 : 26;
-        bool barred = number == 37 && door == CHOOSE;
-        require(number == UNANSWERED || number <= last || barred, "number of another door");
+        bool barred = number == 37 && door == CHOOSE, blend = number == 34 && door != LAYOUT;
+        require(number == UNANSWERED || number <= last || barred || blend, "number of another door");
         require(number != 25 || door == SLOTS || door == CHOOSE, "number of another door");
         require(number != 26 || door != REPORT, "number of another door");
         if (fits) look_at_rows(number, count);
@@ -656,7 +671,7 @@ static void one_call(void) {
         size_t written = words_written(output_length);
         memcpy(out, output.data, 8 * written);
         if (door == MEMBERS)
-            require(out[0] % 2 == 0 && out[1] % 2 == 0 && out[0] <= ml && out[1] <= ml - out[0], "part outside the table");
+            require(out[0] % WULDAZIN_MEMBER_WORDS == 0 && out[1] % WULDAZIN_MEMBER_WORDS == 0 && out[0] <= ml && out[1] <= ml - out[0], "part outside the table");
         else if (number >= 1 && number <= LAST_NUMBER) require((out[0] | out[1]) == 0, "words beside a refusal");
         else if (door == SLOTS && written == 2) require((out[1] & ~out[0]) == 0, "slots covered in part and not touched");
         else if (written && door == PLACE && number == 0) look_at_leaf(out[1], list, sl);
@@ -700,7 +715,8 @@ int main(int words, char **word_list) {
     double seconds = (end.tv_sec - start.tv_sec) + 1e-9 * (end.tv_nsec - start.tv_nsec);
 
     for (int d = 0; d < DOORS; d++) printf("%-10s %9llu calls\n", door_names[d], (unsigned long long)doors[d]);
-    for (int n = 0; n <= LAST_NUMBER; n++) if (n <= 27 || n >= 36) printf("number %2d %9llu\n", n, (unsigned long long)numbers[n]);
+    for (int n = 0; n <= LAST_NUMBER; n++) if (n <= 27 || n == 34 || n >= 36) printf("number %2d %9llu\n", n, (unsigned long long)numbers[n]);
+    for (int d = 1; d <= 6; d++) printf("number 34, detail %d %9llu\n", d, (unsigned long long)blend_details[d]);
     printf("answer too short %llu\n", (unsigned long long)unanswered);
     printf("places that are columns %llu\n", (unsigned long long)columns);
     printf("lengths met: types %zu of %d, members %zu of %d\n", seen(types_seen, TYPES_MOST + 1), TYPES_MOST + 1,

@@ -65,6 +65,8 @@ pub fn by_sentence() -> Vec<Border> {
     order_of_records(&mut list);
     order_of_layouts(&mut list);
     order_in_a_struct(&mut list);
+    blend_sources(&mut list);
+    order_of_blend_sources(&mut list);
     list.borders
 }
 
@@ -79,7 +81,10 @@ impl List {
     }
 
     fn add(&mut self, types: &[Record], rows: &[[u32; 2]], capabilities: u32, answer: Answer) {
-        let arena = arena(types, rows, capabilities);
+        self.add_arena(arena(types, rows, capabilities), answer);
+    }
+
+    fn add_arena(&mut self, arena: Arena, answer: Answer) {
         assert_eq!(
             print::reference_of(&arena).answer,
             answer,
@@ -96,7 +101,13 @@ impl List {
     }
 }
 
+/// Of members without location and blend source.
 fn arena(types: &[Record], rows: &[[u32; 2]], capabilities: u32) -> Arena {
+    let rows: Vec<_> = rows.iter().map(|row| member(row[0], row[1])).collect();
+    arena_of_rows(types, &rows, capabilities)
+}
+
+fn arena_of_rows(types: &[Record], rows: &[[u32; MEMBER_WORDS]], capabilities: u32) -> Arena {
     Arena {
         types: types.as_flattened().to_vec(),
         members: rows.as_flattened().to_vec(),
@@ -124,7 +135,7 @@ fn sets(list: &mut List) {
     list.add_plain(&[SAMPLER, binding_array(CONSTANT, 0)], &[], [2, 1, 0, 0]);
     list.add_plain(&[SAMPLER, binding_array(DYNAMIC, 0)], &[], ACCEPTED);
     list.add_plain(&[SAMPLER, binding_array(DYNAMIC, 1)], &[], [2, 1, 0, 0]);
-    list.says("capability bits above 12");
+    list.says("Capability bit 13 is DUAL_SOURCE_BLENDING; bits above it are 1");
     list.add(&[F32], &[], ALL_CAPABILITIES, ACCEPTED);
     list.add(&[F32], &[], 1 << CAPABILITY_BITS, WRONG_LENGTH);
     list.add(&[F32], &[], 1 << 31, WRONG_LENGTH);
@@ -228,6 +239,80 @@ fn order_in_a_struct(list: &mut List) {
     list.says("the member is its position in the struct");
     let types = [F32, VEC3, structure(1, 2, 16), structure(0, 1, 4)];
     list.add_plain(&types, &[[0, 0], [1, 0], [0, 8]], [18, 2, 1, 0]);
+}
+
+/// E9 of 02. Rows: type, offset, location, blend source, the last two as value
+/// plus one. Types: f32, vec3, bool, two arrays over one f32 each, then the struct.
+fn blend_sources(list: &mut List) {
+    let bool = [kind::SCALAR, 3, 1, 0, 0, 0];
+    let one = |base| array(base, CONSTANT, 2, 4);
+    let types = |count| {
+        [
+            F32,
+            F32,
+            VEC3,
+            bool,
+            one(0),
+            one(1),
+            one(0),
+            structure(0, count, 64),
+        ]
+    };
+    list.says("Errors: 34, blend source refused, detail 1 to 6");
+    let mut two = |rows: &[[u32; MEMBER_WORDS]], answer| {
+        let arena = arena_of_rows(&types(rows.len() as u32), rows, DUAL_SOURCE_BLENDING);
+        list.add_arena(arena, answer);
+    };
+    two(&[[0, 0, 1, 1], [0, 16, 1, 2]], ACCEPTED);
+    two(&[[0, 0, 1, 2], [1, 16, 1, 1], [3, 32, 0, 0]], ACCEPTED);
+    two(&[[0, 0, 1, 0], [0, 16, 9, 0]], ACCEPTED);
+    two(&[[0, 0, u32::MAX, 0]], ACCEPTED);
+    // a bad index
+    two(&[[0, 0, 1, 3], [0, 16, 1, 2]], [34, 7, 0, 1]);
+    two(&[[0, 0, 2, 1], [0, 16, 1, 2]], [34, 7, 0, 1]);
+    two(&[[0, 0, u32::MAX, u32::MAX]], [34, 7, 0, 1]);
+    // a collision
+    two(&[[0, 0, 1, 2], [0, 16, 1, 2]], [34, 7, 0, 2]);
+    // other locations, the same and another
+    two(&[[0, 0, 1, 1], [0, 16, 1, 0], [0, 32, 1, 2]], [34, 7, 0, 3]);
+    two(&[[0, 0, 2, 0], [0, 16, 1, 1], [0, 32, 1, 2]], [34, 7, 0, 3]);
+    // types differ: by their records, and arrays by the numbers of their elements
+    two(&[[0, 0, 1, 1], [2, 16, 1, 2]], [34, 7, 0, 4]);
+    two(&[[4, 0, 1, 1], [5, 16, 1, 2]], [34, 7, 0, 4]);
+    // not IO-shareable
+    two(&[[4, 0, 1, 1], [6, 16, 1, 2]], [34, 7, 0, 5]);
+    two(&[[3, 0, 1, 1], [3, 16, 1, 2]], [34, 7, 0, 5]);
+    // one source missing, another location or not
+    two(&[[0, 0, 1, 1]], [34, 7, 0, 6]);
+    two(&[[0, 0, 1, 2], [0, 16, 2, 0]], [34, 7, 0, 6]);
+}
+
+fn order_of_blend_sources(list: &mut List) {
+    let inner = structure(0, 1, 4);
+    let nested = [F32, inner, structure(1, 2, 32)];
+    let both = |ty| [member(0, 0), [ty, 0, 1, 1], [ty, 16, 1, 2]];
+    let caps = DUAL_SOURCE_BLENDING;
+    list.says("two compared structs, where the Rust asserts, count as detail 4");
+    list.add_arena(arena_of_rows(&nested, &both(1), caps), [34, 2, 0, 4]);
+    list.says("8 with detail 13, before the details of 34");
+    list.add_arena(arena_of_rows(&nested, &both(1), 0), [8, 2, 0, 13]);
+    let one = [F32, structure(0, 1, 4)];
+    list.add_arena(arena_of_rows(&one, &[[0, 0, 9, 9]], 0), [8, 1, 0, 13]);
+    list.says("A blend source requires a location; a struct's record without it is number 2");
+    list.add_arena(arena_of_rows(&one, &[[0, 0, 0, 1]], caps), [2, 1, 0, 0]);
+    let late = [F32, array(9, CONSTANT, 1, 4), structure(0, 1, 4)];
+    list.add_arena(arena_of_rows(&late, &[[0, 0, 0, 1]], caps), [2, 2, 0, 0]);
+    let unnamed = [F32, array(0, CONSTANT, 1, 4)];
+    list.add_arena(arena_of_rows(&unnamed, &[[0, 0, 0, 1]], caps), ACCEPTED);
+    list.says("data, blend source, overlap: 17 before 34, 34 before 18");
+    let data = [F32, SAMPLER, structure(0, 2, 16)];
+    let rows = |ty, offset| [[0, 0, 1, 1], [ty, offset, 1, 1]];
+    list.add_arena(arena_of_rows(&data, &rows(1, 2), caps), [17, 2, 1, 0]);
+    list.add_arena(arena_of_rows(&data, &rows(0, 2), caps), [34, 2, 0, 2]);
+    list.says("one source missing comes after every member: 19 before 34");
+    let short = [F32, structure(0, 2, 7)];
+    let rows = [[0, 0, 1, 1], member(0, 4)];
+    list.add_arena(arena_of_rows(&short, &rows, caps), [19, 1, 1, 0]);
 }
 
 /// Records that are accepted with every capability, after a float and a

@@ -489,7 +489,7 @@ impl<'r> Builder<'r> {
     pub fn push_struct(&mut self, rows: &[(u32, u32)], span: u32) -> u32 {
         let first = self.member_count();
         for &(ty, offset) in rows {
-            self.members.extend([ty, offset]);
+            self.members.extend(member(ty, offset));
         }
         self.runs.push((first, rows.len() as u32));
         self.push_struct_of_run(first, rows.len() as u32, span)

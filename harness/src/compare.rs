@@ -77,6 +77,9 @@ pub fn histogram(count: u64, seed: u64) {
 }
 
 fn count_outcome(histogram: &mut Histogram, arena: &Arena, outcome: &reference::Outcome) {
+    if arena.has_blend_source() {
+        histogram.note("arenas with blend sources");
+    }
     histogram.count_answer(outcome.answer);
     histogram.count_panic(&outcome.panic_site);
     if let Some(rows) = &outcome.rows {

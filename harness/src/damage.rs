@@ -40,17 +40,35 @@ pub fn at_random(random: &mut Random, arena: &mut Arena) {
         match random.below(20) {
             0 => wrong_length(random, arena),
             1 => arena.capabilities &= !(1 << random.below(CAPABILITY_BITS)),
-            2..=10 => change_word(random, &mut arena.types, arena.rows_len),
-            _ => change_word(random, &mut arena.members, arena.rows_len),
+            2..=10 => change_word(random, &mut arena.types, arena.rows_len, any_word),
+            _ => change_word(random, &mut arena.members, arena.rows_len, member_word),
         }
     }
 }
 
-fn change_word(random: &mut Random, words: &mut [u32], rows_len: usize) {
+fn any_word(random: &mut Random, words: u32) -> u32 {
+    random.below(words)
+}
+
+/// Mostly a type or an offset: a blend source alone is number 2.
+fn member_word(random: &mut Random, words: u32) -> u32 {
+    let index = random.below(words);
+    match random.one_in(4) {
+        true => index,
+        false => index & !2,
+    }
+}
+
+fn change_word(
+    random: &mut Random,
+    words: &mut [u32],
+    rows_len: usize,
+    choose: fn(&mut Random, u32) -> u32,
+) {
     if words.is_empty() {
         return;
     }
-    let index = random.below(words.len() as u32) as usize;
+    let index = choose(random, words.len() as u32) as usize;
     let old = words[index];
     words[index] = match random.below(6) {
         0 | 1 => random.pick(&INTERESTING),

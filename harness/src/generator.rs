@@ -1,5 +1,6 @@
 //! One arena for a seed and an index: sound, damaged, or made for a number.
 
+use crate::blend;
 use crate::builder::{Builder, FLOAT};
 use crate::damage;
 use crate::random::Random;
@@ -48,6 +49,9 @@ fn small(random: &mut Random) -> Arena {
     if builder.random.one_in(12) {
         builder.far_and_empty();
     }
+    if builder.random.one_in(12) {
+        blend::structure(&mut builder);
+    }
     grown(builder, plain, composite)
 }
 
@@ -91,7 +95,8 @@ pub fn doubled(levels: u32) -> Arena {
     for level in 0..levels {
         let size = 4 << level;
         types.extend([kind::STRUCT, 2 * level, 2, 2 * size, 0, 0]);
-        members.extend([level, 0, level, size]);
+        members.extend(member(level, 0));
+        members.extend(member(level, size));
     }
     Arena {
         rows_len: ROW_WORDS * types.len() / TYPE_WORDS,
@@ -145,6 +150,10 @@ fn build(random: &mut Random, number: u32) -> (Arena, Finish) {
         0 => Finish::Nothing,
         _ => recipes::add(&mut builder, number),
     };
+    // A third of the arenas have blend sources.
+    if builder.random.one_in(3) {
+        blend::structure(&mut builder);
+    }
     for _ in 0..after {
         builder.grow();
     }
@@ -159,6 +168,7 @@ fn build(random: &mut Random, number: u32) -> (Arena, Finish) {
 /// What stands beside the records that the builder made.
 fn complete(random: &mut Random, arena: &mut Arena) {
     add_capabilities(random, arena);
+    blend::sprinkle(random, arena);
     add_unused_members(random, arena);
     arena.rows_len = ROW_WORDS * arena.type_count() + spare_words(random);
 }
@@ -199,7 +209,9 @@ fn add_capabilities(random: &mut Random, arena: &mut Arena) {
 /// Rows that no struct names may hold anything.
 fn add_unused_members(random: &mut Random, arena: &mut Arena) {
     if random.one_in(8) && arena.member_count() < MAX_MEMBERS {
-        arena.members.extend([random.word(), random.word()]);
+        arena
+            .members
+            .extend([0; MEMBER_WORDS].map(|_| random.word()));
     }
 }
 

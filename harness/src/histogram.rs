@@ -9,6 +9,7 @@ pub struct Histogram {
     notes: BTreeMap<String, u64>,
     numbers: BTreeMap<u32, u64>,
     details_of_8: BTreeMap<u32, u64>,
+    details_of_34: BTreeMap<u32, u64>,
     panic_sites: BTreeMap<String, u64>,
     accepted_kinds: BTreeMap<u32, u64>,
     most_types: usize,
@@ -24,6 +25,9 @@ impl Histogram {
         if answer[0] == 8 {
             count(&mut self.details_of_8, answer[3]);
         }
+        if answer[0] == 34 {
+            count(&mut self.details_of_34, answer[3]);
+        }
     }
 
     /// Something worth a number of its own.
@@ -36,6 +40,10 @@ impl Histogram {
 
     pub fn noted(&self, what: &str) -> u64 {
         self.notes.get(what).copied().unwrap_or(0)
+    }
+
+    pub fn answered_34(&self, detail: u32) -> u64 {
+        self.details_of_34.get(&detail).copied().unwrap_or(0)
     }
 
     pub fn answered(&self, number: u32) -> u64 {
@@ -67,7 +75,8 @@ impl Histogram {
     pub fn print(&self) {
         print_counts("answers", &self.numbers);
         print_counts("details of 8", &self.details_of_8);
-        print_counts("panics of 21", &self.panic_sites);
+        print_counts("details of 34", &self.details_of_34);
+        print_counts("panics of 21 and 34", &self.panic_sites);
         print_counts("kinds in accepted arenas", &self.accepted_kinds);
         let (types, members) = (self.most_types, self.most_members);
         if types > 0 {

@@ -17,6 +17,7 @@
 
 #[cfg(all(feature = "check", feature = "slots", feature = "place"))]
 mod bench;
+mod blend;
 #[cfg(all(feature = "slots", feature = "place", feature = "members"))]
 mod borders;
 mod builder;

@@ -14,9 +14,11 @@ fn array(base: u32, count: u32, stride: u32) -> [u32; 6] {
     [kind::ARRAY, base, 0, count, stride, 0]
 }
 
+/// Members by type and offset.
 fn check(types: &[[u32; 6]], members: &[u32], capabilities: u32) -> Result<Vec<Row>, Answer> {
     let types = types.as_flattened();
-    let outcome = reference::check(types, members, capabilities, ROW_WORDS * types.len() / 6);
+    let members = members_of_pairs(members);
+    let outcome = reference::check(types, &members, capabilities, ROW_WORDS * types.len() / 6);
     outcome.rows.ok_or(outcome.answer)
 }
 
@@ -41,7 +43,7 @@ fn m1_and_its_changes() {
 #[test]
 fn m2_slots() {
     let types = [E, V, structure(0, 2, 16)];
-    let arena = translate::arena(types.as_flattened(), &[1, 0, 0, 12]);
+    let arena = translate::arena(types.as_flattened(), &members_of_pairs(&[1, 0, 0, 12]));
     assert_eq!(slots::of_type(&arena, 2, 0), Ok([15, 0]));
 }
 
@@ -130,7 +132,7 @@ fn parts_that_share_a_slot() {
     let half = [kind::SCALAR, 2, 2, 0, 0, 0];
     let walk = |types: &[[u32; 6]], members: &[u32]| {
         assert!(check(types, members, 2).is_ok());
-        let arena = translate::arena(types.as_flattened(), members);
+        let arena = translate::arena(types.as_flattened(), &members_of_pairs(members));
         slots::of_type(&arena, types.len() as u32 - 1, 0)
     };
     let two_halves = [half, structure(0, 2, 4)];
@@ -145,7 +147,7 @@ fn places_and_parts_of_m1() {
     let runtime = [kind::ARRAY, 2, DYNAMIC, 0, 16, 0];
     let types = [E, V, structure(0, 2, 16), runtime];
     let types = types.as_flattened();
-    let rows = [1, 0, 0, 12];
+    let rows = members_of_pairs(&[1, 0, 0, 12]);
     let place = |start, steps: &[u32]| place::of(types, &rows, start, steps);
     assert_eq!(place(2, &[0]), Some((0, 1)));
     assert_eq!(place(2, &[1]), Some((12, 0)));
@@ -158,8 +160,8 @@ fn places_and_parts_of_m1() {
         assert_eq!(place(start, steps), None);
     }
     let part = |number| members::part(types, &rows, number);
-    assert_eq!([part(2), part(1), part(4)], [[0, 4], [0, 0], [0, 0]]);
-    assert_eq!(members::part(types, &rows[..3], 2), [0, 0]);
+    assert_eq!([part(2), part(1), part(4)], [[0, 8], [0, 0], [0, 0]]);
+    assert_eq!(members::part(types, &rows[..7], 2), [0, 0]);
 }
 
 /// E6 of 02: a matrix takes one step more, its column.
@@ -176,7 +178,7 @@ fn places_of_columns() {
         array(3, 2, 80),
     ];
     let types = types.as_flattened();
-    let members = [1, 0, 0, 32];
+    let members = members_of_pairs(&[1, 0, 0, 32]);
     let place = |start, steps: &[u32]| place::of(types, &members, start, steps);
     assert_eq!(
         [0, 1, 2].map(|s| place(0, &[s])),

@@ -12,7 +12,7 @@ const MOST_STEPS: usize = 64;
 const MOST_WORDS: usize = 200;
 const RARELY: u32 = 50;
 /// The words of the program's buffers.
-const LONGEST: (usize, usize, usize) = (6200, 8200, ROW_WORDS * MAX_TYPES);
+const LONGEST: (usize, usize, usize) = (6200, 16400, ROW_WORDS * MAX_TYPES);
 
 /// Writes `stdin`, and in `stdout` how many arenas the reference accepts.
 pub fn member_records(count: u64, seed: u64, folder: &str) -> bool {
@@ -51,7 +51,7 @@ fn arena(seed: u64, index: u64, random: &mut Random) -> Arena {
     arena
 }
 
-/// Words that are not whole pairs are not a run of records.
+/// Words that are not whole rows are not a run of records.
 fn fits(arena: &Arena, random: &mut Random) -> bool {
     let large = random.one_in(RARELY) || arena.members.len() >= (MAX_MEMBERS - 1) * MEMBER_WORDS;
     let small = arena.types.len() <= MOST_WORDS && arena.members.len() <= MOST_WORDS;

@@ -5,8 +5,8 @@ use crate::panics::caught;
 use crate::records::*;
 use crate::{tables, translate};
 use naga::proc::{LayoutError, LayoutErrorInner};
-use naga::valid::WidthError;
 use naga::valid::{Capabilities, Disalignment, TypeError, TypeFlags, ValidationFlags, Validator};
+use naga::valid::{VaryingError, WidthError};
 use naga::{Handle, Type, TypeInner, UniqueArena};
 
 pub struct LayoutOutcome {
@@ -20,7 +20,7 @@ pub struct Outcome {
     pub rows: Option<Vec<Row>>,
     /// The arena, if it is accepted: only then may it be walked.
     pub arena: Option<UniqueArena<Type>>,
-    /// Where the Rust panicked, for number 21.
+    /// Where the Rust panicked, for number 21, and for 34 where it asserts.
     pub panic_site: Option<String>,
 }
 
@@ -74,6 +74,7 @@ const CAPABILITIES: [Capabilities; CAPABILITY_BITS as usize] = [
     Capabilities::RAY_QUERY,
     Capabilities::RAY_TRACING_PIPELINE,
     Capabilities::RAY_HIT_VERTEX_POSITION,
+    Capabilities::DUAL_SOURCE_BLENDING,
 ];
 
 /// 01's flag bits, by the names that the Rust gives them; its own bits differ.
@@ -173,6 +174,13 @@ struct Failure {
     panic_site: Option<String>,
 }
 
+impl Failure {
+    /// Details 3 to 6 of number 34 come after every member.
+    fn is_after_the_members(&self) -> bool {
+        self.number == 34 && self.detail >= 3
+    }
+}
+
 enum Member {
     /// The failure tells it, or has none.
     Known(u32),
@@ -196,7 +204,7 @@ impl Judge {
         (0..self.types.len() as u32).map(naga::handle_of)
     }
 
-    /// Numbers 8 to 24.
+    /// Numbers 8 to 24 and 34.
     fn judge_all(&mut self) -> Result<(), Refusal> {
         for handle in self.handles() {
             let result = caught(|| self.validator.judge_and_keep(&self.types, handle));
@@ -229,7 +237,8 @@ impl Judge {
     /// before the failing one have passed, and leaving out later ones only
     /// makes the unsized rule (20) milder; so a prefix passes exactly if it
     /// ends before the failing member, and the shortest that fails ends with
-    /// it. Number 20 itself is not looked for in this way.
+    /// it. Number 20 itself is not looked for in this way. What a prefix lacks
+    /// of its blend sources is told after its last member: it has passed.
     fn failing_member(&mut self, handle: Handle<Type>, number: u32) -> u32 {
         let TypeInner::Struct { ref members, span } = self.types[handle].inner else {
             return 0;
@@ -244,6 +253,7 @@ impl Judge {
             self.types.replace(handle, Type { name, inner });
             match failure_of(caught(|| self.validator.judge(&self.types, handle))) {
                 None => passing = middle,
+                Some(failure) if failure.is_after_the_members() => passing = middle,
                 Some(failure) => {
                     assert_eq!(failure.number, number);
                     failing = middle;
@@ -295,6 +305,13 @@ fn failure_of(result: Result<Result<(), TypeError>, String>) -> Option<Failure> 
     match result {
         Ok(Ok(())) => None,
         Ok(Err(error)) => Some(type_failure(error)),
+        // `non_struct_equivalent` asserts that not both are structs; E9 of 02: they count as detail 4.
+        Err(site) if site.starts_with(ASSERTION_FILE) => Some(Failure {
+            number: 34,
+            member: Member::Known(0),
+            detail: 4,
+            panic_site: Some(site),
+        }),
         Err(site) => Some(Failure {
             number: 21,
             member: Member::Unknown,
@@ -324,12 +341,12 @@ fn type_failure(error: TypeError) -> Failure {
         TypeError::MemberOutOfBounds { index, .. } => (19, Member::Known(index), 0),
         // A member's name is its position.
         TypeError::InvalidDynamicArray(name, _) => (20, Member::Known(name.parse().unwrap()), 0),
+        TypeError::InvalidBlendSrc(error) => (34, none, blend_detail(error)),
         TypeError::UnsupportedImageType { .. } => (22, none, 0),
         TypeError::BindingArrayBaseTypeNotStruct(_) => (23, none, 0),
         TypeError::BindingArrayBaseExternalTextures => (24, none, 0),
         TypeError::UnsupportedSpecializedArrayLength(_)
         | TypeError::InvalidArrayStride { .. }
-        | TypeError::InvalidBlendSrc(_)
         | TypeError::UnresolvedOverride(_)
         | TypeError::InvalidArraySize(_) => unreachable!("left out of 01: {error:?}"),
     };
@@ -338,6 +355,19 @@ fn type_failure(error: TypeError) -> Failure {
         member,
         detail,
         panic_site: None,
+    }
+}
+
+/// E9 of 02: bad index, collision, other locations, types differ, not
+/// IO-shareable, one source missing.
+fn blend_detail(error: VaryingError) -> u32 {
+    match error {
+        VaryingError::InvalidBlendSrcIndex { .. } => 1,
+        VaryingError::BindingCollisionBlendSrc { .. } => 2,
+        VaryingError::InvalidBlendSrcWithOtherBindings { .. } => 3,
+        VaryingError::BlendSrcOutputTypeMismatch { .. } => 4,
+        VaryingError::NotIOShareableType(_) => 5,
+        VaryingError::IncompleteBlendSrcUsage { .. } => 6,
     }
 }
 
@@ -356,6 +386,9 @@ fn bit_of_flag(flag: &str) -> u32 {
         other => unreachable!("flag {other}"),
     }
 }
+
+/// The file of `non_struct_equivalent`; no sum of number 21 stands in it.
+const ASSERTION_FILE: &str = "type_methods.rs:";
 
 type Verdict = Result<naga::proc::Alignment, (Handle<Type>, Disalignment)>;
 

@@ -19,8 +19,12 @@ const WANTED: [u32; 40] = [
     0, 1, 2, 3, 0, 4, 5, 0, 6, 7, 8, 0, 9, 10, 0, 11, 12, 8, 0, 13, 14, 0, 15, 16, 0, 17, 18, 0,
     19, 20, 0, 21, 8, 0, 22, 23, 0, 24, 21, 0,
 ];
+/// Then come six for number 34, one for each detail.
+const DETAILS_OF_34: u32 = 6;
 const LEAST_OF_1_TO_24: u64 = 40;
 const LEAST_OF_25_AND_26: u64 = 100;
+/// Of each detail.
+const LEAST_OF_34: u64 = 15;
 /// How large the arenas are, but for one in `RARELY`.
 const MOST_TYPES: usize = 12;
 const MOST_MEMBERS: usize = 24;
@@ -47,8 +51,7 @@ pub fn replay(count: u64, seed: u64, paths: &[String]) -> bool {
     let full = full_arenas(seed);
     let mut next = 0;
     for turn in 0..count.saturating_sub(full.len() as u64) {
-        let wanted = WANTED[turn as usize % WANTED.len()];
-        let (arena, index) = pick(seed, next, wanted);
+        let (arena, index) = pick(seed, next, wanted(turn));
         write_case(&mut script, &arena, &mut Random::new(!seed, index));
         next = index + 1;
     }
@@ -73,7 +76,8 @@ fn head(script: &mut Script, count: u64, seed: u64) {
         "checks; numbers 1 to 3, place and members by the harness's reading of 01,",
         "the second mask of slots and range by its reading of 02, over bytes.",
         "The port is not called.",
-        "A place in a matrix is that of a column, by E6 of 02.",
+        "A place in a matrix is that of a column, by E6 of 02; the last two words of a",
+        "member are location and blend source, plus one, by E9.",
         "After COUNT arenas come those of harness/src/borders.rs; the answers of its",
         "list by sentences of 01 are also written there by hand.",
     ];
@@ -94,8 +98,17 @@ fn full_arenas(seed: u64) -> Vec<Arena> {
     arenas
 }
 
+/// The number that an arena is picked for, and its detail, if that counts.
+fn wanted(turn: u64) -> (u32, Option<u32>) {
+    let at = turn as usize % (WANTED.len() + DETAILS_OF_34 as usize);
+    match WANTED.get(at) {
+        Some(&number) => (number, None),
+        None => (34, Some((at - WANTED.len()) as u32 + 1)),
+    }
+}
+
 /// The next arena that gets the wanted answer, with its index.
-fn pick(seed: u64, from: u64, wanted: u32) -> (Arena, u64) {
+fn pick(seed: u64, from: u64, (number, detail): (u32, Option<u32>)) -> (Arena, u64) {
     for index in from.. {
         let mut arena = match index % 3 {
             0 => generator::mostly_sound(seed, index),
@@ -105,7 +118,8 @@ fn pick(seed: u64, from: u64, wanted: u32) -> (Arena, u64) {
         if !can_be_written(&arena) || !is_small(&arena, index) {
             continue;
         }
-        if print::reference_of(&arena).answer[0] == wanted {
+        let answer = print::reference_of(&arena).answer;
+        if answer[0] == number && detail.is_none_or(|detail| answer[3] == detail) {
             return (arena, index);
         }
     }
@@ -194,8 +208,14 @@ fn write_tables(script: &mut Script, arena: &Arena, random: &mut Random) {
 
 fn write_members(script: &mut Script, arena: &Arena) {
     for row in arena.members.chunks_exact(MEMBER_WORDS) {
-        script.command("member", row);
+        script.command("member", shortened_row(row));
     }
+}
+
+/// Without the location and the source that are left off; type and offset stay.
+fn shortened_row(row: &[u32]) -> &[u32] {
+    let last = row.iter().rposition(|&word| word != 0).unwrap_or(0);
+    &row[..=last.max(1)]
 }
 
 /// Without the zeroes at the end; the kind stays.
@@ -313,15 +333,23 @@ fn save(script: &Script, paths: &[String]) {
 }
 
 fn enough(histogram: &Histogram) -> bool {
-    (1..=NO_SUCH).all(|number| {
-        let least = match number {
-            slots::PAST_THE_SLOTS | NO_SUCH => LEAST_OF_25_AND_26,
-            _ => LEAST_OF_1_TO_24,
-        };
-        let enough = histogram.answered(number) >= least;
+    let details = (1..=DETAILS_OF_34).all(|detail| {
+        let enough = histogram.answered_34(detail) >= LEAST_OF_34;
         if !enough {
-            println!("number {number} occurs too seldom");
+            println!("detail {detail} of 34 occurs too seldom");
         }
         enough
-    })
+    });
+    details
+        && (1..=NO_SUCH).all(|number| {
+            let least = match number {
+                slots::PAST_THE_SLOTS | NO_SUCH => LEAST_OF_25_AND_26,
+                _ => LEAST_OF_1_TO_24,
+            };
+            let enough = histogram.answered(number) >= least;
+            if !enough {
+                println!("number {number} occurs too seldom");
+            }
+            enough
+        })
 }

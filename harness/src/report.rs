@@ -240,11 +240,11 @@ mod tests {
         [kind::ARRAY, base, form, count, stride, 0]
     }
 
-    /// The refusal, or the totals and the words of each type.
+    /// The refusal, or the totals and the words of each type. Members by type and offset.
     fn report(types: &[[u32; 6]], members: &[u32]) -> Result<(Vec<u64>, Vec<Counts>), Answer> {
         let arena = Arena {
             types: types.as_flattened().to_vec(),
-            members: members.to_vec(),
+            members: members_of_pairs(members),
             capabilities: 0,
             rows_len: ROW_WORDS * types.len(),
         };

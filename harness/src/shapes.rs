@@ -13,7 +13,7 @@ const FOUR_F32: Record = [kind::ARRAY, 0, CONSTANT, 4, 4, 0];
 const RUNTIME_F32: Record = [kind::ARRAY, 0, DYNAMIC, 0, 4, 0];
 /// Its member is the first row of the table.
 const STRUCT_OF_F32: Record = [kind::STRUCT, 0, 1, 4, 0, 0];
-const F32_AT_0: MemberRow = [0, 0];
+const F32_AT_0: MemberRow = member(0, 0);
 /// How many small structs a table has beside the two types before them.
 const STRUCTS: usize = MAX_TYPES - 2;
 const SEED: u64 = 1;
@@ -35,15 +35,25 @@ pub fn all() -> Vec<(&'static str, Arena)> {
         ),
         (
             "1022 structs {struct{f32}, f32 at 4, f32 at 8}",
-            small_structs(STRUCT_OF_F32, &[F32_AT_0], &[[1, 0], [0, 4], [0, 8]], 12),
+            small_structs(
+                STRUCT_OF_F32,
+                &[F32_AT_0],
+                &[member(1, 0), member(0, 4), member(0, 8)],
+                12,
+            ),
         ),
         (
             "1022 structs {f32, array<f32>}",
-            small_structs(RUNTIME_F32, &[], &[F32_AT_0, [1, 4]], 8),
+            small_structs(RUNTIME_F32, &[], &[F32_AT_0, member(1, 4)], 8),
         ),
         (
             "1022 structs of 4 f32",
-            small_structs(F32, &[], &[F32_AT_0, [0, 4], [0, 8], [0, 12]], 16),
+            small_structs(
+                F32,
+                &[],
+                &[F32_AT_0, member(0, 4), member(0, 8), member(0, 12)],
+                16,
+            ),
         ),
         ("plain kinds only, mixed", plain_types()),
         (
@@ -58,9 +68,9 @@ pub fn all() -> Vec<(&'static str, Arena)> {
 /// at offset 0, then one f32 after the other from `next` on.
 fn large_struct(first: Record, rows_of_first: &[MemberRow], next: u32) -> Arena {
     let mut rows = rows_of_first.to_vec();
-    rows.push([1, 0]);
+    rows.push(member(1, 0));
     let left = (MAX_MEMBERS - rows.len()) as u32;
-    rows.extend((0..left).map(|number| [0, next + 4 * number]));
+    rows.extend((0..left).map(|number| member(0, next + 4 * number)));
     let start = rows_of_first.len() as u32;
     let record = [kind::STRUCT, start, left + 1, next + 4 * left, 0, 0];
     sized::accepted_arena(vec![F32, first, record], rows)

@@ -56,7 +56,7 @@ pub fn one_struct(members: usize) -> Arena {
         let ty = number % MEMBER_TYPES.len();
         let place = round_up(16, u64::from(offset)) as u32;
         offset = place + MEMBER_SIZES[ty];
-        [ty as u32, place]
+        member(ty as u32, place)
     };
     struct_of((0..members).map(row).collect())
 }
@@ -64,7 +64,7 @@ pub fn one_struct(members: usize) -> Arena {
 /// One struct with so many members, which lie over the 256 bytes of the slots
 /// again and again, so that its walk is accepted.
 pub fn one_struct_in_slots(members: usize) -> Arena {
-    let row = |number: usize| [0, 4 * (number as u32 % 64)];
+    let row = |number: usize| member(0, 4 * (number as u32 % 64));
     struct_of((0..members).map(row).collect())
 }
 

@@ -1,4 +1,4 @@
-//! Numbers 1 to 3, which the Rust does not know: read from 01 alone.
+//! Numbers 1 to 3, which the Rust does not know: read from 01, and E9 of 02, alone.
 
 use crate::records::*;
 
@@ -15,13 +15,13 @@ pub fn capabilities_are_wrong(capabilities: u32) -> bool {
     capabilities >> CAPABILITY_BITS != 0
 }
 
-/// The first record with a field outside its set (2) or a base outside the
-/// arena (3).
+/// The first record with a field outside its set or a blend source without a
+/// location (2), or a base outside the arena (3).
 pub fn first_bad_record(types: &[u32], members: &[u32]) -> Option<Answer> {
     let type_count = (types.len() / TYPE_WORDS) as u32;
     let member_count = (members.len() / MEMBER_WORDS) as u64;
     for (number, record) in types.chunks_exact(TYPE_WORDS).enumerate() {
-        if !fields_are_in_their_sets(record, member_count) {
+        if !fields_are_in_their_sets(record, member_count) || has_source_alone(record, members) {
             return Some([2, number as u32, 0, 0]);
         }
         if matches!(record[0], kind::POINTER | kind::BINDING_ARRAY) && record[1] >= type_count {
@@ -29,6 +29,13 @@ pub fn first_bad_record(types: &[u32], members: &[u32]) -> Option<Answer> {
         }
     }
     None
+}
+
+/// E9 of 02: a blend source requires a location; a struct's record without it is number 2.
+fn has_source_alone(record: &[u32], members: &[u32]) -> bool {
+    let (first, count) = (record[1] as usize, record[2] as usize);
+    let mut rows = members.chunks_exact(MEMBER_WORDS).skip(first).take(count);
+    record[0] == kind::STRUCT && rows.any(|row| row[3] != 0 && row[2] == 0)
 }
 
 fn fields_are_in_their_sets(record: &[u32], member_count: u64) -> bool {

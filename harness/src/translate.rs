@@ -3,9 +3,9 @@
 
 use crate::records::*;
 use naga::{
-    AddressSpace, ArraySize, CooperativeRole, CooperativeSize, ImageClass, ImageDimension, Scalar,
-    ScalarKind, Span, StorageAccess, StorageFormat, StructMember, Type, TypeInner, UniqueArena,
-    VectorSize,
+    AddressSpace, ArraySize, Binding, CooperativeRole, CooperativeSize, ImageClass, ImageDimension,
+    Scalar, ScalarKind, Span, StorageAccess, StorageFormat, StructMember, Type, TypeInner,
+    UniqueArena, VectorSize,
 };
 use std::num::NonZeroU32;
 
@@ -86,10 +86,22 @@ fn struct_members(first: usize, count: usize, members: &[u32]) -> Vec<StructMemb
     rows.map(|(position, row)| StructMember {
         name: Some(position.to_string()),
         ty: naga::handle_of(row[0]),
-        binding: None,
+        binding: binding(row[2], row[3]),
         offset: row[1],
     })
     .collect()
+}
+
+/// Location and blend source are stored as value plus one, 0 for none. What
+/// else a location carries is not in the record, and no rule asks for it.
+fn binding(location: u32, source: u32) -> Option<Binding> {
+    Some(Binding::Location {
+        location: location.checked_sub(1)?,
+        interpolation: None,
+        sampling: None,
+        blend_src: source.checked_sub(1),
+        per_primitive: false,
+    })
 }
 
 fn scalar(kind: u32, width: u32) -> Scalar {

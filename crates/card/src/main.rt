@@ -17,7 +17,7 @@ fn print_row(rows: &[u32], i: u32) {
 // f32; vec3 of f32; a struct of the two with span 16.
 fn main() {
     let types = [0u32, 2, 4, 0, 0, 0, 1, 3, 2, 4, 0, 0, 8, 0, 2, 16, 0, 0];
-    let members = [1u32, 0, 0, 12];
+    let members = [1u32, 0, 0, 0, 0, 12, 0, 0];
     let mut rows = [0u32; 14336];
     valid::check(&types, &members, 0, &mut rows);
     print_row(&rows, 0);

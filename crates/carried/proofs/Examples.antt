@@ -13,7 +13,7 @@ use Rattle.carried.specs.Carried.{inLeafOf, carried, wasted, narrowOf, n
 matrix : List ℕ
 matrix = 2 ∷ 3 ∷ 3 ∷ 2 ∷ 4 ∷ 0 ∷ 8 ∷ 0 ∷ 1 ∷ 48 ∷ 0 ∷ 0 ∷ []
 
-of-matrix : (carried (decoded matrix (0 ∷ 0 ∷ [])) 1 ≡ 36) × (wasted (decoded matrix (0 ∷ 0 ∷ [])) 1 ≡ 12)
+of-matrix : (carried (decoded matrix (0 ∷ 0 ∷ 0 ∷ 0 ∷ [])) 1 ≡ 36) × (wasted (decoded matrix (0 ∷ 0 ∷ 0 ∷ 0 ∷ [])) 1 ≡ 12)
 unfolding matrix carried wasted count some inLeafOf valueAt typeInner innerOf structMembers
 of-matrix = (refl, refl)
 
@@ -21,7 +21,7 @@ of-matrix = (refl, refl)
 spaced : List ℕ
 spaced = 0 ∷ 2 ∷ 4 ∷ 0 ∷ 0 ∷ 0 ∷ 7 ∷ 0 ∷ 0 ∷ 2 ∷ 8 ∷ 0 ∷ 8 ∷ 0 ∷ 1 ∷ 16 ∷ 0 ∷ 0 ∷ []
 
-of-spaced : (carried (decoded spaced (1 ∷ 0 ∷ [])) 2 ≡ 8) × (wasted (decoded spaced (1 ∷ 0 ∷ [])) 2 ≡ 8)
+of-spaced : (carried (decoded spaced (1 ∷ 0 ∷ 0 ∷ 0 ∷ [])) 2 ≡ 8) × (wasted (decoded spaced (1 ∷ 0 ∷ 0 ∷ 0 ∷ [])) 2 ≡ 8)
 unfolding spaced carried wasted count some inLeafOf valueAt typeInner innerOf structMembers
 of-spaced = (refl, refl)
 
@@ -29,7 +29,7 @@ of-spaced = (refl, refl)
 tail : List ℕ
 tail = 0 ∷ 2 ∷ 4 ∷ 0 ∷ 0 ∷ 0 ∷ 7 ∷ 0 ∷ 1 ∷ 0 ∷ 8 ∷ 0 ∷ 8 ∷ 0 ∷ 2 ∷ 24 ∷ 0 ∷ 0 ∷ []
 
-of-tail : (carried (decoded tail (0 ∷ 0 ∷ 1 ∷ 8 ∷ [])) 2 ≡ 8) × (wasted (decoded tail (0 ∷ 0 ∷ 1 ∷ 8 ∷ [])) 2 ≡ 16)
+of-tail : (carried (decoded tail (0 ∷ 0 ∷ 0 ∷ 0 ∷ 1 ∷ 8 ∷ 0 ∷ 0 ∷ [])) 2 ≡ 8) × (wasted (decoded tail (0 ∷ 0 ∷ 0 ∷ 0 ∷ 1 ∷ 8 ∷ 0 ∷ 0 ∷ [])) 2 ≡ 16)
 unfolding tail carried wasted count some inLeafOf valueAt typeInner innerOf structMembers
 of-tail = (refl, refl)
 
@@ -37,6 +37,6 @@ of-tail = (refl, refl)
 strideless : List ℕ
 strideless = 0 ∷ 2 ∷ 4 ∷ 0 ∷ 0 ∷ 0 ∷ 7 ∷ 0 ∷ 0 ∷ 1 ∷ 0 ∷ 0 ∷ 8 ∷ 0 ∷ 1 ∷ 4 ∷ 0 ∷ 0 ∷ []
 
-of-strideless : narrow (decoded strideless (1 ∷ 0 ∷ [])) 2 ≡ true
+of-strideless : narrow (decoded strideless (1 ∷ 0 ∷ 0 ∷ 0 ∷ [])) 2 ≡ true
 unfolding strideless narrowOf some valueAt typeInner innerOf structMembers
 of-strideless = refl

@@ -149,7 +149,7 @@ module _ (c : ℕ) (types : ℕ → Decoded) (n : ℕ) (acc : AcceptedTypes c ty
   unfolding inLeafOf
   carried-struct t l v o members span e =
       let part = types t .members in
-      let shareable = rw (struct-row c types n acc t l members span e .flags) at o in
+      let shareable = rw (struct-row c types n acc t l members span e .flags hostShareableBit refl) at o in
       let b = member-earlier c types n acc t l members span e in
       let size : (j : ℕ) → j < members → row c types (memberType part j) .size ≡ sizeIn (memberType part j) =
       λ j q. size-of (memberType part j) (omega (arith, b j q)) (types (memberType part j) .inner) refl in

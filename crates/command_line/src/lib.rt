@@ -20,12 +20,13 @@ fn put_help() {
         b"inspect answers the commands on standard input, one to a line. Numbers are decimal; # starts a comment.
   caps N              sets the capability word
   type K W1 .. W5     appends a type; words left off are 0
-  member TYPE OFFSET  appends a member row
+  member TYPE OFFSET [LOCATION [SOURCE]]
+                      appends a member row; location and blend source as value plus one, 0 for none
   clear               empties the arena, capability word 0
   layout              ok, and a line for each type: its number, size, alignment and zeros
   judge               ok, and a line for each type: its number and its row, whatever the rows hold
   check               lays out, then judges: the same
-  members T           members T0 O0 T1 O1 ..
+  members T           members, and four words a row: type, offset, location, blend source
   slots T OFFSET      slots TOUCHED PARTLY, two masks
   range OFFSET SIZE   the same
   place T S1 .. Sk    place BYTE TYPE

@@ -9,7 +9,7 @@ ghost use lib.ListN.{length};
 // The arena is one run of words: the types from its start on, the members from here on.
 pub const MEMBERS_AT: usize = 6144;
 
-pub const ARENA_WORDS: usize = 14336;
+pub const ARENA_WORDS: usize = 22528;
 
 pub type Arena = [u32; ARENA_WORDS];
 
@@ -62,7 +62,7 @@ pub fn part(words: &[u32], start: usize, end: usize) -> &[u32] {
 
 // Adds a record at `at` in the table that ends at `limit`.
 fn add(mut s: Session, arena: &mut Arena, at: usize, limit: usize, words: &[u32]) -> Session
-    requires { ⌜ (length (now words) ≤ limit) × (limit ≤ 14336) ⌝ }
+    requires { ⌜ (length (now words) ≤ limit) × (limit ≤ 22528) ⌝ }
 {
     if limit - words.len() < at {
         s.why = if limit == MEMBERS_AT {
@@ -127,8 +127,19 @@ pub fn change(line: Line, mut s: Session, arena: &mut Arena) -> Session {
         } => {
             s = add(s, arena, s.types, MEMBERS_AT, &[kind, a, b, c, d, e]);
         }
-        Line::MemberRecord { ty, offset } => {
-            s = add(s, arena, s.members, ARENA_WORDS, &[ty, offset]);
+        Line::MemberRecord {
+            ty,
+            offset,
+            location,
+            source,
+        } => {
+            s = add(
+                s,
+                arena,
+                s.members,
+                ARENA_WORDS,
+                &[ty, offset, location, source],
+            );
         }
         Line::Pass => {
             s.pass = immediates_pass::start();

@@ -11,7 +11,7 @@ ghost use mathlib.Core.List.{_∷_};
 ghost use Prim.Native.Nat.{_*_, _≤_};
 ghost use lib.Dec.{eqb};
 ghost use Rattle.records.specs.Result.{pick};
-ghost use Rattle.records.specs.Record.{typeWord};
+ghost use Rattle.records.specs.Record.{typeWord, memberWords};
 ghost use Rattle.records.specs.declared.Outcome.the-variants.{Refused};
 ghost use lib.ListN.{length, drop};
 ghost use Rattle.layouter.specs.Layouter.{layoutAnswer, layoutWords};
@@ -581,10 +581,10 @@ pub extern "C" fn wuldazin_members(types: &[u32], members: &[u32], ty: u32, part
 }
 
 fn part_start(types: &[u32], ty: u32, count: usize) -> u64
-    ensures { λ r. ⌜ r ≡ pick (eqb count 0) 0 (typeWord (now (types .entry)) ty 1 * 2) ⌝ }
+    ensures { λ r. ⌜ r ≡ pick (eqb count 0) 0 (typeWord (now (types .entry)) ty 1 * memberWords) ⌝ }
 {
     if count == 0 {
         return 0;
     }
-    (records::type_word(types, ty, 1) as u64) * 2
+    (records::type_word(types, ty, 1) as u64) * (records::MEMBER_WORDS as u64)
 }

@@ -79,7 +79,7 @@ pub fn count(name: &[u8], words: &[u32], n: u32) {
 // M1 of 01: E, V, S{V at 0, E at 12} span 16.
 pub const TYPES: [u32; 18] = [0, 2, 4, 0, 0, 0, 1, 3, 2, 4, 0, 0, 8, 0, 2, 16, 0, 0];
 
-pub const MEMBERS: [u32; 4] = [1, 0, 0, 12];
+pub const MEMBERS: [u32; 8] = [1, 0, 0, 0, 0, 12, 0, 0];
 
 // The first n words; none where there are fewer.
 fn first(words: &[u32], n: usize) -> &[u32] {

@@ -22,7 +22,7 @@ fn fields() {
     refuse(
         2,
         &[0, 2, 4, 0, 0, 0, 8, 4294967295, 1, 4, 0, 0],
-        &[0, 0],
+        &[0, 0, 0, 0],
         0,
     );
     // "pointer or binding-array base outside the arena"
@@ -36,7 +36,12 @@ fn layouts() {
     // "array element not an earlier type"
     refuse_types(5, &[7, 0, 0, 1, 4, 0], 0);
     // "member not an earlier type": the second member
-    refuse(6, &[0, 2, 4, 0, 0, 0, 8, 0, 2, 8, 0, 0], &[0, 0, 1, 4], 0);
+    refuse(
+        6,
+        &[0, 2, 4, 0, 0, 0, 8, 0, 2, 8, 0, 0],
+        &[0, 0, 0, 0, 1, 4, 0, 0],
+        0,
+    );
     // "width no power of two"
     refuse_types(7, &[0, 2, 3, 0, 0, 0], 0);
 }
@@ -84,21 +89,21 @@ fn members() {
     refuse(
         17,
         &[0, 2, 4, 0, 0, 0, 10, 0, 0, 0, 0, 0, 8, 0, 2, 8, 0, 0],
-        &[0, 0, 1, 4],
+        &[0, 0, 0, 0, 1, 4, 0, 0],
         0,
     );
     // "member overlap": M4, E at 8
     refuse(
         18,
         &[0, 2, 4, 0, 0, 0, 1, 3, 2, 4, 0, 0, 8, 0, 2, 16, 0, 0],
-        &[1, 0, 0, 8],
+        &[1, 0, 0, 0, 0, 8, 0, 0],
         0,
     );
     // "member out of bounds": M6, span 15
     refuse(
         19,
         &[0, 2, 4, 0, 0, 0, 1, 3, 2, 4, 0, 0, 8, 0, 2, 15, 0, 0],
-        &[1, 0, 0, 12],
+        &[1, 0, 0, 0, 0, 12, 0, 0],
         0,
     );
 }
@@ -108,14 +113,14 @@ fn last_members() {
     refuse(
         20,
         &[0, 2, 4, 0, 0, 0, 7, 0, 1, 0, 4, 0, 8, 0, 2, 8, 0, 0],
-        &[1, 0, 0, 4],
+        &[1, 0, 0, 0, 0, 4, 0, 0],
         0,
     );
     // "a struct sum above 4,294,967,295 or difference below 0": M10, E at 0, S{E} at 16, E at 0
     refuse(
         21,
         &[0, 2, 4, 0, 0, 0, 8, 0, 1, 4, 0, 0, 8, 1, 3, 32, 0, 0],
-        &[0, 0, 0, 0, 1, 16, 0, 0],
+        &[0, 0, 0, 0, 0, 0, 0, 0, 1, 16, 0, 0, 0, 0, 0, 0],
         0,
     );
 }
@@ -129,6 +134,53 @@ fn images() {
     refuse_types(24, &[9, 1, 0, 2, 0, 0, 13, 0, 0, 1, 0, 0], 512);
 }
 
+// E9 of 02: "34, blend source refused, detail 1 to 6: bad index, collision, other locations, types differ, not IO-shareable, one source
+// missing". Location 0 is stored as 1, sources 0 and 1 as 1 and 2; 8192 is DUAL_SOURCE_BLENDING.
+fn blend_members() {
+    let types = [0, 2, 4, 0, 0, 0, 8, 0, 2, 16, 0, 0];
+    // location 1
+    refuse(34, &types, &[0, 0, 0, 0, 0, 4, 2, 1], 8192);
+    // source 2
+    refuse(34, &types, &[0, 0, 0, 0, 0, 4, 1, 3], 8192);
+    // source 0 twice
+    refuse(34, &types, &[0, 0, 1, 1, 0, 4, 1, 1], 8192);
+    // "Capability bit 13 is DUAL_SOURCE_BLENDING"
+    refuse(8, &types, &[0, 0, 0, 0, 0, 4, 1, 1], 8191);
+    // "A blend source requires a location; a struct's record without it is number 2."
+    refuse(2, &types, &[0, 0, 0, 0, 0, 4, 0, 1], 8192);
+}
+
+fn blend_structs() {
+    // both sources, and location 2 beside them
+    refuse(
+        34,
+        &[0, 2, 4, 0, 0, 0, 8, 0, 3, 16, 0, 0],
+        &[0, 0, 1, 1, 0, 4, 1, 2, 0, 8, 3, 0],
+        8192,
+    );
+    // f32 and u32
+    refuse(
+        34,
+        &[0, 2, 4, 0, 0, 0, 0, 1, 4, 0, 0, 0, 8, 0, 2, 8, 0, 0],
+        &[0, 0, 1, 1, 1, 4, 1, 2],
+        8192,
+    );
+    // two bools
+    refuse(
+        34,
+        &[0, 3, 1, 0, 0, 0, 8, 0, 2, 2, 0, 0],
+        &[0, 0, 1, 1, 0, 1, 1, 2],
+        8192,
+    );
+    // source 1 alone
+    refuse(
+        34,
+        &[0, 2, 4, 0, 0, 0, 8, 0, 2, 16, 0, 0],
+        &[0, 0, 1, 2, 0, 4, 0, 0],
+        8192,
+    );
+}
+
 pub fn run() {
     fields();
     layouts();
@@ -138,4 +190,6 @@ pub fn run() {
     members();
     last_members();
     images();
+    blend_members();
+    blend_structs();
 }

@@ -37,7 +37,7 @@ use Rattle.member_words.proofs.fit as fit
 use Rattle.member_words.proofs.words_of as words
 
 abbrev pub Words : RattleType
-Words = Array u32 8194
+Words = Array u32 16388
 
 module _ {M : Type 1} (𝓤 : URA M) (H : Heap 𝓤) (A : Atoms 𝓤) (mem : Memory → SProp 𝓤) (run : Routine → Fun 𝓤) where
   abbrev pub Fit : Contract 𝓤
@@ -50,7 +50,7 @@ abbrev pub fitted : ℕ → ℕ → Type 0
 fitted n r = r ≡ choose (leb n 4097) n 4097
 
 abbrev pub copied : List Member → ℕ → List ℕ → Type 0
-copied ms r ws = take (r * 2) ws ≡ flat (take r ms)
+copied ms r ws = take (r * 4) ws ≡ flat (take r ms)
 
 module _ {M : Type 1} (𝓤 : URA M) (H : Heap 𝓤) (A : Atoms 𝓤) (W : Given 𝓤 H A) (mem : Memory → SProp 𝓤) (run : Routine → Fun 𝓤) (κ : Lft) (q : Share) (x : RefT (List Member)) (room : Room T.the-row (length (x .now))) where
   abbrev n : ℕ

@@ -1,4 +1,4 @@
--- The word core refuses more than 8,192 member words with number 1, and leaves the rows as they were.
+-- The word core refuses more than 16,384 member words with number 1, and leaves the rows as they were.
 -- Assumes nothing.
 use mathlib.Core.Path.{_≡_}
 use mathlib.Core.Bool.{Bool, false, and-false}
@@ -15,11 +15,11 @@ use Rattle.place.specs.declared.PlaceAnswer.the-variants as place
 use Rattle.slots.specs.declared.SlotsAnswer.the-variants as slots
 use Rattle.immediates.specs.Immediates.{slotsAnswer}
 
-module _ (c : ℕ) (ts rows ms : List ℕ) (long : 8192 < length ms) where
+module _ (c : ℕ) (ts rows ms : List ℕ) (long : 16384 < length ms) where
   unfits : arenaFits c ts ms rows ≡ false
   unfolding tablesFit
   unfits =
-      let many : leb (length ms) 8192 ≡ false = lt-leb (length ms) 8192 long in
+      let many : leb (length ms) 16384 ≡ false = lt-leb (length ms) 16384 long in
       simp (many, and-false)
 
   pub answer-refuses : arenaAnswer c ts ms rows ≡ outcome.Refused 1 0 0 0

@@ -6,6 +6,7 @@ use slots::SlotsAnswer;
 ghost use mathlib.Core.Path.{_≡_};
 ghost use Prim.Native.Nat.{_*_, _≤_};
 ghost use lib.ListN.{take};
+ghost use Rattle.records.specs.Record.{memberWords};
 ghost use Rattle.valid.specs.Arena.{arenaAnswer, arenaWords};
 ghost use Rattle.place.specs.Place.{lookupAnswer};
 ghost use Rattle.immediates.specs.Immediates.{slotsAnswer};
@@ -14,16 +15,16 @@ ghost use Rattle.member_words.specs.Flat.{flat};
 // The arena check on the words of n records.
 fn check_words(
     types: &[u32],
-    words: [u32; 8194],
+    words: [u32; 16388],
     n: usize,
     capabilities: u32,
     rows: &mut [u32],
 ) -> Outcome
     requires { ⌜ n ≤ 4097 ⌝ }
-    ensures { λ r. ⌜ r ≡ arenaAnswer capabilities (now (types .entry)) (take (n * 2) words) (now (rows .entry)) ⌝ }
-    ensures { λ _. ⌜ now (rows .exit) ≡ arenaWords capabilities (now (types .entry)) (take (n * 2) words) (now (rows .entry)) ⌝ }
+    ensures { λ r. ⌜ r ≡ arenaAnswer capabilities (now (types .entry)) (take (n * memberWords) words) (now (rows .entry)) ⌝ }
+    ensures { λ _. ⌜ now (rows .exit) ≡ arenaWords capabilities (now (types .entry)) (take (n * memberWords) words) (now (rows .entry)) ⌝ }
 {
-    let e = n * 2;
+    let e = n * records::MEMBER_WORDS;
     valid::check(types, &words[..e], capabilities, rows)
 }
 
@@ -45,7 +46,7 @@ pub fn check_members(
 // The place lookup on the words of n records.
 fn place_words(
     types: &[u32],
-    words: [u32; 8194],
+    words: [u32; 16388],
     n: usize,
     capabilities: u32,
     rows: &mut [u32],
@@ -53,10 +54,10 @@ fn place_words(
     steps: &[u32],
 ) -> PlaceAnswer
     requires { ⌜ n ≤ 4097 ⌝ }
-    ensures { λ r. ⌜ r ≡ lookupAnswer capabilities (now (types .entry)) (take (n * 2) words) (now (rows .entry)) start (now (steps .entry)) ⌝ }
-    ensures { λ _. ⌜ now (rows .exit) ≡ arenaWords capabilities (now (types .entry)) (take (n * 2) words) (now (rows .entry)) ⌝ }
+    ensures { λ r. ⌜ r ≡ lookupAnswer capabilities (now (types .entry)) (take (n * memberWords) words) (now (rows .entry)) start (now (steps .entry)) ⌝ }
+    ensures { λ _. ⌜ now (rows .exit) ≡ arenaWords capabilities (now (types .entry)) (take (n * memberWords) words) (now (rows .entry)) ⌝ }
 {
-    let e = n * 2;
+    let e = n * records::MEMBER_WORDS;
     place::lookup(types, &words[..e], capabilities, rows, start, steps)
 }
 
@@ -80,7 +81,7 @@ pub fn place_members(
 // The slot walk on the words of n records.
 fn slots_words(
     types: &[u32],
-    words: [u32; 8194],
+    words: [u32; 16388],
     n: usize,
     capabilities: u32,
     rows: &mut [u32],
@@ -88,10 +89,10 @@ fn slots_words(
     offset: u32,
 ) -> SlotsAnswer
     requires { ⌜ n ≤ 4097 ⌝ }
-    ensures { λ r. ⌜ r ≡ slotsAnswer capabilities (now (types .entry)) (take (n * 2) words) (now (rows .entry)) ty offset ⌝ }
-    ensures { λ _. ⌜ now (rows .exit) ≡ arenaWords capabilities (now (types .entry)) (take (n * 2) words) (now (rows .entry)) ⌝ }
+    ensures { λ r. ⌜ r ≡ slotsAnswer capabilities (now (types .entry)) (take (n * memberWords) words) (now (rows .entry)) ty offset ⌝ }
+    ensures { λ _. ⌜ now (rows .exit) ≡ arenaWords capabilities (now (types .entry)) (take (n * memberWords) words) (now (rows .entry)) ⌝ }
 {
-    let e = n * 2;
+    let e = n * records::MEMBER_WORDS;
     immediates::immediate_slots(types, &words[..e], capabilities, rows, ty, offset)
 }
 

@@ -4,7 +4,7 @@ ghost use mathlib.Core.Path.{_≡_};
 ghost use mathlib.Core.Bool.{_&&_};
 ghost use Prim.Native.Nat.{ℕ, _+_, _*_, _/_, _≤_, _<_};
 ghost use Rattle.records.specs.Record.{scalarKind, vectorKind, matrixKind, cooperativeMatrixKind, pointerKind, valuePointerKind, arrayKind, structKind, imageKind, samplerKind, accelerationStructureKind, bindingArrayKind};
-ghost use Rattle.records.specs.Fields.{fieldsOk, baseWithin, recordAt};
+ghost use Rattle.records.specs.Fields.{fieldsOk, baseWithin, fieldsAt, recordAt};
 ghost use Rattle.records.specs.Table.{firstRefusal, outcomeAt};
 
 // The sets, by their largest number.
@@ -134,9 +134,9 @@ fn base_within(types: usize, kind: u32, base: u32) -> bool
         | ((base as usize) < types)
 }
 
-// Numbers 2 and 3 of record i, 2 first.
-fn record_at(types: &[u32], members: &[u32], i: u32) -> Outcome
-    ensures { λ r. ⌜ r ≡ outcomeAt i (recordAt (now (types .entry)) (now (members .entry)) i) ⌝ }
+// Numbers 2 and 3 of record i by its fields, 2 first.
+fn fields_at(types: &[u32], members: &[u32], i: u32) -> Outcome
+    ensures { λ r. ⌜ r ≡ outcomeAt i (fieldsAt (now (types .entry)) (now (members .entry)) i) ⌝ }
 {
     let w = records::record_words(types, i);
     let kind = w.kind;
@@ -167,6 +167,22 @@ fn record_at(types: &[u32], members: &[u32], i: u32) -> Outcome
             member: 0,
             detail: 0,
         }
+    }
+}
+
+// The same, and number 2 of a struct's own rows.
+fn record_at(types: &[u32], members: &[u32], i: u32) -> Outcome
+    ensures { λ r. ⌜ r ≡ outcomeAt i (recordAt (now (types .entry)) (now (members .entry)) i) ⌝ }
+{
+    let part = records::struct_members(types, members, i);
+    if records::sources_located(part) {
+        return fields_at(types, members, i);
+    }
+    Outcome::Refused {
+        number: 2,
+        ty: i,
+        member: 0,
+        detail: 0,
     }
 }
 

@@ -44,6 +44,9 @@ dataBit = 0
 abbrev pub sizedBit : ℕ
 sizedBit = 1
 
+abbrev pub ioShareableBit : ℕ
+ioShareableBit = 3
+
 abbrev pub hostShareableBit : ℕ
 hostShareableBit = 4
 

@@ -2,7 +2,7 @@
 ghost use mathlib.Core.Path.{_≡_};
 ghost use Prim.Native.Nat.{_<_};
 ghost use lib.Bits.{bitAnd, bitOr};
-ghost use Rattle.flags.specs.Flags.{bit, dataBit, sizedBit, hostShareableBit, creationResolvedBit, isSizedData, startingFlags, scalarFlags, spaceFlag, pointerFlags, arrayFlags, runtimeArrayFlags, bindingArrayFlags, notHostShareable};
+ghost use Rattle.flags.specs.Flags.{bit, dataBit, sizedBit, ioShareableBit, hostShareableBit, creationResolvedBit, isSizedData, startingFlags, scalarFlags, spaceFlag, pointerFlags, arrayFlags, runtimeArrayFlags, bindingArrayFlags, notHostShareable};
 
 // 01's kinds, as indexes of the table.
 pub const SCALAR_KIND: usize = 0;
@@ -39,7 +39,7 @@ const SIZED: u32 = 2;
 
 const COPY: u32 = 4;
 
-const IO_SHAREABLE: u32 = 8;
+pub const IO_SHAREABLE: u32 = 8;
 
 const HOST_SHAREABLE: u32 = 16;
 
@@ -102,6 +102,12 @@ pub fn is_sized(flags: u32) -> bool
     ensures { λ r. ⌜ r ≡ bit flags sizedBit ⌝ }
 {
     flags / 2 % 2 == 1
+}
+
+pub fn is_io_shareable(flags: u32) -> bool
+    ensures { λ r. ⌜ r ≡ bit flags ioShareableBit ⌝ }
+{
+    flags / 8 % 2 == 1
 }
 
 pub fn is_host_shareable(flags: u32) -> bool

@@ -2,7 +2,7 @@
 use commands::Session;
 
 fn stop_at(s: Session, line: &[u8]) {
-    let mut arena = [0u32; 14336];
+    let mut arena = [0u32; 22528];
     let mut numbers = [0u32; 1025];
     let mut out = [0u8; 65536];
     let read = text::read_line(line, &mut numbers);

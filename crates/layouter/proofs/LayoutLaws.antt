@@ -8,8 +8,8 @@ use native.Mathlib.Omega.{arith}
 use native.Mathlib.Decide.{decLe}
 use lib.ListN.{length, getD, take, drop, List·getD-eq-default}
 use Rattle.records.specs.Result.{Result, ok, require, andThen}
-use Rattle.records.specs.Record.{decoded, memberCount, typeCount, typeWord, typeInner}
-use Rattle.records.specs.Fields.{rowWords, fieldsOk, baseWithin, recordAt}
+use Rattle.records.specs.Record.{decoded, memberCount, typeCount, typeWord, typeInner, structMembers}
+use Rattle.records.specs.Fields.{rowWords, fieldsOk, baseWithin, sourcesLocated, recordAt}
 use Rattle.records.specs.Table.{table, resultAt, outcomeAt, also, firstRefusal, flat}
 use Rattle.records.specs.declared.Outcome.{Outcome}
 use Rattle.records.specs.declared.Outcome.the-variants.{Accepted, Refused}
@@ -25,11 +25,13 @@ use Rattle.type_layout.specs.TypeLayout.{recordLayout, laidResult}
 use Rattle.layouter.specs.Layouter.{noLayout, layoutStep, layoutAt, layout, layoutOutcome, recordThenLayout, layoutRowAt, rowsAfter, wordsAfter}
 
 -- the tests of numbers 2 and 3 and then the rest, apart or in one
-two-required : (two three : Bool) (rest : Result TypeLayout)
-    → andThen (require two 2 0 0 (require three 3 0 0 (ok (tt {0})))) (λ _. rest) ≡ require two 2 0 0 (require three 3 0 0 rest)
-two-required true true rest = refl
-two-required true false rest = refl
-two-required false three rest = refl
+all-required : (located two three : Bool) (rest : Result TypeLayout)
+    → andThen (require located 2 0 0 (require two 2 0 0 (require three 3 0 0 (ok (tt {0}))))) (λ _. rest)
+    ≡ require located 2 0 0 (require two 2 0 0 (require three 3 0 0 rest))
+all-required true true true rest = refl
+all-required true true false rest = refl
+all-required true false three rest = refl
+all-required false two three rest = refl
 
 module _ (ts ms : List ℕ) where
   -- word j of the row of type k, among the rows of the first i types
@@ -56,7 +58,8 @@ module _ (ts ms : List ℕ) where
   unfolding recordLayout recordAt resultAt typeInner
   record-laid i =
       sym
-      (two-required
+      (all-required
+      (sourcesLocated (structMembers ts ms i))
       (fieldsOk (memberCount ms) (typeWord ts i 0) (typeWord ts i 1) (typeWord ts i 2) (typeWord ts i 3) (typeWord ts i 4) (typeWord ts i 5))
       (baseWithin (typeCount ts) (typeWord ts i 0) (typeWord ts i 1))
       (layoutAt (decoded ts ms) i))

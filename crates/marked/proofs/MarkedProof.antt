@@ -7,7 +7,7 @@ use Prim.Native.Nat.{ℕ}
 use lib.Dec.{T, eqb, eqb→eq}
 use Rattle.records.specs.Result.{pick, valueOr}
 use Rattle.records.specs.Record.{innerOf, typeInner, structMembers}
-use Rattle.records.specs.Fields.{tablesFit, fieldsOk, recordAt}
+use Rattle.records.specs.Fields.{tablesFit, fieldsOk, recordAt, locatedTo}
 use Rattle.records.specs.Table.{resultAt, valueAt}
 use Rattle.records.specs.declared.Outcome.{Outcome}
 use Rattle.records.specs.declared.Outcome.the-variants.{Accepted, Refused}
@@ -21,7 +21,8 @@ use Rattle.type_flags.specs.TypeFlags.{leafFlags}
 use Rattle.type_info.specs.TypeInfo.{wordsOf}
 use Rattle.type_info.specs.Verdict.{arrayVerdict, shareVerdict, memberVerdict, distanceVerdict, distanceOk, unsizedVerdict, spanVerdict}
 use Rattle.type_info.specs.Verdict.{previousOf}
-use Rattle.member_bounds.specs.MemberBounds.{memberBounds, boundsAfter}
+use Rattle.member_bounds.specs.MemberBounds.{memberBounds}
+use Rattle.valid_blend.specs.Blend.{sourceAt, sourceResult, blendedAfter, otherLocation, sameType, structBlend}
 use Rattle.member_rules.specs.MemberRules.{uniformAfter, storageAfter, immediatesAfter}
 use Rattle.validate_type.specs.ValidateType.{nonDataFlags, flagsOf, uniformOf, storageOf, immediatesOf, rowOf, judge}
 use Rattle.valid.specs.Arena.{judgeOutcome, arenaOutcome, arenaAnswer, arenaRows, arenaWords}
@@ -31,7 +32,7 @@ use Rattle.slots.specs.declared.SlotsAnswer.the-variants.{Slots}
 use Rattle.slots.specs.Slots.{covers, coversAll, maskOf, rangeSlots, partAnswer}
 use Rattle.type_slots.specs.Walk.{membersSlots, slotsOf}
 use Rattle.immediates.specs.Immediates.{slotsAnswer}
-use Rattle.marked.specs.Marked.{Words, Example, lent, made, left, AllLeft, Holds, Case, arenaCase, slotsCase, rangeCase, CaseHolds, AllHold, marked}
+use Rattle.marked.specs.Marked.{Words, Example, lent, made, left, AllLeft, Holds, Case, arenaCase, slotsCase, rangeCase, CaseHolds, AllHold, marked, blends}
 
 -- ---- the test
 sameList : List ℕ → List ℕ → Bool
@@ -131,9 +132,17 @@ all-hold (x ∷ xs) t = (case-holds x (and-left (caseHolds x) (every xs) t), all
 
 -- the computed test over the whole table
 test : T (every marked)
-unfolding every caseHolds holds allLeft sameOutcome sameSlots sameList marked arenaAnswer arenaWords arenaOutcome judgeOutcome arenaRows layoutOutcome tablesFit recordAt fieldsOk resultAt valueAt typeInner innerOf structMembers layoutOf trySize alignmentOf membersAlignment judge flagsOf rowOf leafFlags nonDataFlags uniformOf storageOf immediatesOf checkWidth integerWidth floatWidth boundsAfter memberBounds previousOf uniformAfter storageAfter immediatesAfter arrayVerdict shareVerdict memberVerdict distanceVerdict distanceOk unsizedVerdict spanVerdict wordsOf slotsAnswer slotsOf membersSlots rangeSlots covers coversAll maskOf
+unfolding every caseHolds holds allLeft sameOutcome sameSlots sameList marked arenaAnswer arenaWords arenaOutcome judgeOutcome arenaRows layoutOutcome tablesFit recordAt locatedTo fieldsOk resultAt valueAt typeInner innerOf structMembers layoutOf trySize alignmentOf membersAlignment judge flagsOf rowOf leafFlags nonDataFlags uniformOf storageOf immediatesOf checkWidth integerWidth floatWidth blendedAfter sourceResult sourceAt otherLocation structBlend memberBounds previousOf uniformAfter storageAfter immediatesAfter arrayVerdict shareVerdict memberVerdict distanceVerdict distanceOk unsizedVerdict spanVerdict wordsOf slotsAnswer slotsOf membersSlots rangeSlots covers coversAll maskOf
 test = tt
 
 -- M1 to M12 hold
 pub marked-hold : AllHold marked
 marked-hold = all-hold marked test
+
+-- 02, E9
+blend-test : T (every blends)
+unfolding every caseHolds holds allLeft sameOutcome sameSlots sameList blends sameType arenaAnswer arenaWords arenaOutcome judgeOutcome arenaRows layoutOutcome tablesFit recordAt locatedTo fieldsOk resultAt valueAt typeInner innerOf structMembers layoutOf trySize alignmentOf membersAlignment judge flagsOf rowOf leafFlags nonDataFlags uniformOf storageOf immediatesOf checkWidth integerWidth floatWidth blendedAfter sourceResult sourceAt otherLocation structBlend memberBounds previousOf uniformAfter storageAfter immediatesAfter arrayVerdict shareVerdict memberVerdict distanceVerdict distanceOk unsizedVerdict spanVerdict wordsOf slotsAnswer slotsOf membersSlots rangeSlots covers maskOf
+blend-test = tt
+
+pub blends-hold : AllHold blends
+blends-hold = all-hold blends blend-test

@@ -39,7 +39,7 @@ abbrev pub pair : (span : ℕ) → List ℕ
 pair span = E ++ V3 ++ S 0 2 span
 
 abbrev pub pairMembers : (offset : ℕ) → List ℕ
-pairMembers offset = 1 ∷ 0 ∷ 0 ∷ offset ∷ []
+pairMembers offset = 1 ∷ 0 ∷ 0 ∷ 0 ∷ 0 ∷ offset ∷ 0 ∷ 0 ∷ []
 
 -- ---- what an example says
 -- words of the row of a type, from one of its words on
@@ -132,9 +132,9 @@ marked =
     ∷ arenaCase (accepted (E ++ counted 0 1073741823 2) [] [])
     ∷ arenaCase (refused (E ++ counted 0 1073741824 2) [] 4 1 0 0)
     -- M9: S{E} span 4 at 0, E at 4, span 16: uniform code 4, bound 16; storage Ok 4
-    ∷ arenaCase (accepted (E ++ S 0 1 4 ++ S 1 2 16) (0 ∷ 0 ∷ 1 ∷ 0 ∷ 0 ∷ 4 ∷ []) (row 2 3 (4 ∷ []) ∷ row 2 7 (16 ∷ []) ∷ row 2 8 (0 ∷ 4 ∷ []) ∷ []))
+    ∷ arenaCase (accepted (E ++ S 0 1 4 ++ S 1 2 16) (0 ∷ 0 ∷ 0 ∷ 0 ∷ 1 ∷ 0 ∷ 0 ∷ 0 ∷ 0 ∷ 4 ∷ 0 ∷ 0 ∷ []) (row 2 3 (4 ∷ []) ∷ row 2 7 (16 ∷ []) ∷ row 2 8 (0 ∷ 4 ∷ []) ∷ []))
     -- M10: E at 0, S{E} at 16, E at 0, span 32: 21, member 2
-    ∷ arenaCase (refused (E ++ S 0 1 4 ++ S 1 3 32) (0 ∷ 0 ∷ 0 ∷ 0 ∷ 1 ∷ 16 ∷ 0 ∷ 0 ∷ []) 21 2 2 0)
+    ∷ arenaCase (refused (E ++ S 0 1 4 ++ S 1 3 32) (0 ∷ 0 ∷ 0 ∷ 0 ∷ 0 ∷ 0 ∷ 0 ∷ 0 ∷ 1 ∷ 16 ∷ 0 ∷ 0 ∷ 0 ∷ 0 ∷ 0 ∷ 0 ∷ []) 21 2 2 0)
     -- M11: f16 without bit 1: 8, detail 1; with it: immediates word 3
     ∷ arenaCase (refused f16 [] 8 0 0 1)
     ∷ arenaCase (record { capabilities = 2; types = f16; members = []; answer = Accepted; rows = row 0 13 (3 ∷ []) ∷ [] })
@@ -143,4 +143,50 @@ marked =
     ∷ rangeCase 3 2 (Slots 3 3)
     ∷ rangeCase 252 4 (Slots 9223372036854775808 0)
     ∷ rangeCase 252 5 (slots.Refused 25 0 0 0)
+    ∷ []
+
+-- ---- 02, E9: an arena with DUAL_SOURCE_BLENDING, by its refusal; the accepted ones with the flags of the last type
+abbrev pub blendRefused : (types members : List ℕ) → (number ty member detail : ℕ) → Example
+blendRefused types members number ty member detail =
+    record {
+      capabilities = 8192;
+      types = types;
+      members = members;
+      answer = Refused number ty member detail;
+      rows = row 0 0 (replicate (typeCount types * rowWords) 0 ++ 7 ∷ []) ∷ [];
+    }
+
+abbrev pub blendAccepted : (types members : List ℕ) → List Words → Example
+blendAccepted types members rows = record { capabilities = 8192; types = types; members = members; answer = Accepted; rows = rows }
+
+abbrev pub V4 : List ℕ
+V4 = 1 ∷ 4 ∷ 2 ∷ 4 ∷ 0 ∷ 0 ∷ []
+
+abbrev pub bool : List ℕ
+bool = 0 ∷ 3 ∷ 1 ∷ 0 ∷ 0 ∷ 0 ∷ []
+
+unfoldable pub blends : List Case
+blends =
+    -- without the capability: 8, detail 13; with it a location other than 0 is a bad index
+    arenaCase (refused (E ++ S 0 2 16) (0 ∷ 0 ∷ 0 ∷ 0 ∷ 0 ∷ 4 ∷ 2 ∷ 1 ∷ []) 8 1 0 13)
+    ∷ arenaCase (blendRefused (E ++ S 0 2 16) (0 ∷ 0 ∷ 0 ∷ 0 ∷ 0 ∷ 4 ∷ 2 ∷ 1 ∷ []) 34 1 0 1)
+    -- the same source twice
+    ∷ arenaCase (blendRefused (V4 ++ S 0 2 32) (0 ∷ 0 ∷ 1 ∷ 1 ∷ 0 ∷ 16 ∷ 1 ∷ 1 ∷ []) 34 1 0 2)
+    -- both sources and another location; one source and another location
+    ∷ arenaCase (blendRefused (E ++ S 0 3 16) (0 ∷ 0 ∷ 1 ∷ 1 ∷ 0 ∷ 4 ∷ 1 ∷ 2 ∷ 0 ∷ 8 ∷ 3 ∷ 0 ∷ []) 34 1 0 3)
+    ∷ arenaCase (blendRefused (E ++ S 0 2 16) (0 ∷ 0 ∷ 1 ∷ 1 ∷ 0 ∷ 4 ∷ 3 ∷ 0 ∷ []) 34 1 0 6)
+    -- arrays over two equal types differ; over one type they are the same, and not IO-shareable; two structs differ
+    ∷ arenaCase (blendRefused (E ++ E ++ counted 0 2 4 ++ counted 1 2 4 ++ S 0 2 16) (2 ∷ 0 ∷ 1 ∷ 1 ∷ 3 ∷ 8 ∷ 1 ∷ 2 ∷ []) 34 4 0 4)
+    ∷ arenaCase (blendRefused (E ++ counted 0 2 4 ++ counted 0 2 4 ++ S 0 2 16) (1 ∷ 0 ∷ 1 ∷ 1 ∷ 2 ∷ 8 ∷ 1 ∷ 2 ∷ []) 34 3 0 5)
+    ∷ arenaCase (blendRefused (E ++ S 0 1 4 ++ S 1 2 8) (0 ∷ 0 ∷ 0 ∷ 0 ∷ 1 ∷ 0 ∷ 1 ∷ 1 ∷ 1 ∷ 4 ∷ 1 ∷ 2 ∷ []) 34 2 0 4)
+    ∷ arenaCase (blendRefused (bool ++ S 0 2 2) (0 ∷ 0 ∷ 1 ∷ 1 ∷ 0 ∷ 1 ∷ 1 ∷ 2 ∷ []) 34 1 0 5)
+    -- two sources that pass: IO_SHAREABLE; with both at 0 HOST_SHAREABLE is lost
+    ∷ arenaCase (blendAccepted (V4 ++ S 0 2 32) (0 ∷ 0 ∷ 1 ∷ 1 ∷ 0 ∷ 16 ∷ 1 ∷ 2 ∷ []) (row 1 2 (255 ∷ []) ∷ []))
+    ∷ arenaCase (blendAccepted (V4 ++ S 0 2 32) (0 ∷ 0 ∷ 1 ∷ 1 ∷ 0 ∷ 0 ∷ 1 ∷ 2 ∷ []) (row 1 2 (239 ∷ []) ∷ []))
+    -- 18 of a member comes before the rules of a later one, and after those of its own
+    ∷ arenaCase (blendRefused (E ++ S 0 3 16) (0 ∷ 0 ∷ 1 ∷ 1 ∷ 0 ∷ 2 ∷ 0 ∷ 0 ∷ 0 ∷ 8 ∷ 1 ∷ 1 ∷ []) 18 1 1 0)
+    ∷ arenaCase (blendRefused (E ++ S 0 2 16) (0 ∷ 0 ∷ 1 ∷ 1 ∷ 0 ∷ 2 ∷ 1 ∷ 1 ∷ []) 34 1 0 2)
+    -- a source without a location is 2; a large location alone is no matter
+    ∷ arenaCase (refused (E ++ counted 9 1 4 ++ S 0 1 4) (0 ∷ 0 ∷ 0 ∷ 1 ∷ []) 2 2 0 0)
+    ∷ arenaCase (accepted (E ++ S 0 1 4) (0 ∷ 0 ∷ 4294967295 ∷ 0 ∷ []) (row 1 2 (247 ∷ []) ∷ []))
     ∷ []

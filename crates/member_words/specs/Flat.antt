@@ -4,7 +4,7 @@ use Prim.Native.Nat.{ℕ}
 use mathlib.Core.List.{List, [], _∷_}
 use Rattle.member_words.specs.declared.Member.{Member}
 
--- the words of the records, one record after the other, type then offset
+-- the words of the records, one record after the other, type, offset, location, blend source
 unfoldable pub flat : List Member → List ℕ
 flat [] = []
-flat (m ∷ ms) = m .ty ∷ m .offset ∷ flat ms
+flat (m ∷ ms) = m .ty ∷ m .offset ∷ m .location ∷ m .source ∷ flat ms

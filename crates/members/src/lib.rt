@@ -8,7 +8,7 @@ ghost use mathlib.Core.Path.{_≡_};
 ghost use mathlib.Core.Bool.{true};
 ghost use Prim.Native.Nat.{ℕ, _+_, _*_, _≤_, _<_};
 ghost use lib.ListN.{length};
-ghost use Rattle.records.specs.Record.{memberType, typeInner};
+ghost use Rattle.records.specs.Record.{memberWords, memberType, typeInner};
 ghost use Rattle.records.specs.Result.{ok};
 ghost use Rattle.type_info.specs.TypeInfo.{rowsIn, verdictIn};
 ghost use Rattle.type_info.specs.Verdict.{okVerdict, shareVerdict, memberVerdict, structAt, previousOf};
@@ -230,7 +230,7 @@ fn ordered_members(
     before: State,
 ) -> Reached
     requires { ⌜ length (now rows) ≡ i * 14 ⌝ }
-    requires { ⌜ length (now part) ≡ count * 2 ⌝ }
+    requires { ⌜ length (now part) ≡ count * memberWords ⌝ }
     requires { ⌜ ((j : ℕ) → j < count → memberType (now part) j < i) ⌝ }
     requires { ⌜ taken ≤ count ⌝ }
     requires { ⌜ stateAfter (typeInner (now types)) (rowsIn (now rows)) i count span (now part) taken ≡ ok before ⌝ }
@@ -292,7 +292,7 @@ pub fn members_of(
     before: State,
 ) -> Members
     requires { ⌜ length (now rows) ≡ i * 14 ⌝ }
-    requires { ⌜ length (now part) ≡ count * 2 ⌝ }
+    requires { ⌜ length (now part) ≡ count * memberWords ⌝ }
     requires { ⌜ ((j : ℕ) → j < count → memberType (now part) j < i) ⌝ }
     requires { ⌜ taken ≤ count ⌝ }
     requires { ⌜ stateAfter (typeInner (now types)) (rowsIn (now rows)) i count span (now part) taken ≡ ok before ⌝ }

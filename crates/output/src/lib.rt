@@ -229,7 +229,7 @@ fn put_why(out: &mut Buffer, at: usize, why: u32) -> usize {
 : a carriage return stands before its end
 : caps takes one number
 : type takes a kind and at most 5 words
-: member takes a type and an offset
+: member takes a type and an offset, and may take a location and a blend source
 : layout takes no number
 : judge takes no number
 : check takes no number

@@ -35,7 +35,7 @@ module _ (c : ℕ) (types : ℕ → Decoded) (n : ℕ) (acc : AcceptedTypes c ty
       let g = struct-step count span (types t .members) s ty bytes q in
       let r = struct-row c types n acc t l count span e in
       let m = struct-member c types n acc t l count span e s (g .0) in
-      rw (← g .1) (record { earlier = member-earlier c types n acc t l count span e s (g .0); sized = λ h. m .flag sizedBit (rw (r .flags) at h) })
+      rw (← g .1) (record { earlier = member-earlier c types n acc t l count span e s (g .0); sized = λ h. m .flag sizedBit (rw (r .flags sizedBit refl) at h) })
   descent-of t l (Other o) e s ty bytes q = other-step o (types t .members) s ty bytes q
 
   -- a step from an accepted type

@@ -3,7 +3,7 @@
 ghost use mathlib.Core.Path.{_≡_};
 ghost use Prim.Native.Nat.{ℕ, _+_, _*_, _≤_, _<_};
 ghost use lib.ListN.{length};
-ghost use Rattle.records.specs.Record.{structKind, memberType, typeInner};
+ghost use Rattle.records.specs.Record.{structKind, memberWords, memberType, typeInner};
 ghost use Rattle.flags.specs.Flags.{startingFlags};
 ghost use Rattle.type_info.specs.declared.Previous as previous;
 ghost use Rattle.type_info.specs.TypeInfo.{rowsIn};
@@ -128,7 +128,7 @@ pub fn plain_members(
 ) -> Reached
     requires { ⌜ length (now rows) ≡ i * 14 ⌝ }
     requires { ⌜ i * 6 ≤ length (now types) ⌝ }
-    requires { ⌜ length (now part) ≡ count * 2 ⌝ }
+    requires { ⌜ length (now part) ≡ count * memberWords ⌝ }
     requires { ⌜ ((j : ℕ) → j < count → memberType (now part) j < i) ⌝ }
     ensures { λ r. ⌜ r .taken ≤ count ⌝ }
     ensures { λ r. ⌜ PlainAfter (typeInner (now (types .entry))) (rowsIn (now (rows .entry))) i count span (now (part .entry)) (r .taken) (r .state) ⌝ }

@@ -1,16 +1,17 @@
 -- The member rows of a struct by cases; what number 2 leaves of a record: the bounds of its fields.
 -- Assumes nothing.
-use mathlib.Core.Path.{_≡_, refl}
+use mathlib.Core.Path.{_≡_, refl, ap, _∙_}
 use mathlib.Core.Bool.{Bool, true, false, _&&_, _||_}
 use mathlib.Core.List.{List, []}
-use Prim.Native.Nat.{ℕ, _+_, _*_, _/_, _%_, _≤_, _<_}
+use Prim.Native.Nat.{ℕ, zero, suc, _+_, _-_, _*_, _/_, _%_, _≤_, _<_}
+use native.Mathlib.Nat.{not-suc-le-zero}
 use native.Mathlib.Omega.{arith}
-use lib.Dec.{T, leb, eqb, leb→le, eqb→eq}
+use lib.Dec.{T, leb, ltb, eqb, leb→le, eqb→eq}
 use lib.ListN.{length, take, drop}
 use borrow.Author.Tests.{lt-ltb, le-leb, eq-eqb, ne-eqb}
 use Rattle.records.specs.Result.{Result, ok, pick, require}
-use Rattle.records.specs.Record.{typeWords, typeWord, typeCount, memberCount, memberWords, structKind, structMembers, innerOf, typeInner}
-use Rattle.records.specs.Fields.{mostTypes, mostMembers, rowWords, tablesFit, scalarOk, vectorSizeOk, cooperativeSizeOk, fieldsOk, baseWithin, recordAt, InnerBounds}
+use Rattle.records.specs.Record.{typeWords, typeWord, typeCount, memberCount, memberWords, memberLocation, memberSource, Sourceless, structKind, structMembers, innerOf, typeInner}
+use Rattle.records.specs.Fields.{mostTypes, mostMembers, rowWords, tablesFit, scalarOk, vectorSizeOk, cooperativeSizeOk, fieldsOk, baseWithin, locatedTo, sourcesLocated, fieldsAt, recordAt, InnerBounds}
 use Rattle.records.specs.declared.TypeInner.{TypeInner}
 use Rattle.records.proofs.ResultLaws.{required, true-T, and-left, and-right}
 
@@ -79,9 +80,47 @@ fields-bounds n k a b c d e h =
         (along (eqb k 12) (λ t. record { bounds = tt })
         (λ t. record { bounds = tt })))))))))))))
 
+-- ---- number 2 of a struct's own rows
+one-less : (j : ℕ) → 0 < j → j ≡ suc (j - 1)
+one-less j h = omega arith
+
+module _ (part : List ℕ) where
+  abbrev unlocated : ℕ → Bool
+  unlocated k = ltb 0 (memberSource part k) && eqb (memberLocation part k) 0
+
+  located-at : (k : ℕ) (t : Bool) → unlocated k ≡ t → locatedTo part (suc k) ≡ pick t false (locatedTo part k)
+  unfolding locatedTo
+  located-at k t e = ap (λ (x : Bool). pick x false (locatedTo part k)) e
+
+  pub unlocated-found : (j : ℕ) → 0 < j → unlocated (j - 1) ≡ true → locatedTo part j ≡ false
+  unlocated-found j h e = ap (locatedTo part) (one-less j h) ∙ located-at (j - 1) true e
+
+  pub located-before : (j : ℕ) → 0 < j → unlocated (j - 1) ≡ false → locatedTo part j ≡ locatedTo part (j - 1)
+  located-before j h e = ap (locatedTo part) (one-less j h) ∙ located-at (j - 1) false e
+
+  pub located-none : (j : ℕ) → j ≤ 0 → locatedTo part j ≡ true
+  unfolding locatedTo
+  located-none zero h = refl
+  located-none (suc j) h = absurd (not-suc-le-zero h)
+
+  -- rows without blend sources
+  pub sourceless-located : (n : ℕ) → Sourceless part n → locatedTo part n ≡ true
+  unfolding locatedTo
+  sourceless-located zero none = refl
+  sourceless-located (suc n) none = rw (none n (omega arith)) (sourceless-located n (λ j h. none j (omega (arith, h))))
+
+  pub no-rows-located : part ≡ [] → sourcesLocated part ≡ true
+  unfolding locatedTo
+  no-rows-located e = rw e refl
+
+-- the fields of a record in order
+pub record-fields : (ts ms : List ℕ) (i : ℕ) → recordAt ts ms i ≡ ok tt → fieldsAt ts ms i ≡ ok tt
+unfolding recordAt
+record-fields ts ms i e = required (sourcesLocated (structMembers ts ms i)) 2 0 0 (fieldsAt ts ms i) tt e .1
+
 -- a record in order has fields within their bounds
 pub record-bounds : (ts ms : List ℕ) (i : ℕ) → recordAt ts ms i ≡ ok tt → InnerBounds (typeInner ts i)
-unfolding recordAt typeInner
+unfolding typeInner
 record-bounds ts ms i e =
     fields-bounds (memberCount ms) (typeWord ts i 0) (typeWord ts i 1) (typeWord ts i 2) (typeWord ts i 3) (typeWord ts i 4) (typeWord ts i 5)
     (required
@@ -91,7 +130,7 @@ record-bounds ts ms i e =
     0
     (require (baseWithin (typeCount ts) (typeWord ts i 0) (typeWord ts i 1)) 3 0 0 (ok tt))
     tt
-    e
+    (record-fields ts ms i e)
     .0)
 
 -- ---- number 1: what tables that fit have

@@ -36,6 +36,22 @@ and-then-ok (ok a) f b e = (a, refl, e)
 pub ok-inj {ℓ} : {A : Type ℓ} {a b : A} → ok a ≡ ok b → a ≡ b
 ok-inj {a} {b} e = cc
 
+-- a test in front of a refusal that is its own
+pub refused-twice {ℓ} : {A : Type ℓ} (n m d : ℕ) (b : Bool) → require {A = A} b n m d (err n m d) ≡ err n m d
+refused-twice n m d true = refl
+refused-twice n m d false = refl
+
+-- a test twice
+pub require-twice {ℓ} : {A : Type ℓ} (b : Bool) (n m d : ℕ) (o : Result A) → require b n m d (require b n m d o) ≡ require b n m d o
+require-twice true n m d o = refl
+require-twice false n m d o = refl
+
+-- a test in front of both is one in front of the first
+pub require-then {ℓ κ} : {A : Type ℓ} {B : Type κ} (b : Bool) (n m d : ℕ) (o : Result A) (f : A → Result B)
+    → require b n m d (andThen o f) ≡ andThen (require b n m d o) f
+require-then true n m d o f = refl
+require-then false n m d o f = refl
+
 -- ---- tests
 pub true-T : {b : Bool} → b ≡ true → T b
 true-T e = rw e tt

@@ -1,8 +1,8 @@
 -- 01, 'The refusal', numbers 1, 2 and 3: the lengths of the tables, and the sets that the fields of a record lie in.
 -- Assumes nothing.
-use mathlib.Core.Bool.{Bool, not, false, _&&_, _||_}
+use mathlib.Core.Bool.{Bool, not, true, false, _&&_, _||_}
 use mathlib.Core.List.{List}
-use Prim.Native.Nat.{ℕ, _+_, _*_, _/_, _%_, _≤_}
+use Prim.Native.Nat.{ℕ, zero, suc, _+_, _*_, _/_, _%_, _≤_}
 use lib.Dec.{T, eqb, leb, ltb}
 use lib.ListN.{length}
 use Rattle.records.specs.Result.{Result, ok, pick, require}
@@ -10,7 +10,7 @@ use Rattle.records.specs.declared.Leaf.{Leaf}
 use Rattle.records.specs.declared.Leaf.the-variants.{Scalar, Vector, Matrix, CooperativeMatrix, Atomic, RayQuery}
 use Rattle.records.specs.declared.TypeInner.{TypeInner}
 use Rattle.records.specs.declared.TypeInner.the-variants.{Plain, Array, RuntimeArray, Struct, Other}
-use Rattle.records.specs.Record.{typeWords, typeCount, typeWord, memberWords, memberCount, scalarKind, vectorKind, matrixKind, cooperativeMatrixKind, atomicKind, pointerKind, valuePointerKind, arrayKind, structKind, imageKind, samplerKind, accelerationStructureKind, rayQueryKind, bindingArrayKind}
+use Rattle.records.specs.Record.{typeWords, typeCount, typeWord, memberWords, memberCount, memberLocation, memberSource, structMembers, scalarKind, vectorKind, matrixKind, cooperativeMatrixKind, atomicKind, pointerKind, valuePointerKind, arrayKind, structKind, imageKind, samplerKind, accelerationStructureKind, rayQueryKind, bindingArrayKind}
 
 -- ---- number 1
 abbrev pub mostTypes : ℕ
@@ -28,11 +28,11 @@ unfoldable pub tablesFit : (typesLength membersLength rowsLength : ℕ) → Bool
 tablesFit t m r =
     eqb (t % typeWords) 0 && leb t (mostTypes * typeWords) && eqb (m % memberWords) 0 && leb m (mostMembers * memberWords) && leb (t / typeWords * rowWords) r
 
--- bits 0 to 12
+-- bits 0 to 13
 abbrev pub allCapabilities : ℕ
-allCapabilities = 8191
+allCapabilities = 16383
 
--- no capability bit above 12
+-- no capability bit above 13
 abbrev pub capabilitiesKnown : ℕ → Bool
 capabilitiesKnown c = leb c allCapabilities
 
@@ -101,13 +101,26 @@ fieldsOk rows kind a b c d e =
 abbrev pub baseWithin : (types kind base : ℕ) → Bool
 baseWithin types kind base = not (eqb kind pointerKind || eqb kind bindingArrayKind) || ltb base types
 
+-- ---- number 2 of a struct's own rows: a blend source requires a location
+-- among the first j rows of a part
+unfoldable pub locatedTo : (part : List ℕ) → ℕ → Bool
+locatedTo part zero = true
+locatedTo part (suc j) = pick (ltb 0 (memberSource part j) && eqb (memberLocation part j) 0) false (locatedTo part j)
+
+abbrev pub sourcesLocated : (part : List ℕ) → Bool
+sourcesLocated part = locatedTo part (memberCount part)
+
 -- ---- numbers 2 and 3 of record i, 2 first
-unfoldable pub recordAt : (ts ms : List ℕ) → ℕ → Result (Unit {0})
-recordAt ts ms i =
+-- by its fields
+abbrev pub fieldsAt : (ts ms : List ℕ) → ℕ → Result (Unit {0})
+fieldsAt ts ms i =
     require
     (fieldsOk (memberCount ms) (typeWord ts i 0) (typeWord ts i 1) (typeWord ts i 2) (typeWord ts i 3) (typeWord ts i 4) (typeWord ts i 5))
     2 0 0
     (require (baseWithin (typeCount ts) (typeWord ts i 0) (typeWord ts i 1)) 3 0 0 (ok tt))
+
+unfoldable pub recordAt : (ts ms : List ℕ) → ℕ → Result (Unit {0})
+recordAt ts ms i = require (sourcesLocated (structMembers ts ms i)) 2 0 0 (fieldsAt ts ms i)
 
 -- ---- what number 2 leaves: the bounds by which sizes fit 32 bits
 abbrev pub LeafBounds : Leaf → Type 0

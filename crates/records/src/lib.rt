@@ -3,8 +3,8 @@ ghost use mathlib.Core.Path.{_≡_};
 ghost use mathlib.Core.Bool.{_&&_};
 ghost use Prim.Native.Nat.{ℕ, _+_, _*_, _/_, _≤_, _<_};
 ghost use lib.ListN.{length, getD, take, drop};
-ghost use Rattle.records.specs.Record.{recordWords, typeWord, typeCount, memberCount, memberType, memberOffset, innerOf, typeInner, structMembers};
-ghost use Rattle.records.specs.Fields.{tablesFit, capabilitiesKnown};
+ghost use Rattle.records.specs.Record.{recordWords, typeWord, typeCount, memberWords, memberCount, memberType, memberOffset, memberLocation, memberSource, innerOf, typeInner, structMembers};
+ghost use Rattle.records.specs.Fields.{tablesFit, capabilitiesKnown, sourcesLocated};
 
 // Data that is neither array nor struct: 01's leaves.
 pub enum Leaf {
@@ -58,15 +58,15 @@ pub enum Outcome {
 
 pub const TYPE_WORDS: usize = 6;
 
-pub const MEMBER_WORDS: usize = 2;
+pub const MEMBER_WORDS: usize = 4;
 
 pub const ROW_WORDS: usize = 14;
 
 const MOST_TYPES: usize = 1024;
 
 const MOST_MEMBERS: usize = 4096;
-// Bits 0 to 12.
-const ALL_CAPABILITIES: u32 = 8191;
+// Bits 0 to 13.
+const ALL_CAPABILITIES: u32 = 16383;
 
 // The kinds that code tests for one at a time.
 pub const POINTER_KIND: u32 = 5;
@@ -122,17 +122,49 @@ pub fn member_offset(part: &[u32], j: u32) -> u32
 
 // The same of a member that the part has.
 pub fn own_type(part: &[u32], j: usize) -> u32
-    requires { ⌜ j * 2 + 2 ≤ length (now part) ⌝ }
+    requires { ⌜ j * memberWords + memberWords ≤ length (now part) ⌝ }
     ensures { λ r. ⌜ r ≡ memberType (now (part .entry)) j ⌝ }
 {
     part[j * MEMBER_WORDS]
 }
 
 pub fn own_offset(part: &[u32], j: usize) -> u32
-    requires { ⌜ j * 2 + 2 ≤ length (now part) ⌝ }
+    requires { ⌜ j * memberWords + memberWords ≤ length (now part) ⌝ }
     ensures { λ r. ⌜ r ≡ memberOffset (now (part .entry)) j ⌝ }
 {
     part[j * MEMBER_WORDS + 1]
+}
+
+// The same of its location and its blend source, each plus one, 0 for none.
+pub fn own_location(part: &[u32], j: usize) -> u32
+    requires { ⌜ j * memberWords + memberWords ≤ length (now part) ⌝ }
+    ensures { λ r. ⌜ r ≡ memberLocation (now (part .entry)) j ⌝ }
+{
+    part[j * MEMBER_WORDS + 2]
+}
+
+pub fn own_source(part: &[u32], j: usize) -> u32
+    requires { ⌜ j * memberWords + memberWords ≤ length (now part) ⌝ }
+    ensures { λ r. ⌜ r ≡ memberSource (now (part .entry)) j ⌝ }
+{
+    part[j * MEMBER_WORDS + 3]
+}
+
+// Number 2 of a struct's own rows: a blend source requires a location.
+pub fn sources_located(part: &[u32]) -> bool
+    ensures { λ r. ⌜ r ≡ sourcesLocated (now (part .entry)) ⌝ }
+{
+    let mut j = part.len() / MEMBER_WORDS;
+    while j > 0 {
+        let before = j - 1;
+        let source = own_source(part, before);
+        let location = own_location(part, before);
+        if (0 < source) & (location == 0) {
+            return false;
+        }
+        j = before;
+    }
+    true
 }
 
 // What a record says, by its kind and the five words after it.
@@ -224,7 +256,7 @@ pub fn type_inner(types: &[u32], i: u32) -> TypeInner
 // So many member rows from a first one on, which the table has.
 pub fn member_part(members: &[u32], first: u32, count: u32) -> &[u32]
     requires { ⌜ first + count ≤ memberCount (now members) ⌝ }
-    ensures { λ r. ⌜ now r ≡ take (count * 2) (drop (first * 2) (now (members .entry))) ⌝ }
+    ensures { λ r. ⌜ now r ≡ take (count * memberWords) (drop (first * memberWords) (now (members .entry))) ⌝ }
 {
     let start = (first as usize) * MEMBER_WORDS;
     let end = start + (count as usize) * MEMBER_WORDS;
@@ -260,7 +292,7 @@ pub fn tables_fit(types: usize, members: usize, rows: usize) -> bool
         & enough
 }
 
-// Number 1: no capability bit above 12.
+// Number 1: no capability bit above 13.
 pub fn capabilities_known(capabilities: u32) -> bool
     ensures { λ r. ⌜ r ≡ capabilitiesKnown capabilities ⌝ }
 {

@@ -88,7 +88,7 @@ module _ (c : ℕ) (types : ℕ → Decoded) (n : ℕ) (acc : AcceptedTypes c ty
         let b = member-earlier c types n acc t l count span e in
         let r = struct-row c types n acc t l count span e in
         members-bytes-is types earlier members count
-        (λ i k. before (memberType members i) (b i k) (struct-member c types n acc t l count span e i k .flag hostShareableBit (rw (r .flags) at o)))
+        (λ i k. before (memberType members i) (b i k) (struct-member c types n acc t l count span e i k .flag hostShareableBit (rw (r .flags hostShareableBit refl) at o)))
         ∙ go (some (λ i. narrow types (memberType members i)) count) (narrow-struct types t count span e b)
       where
         go : (x : Bool) → narrow types t ≡ x → pick x Narrow (Carried (sum (λ i. carried types (memberType (types t .members) i)) count)) ≡ leafBytes types t

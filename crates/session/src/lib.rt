@@ -54,7 +54,7 @@ fn turn(
 // The whole program: it ends with the input, or at a line that cannot be read.
 // A proved loop has to end, and nothing says that the input does: the turns are counted down from a number that no run uses up.
 pub fn run() {
-    let mut arena = [0u32; 14336];
+    let mut arena = [0u32; 22528];
     let mut rows = [0u32; 14336];
     let mut buffer = [0u8; 65536];
     let mut out = [0u8; 65536];

@@ -9,7 +9,7 @@ use native.Mathlib.Nat.{le-refl}
 use native.Mathlib.Omega.{arith}
 use lib.ListN.{getElem?}
 use Rattle.records.specs.Record.{Decoded, decoded, innerOf, typeInner, structMembers}
-use Rattle.records.specs.Fields.{tablesFit, fieldsOk, recordAt}
+use Rattle.records.specs.Fields.{tablesFit, fieldsOk, recordAt, locatedTo}
 use Rattle.records.specs.Table.{resultAt, valueAt}
 use Rattle.records.specs.declared.Outcome.the-variants.{Accepted}
 use Rattle.type_methods.specs.TypeMethods.{trySize}
@@ -20,7 +20,8 @@ use Rattle.width.specs.Width.{integerWidth, floatWidth, checkWidth}
 use Rattle.type_flags.specs.TypeFlags.{leafFlags}
 use Rattle.type_info.specs.Verdict.{alignmentIn, arrayVerdict, shareVerdict, memberVerdict, distanceVerdict, distanceOk, unsizedVerdict, spanVerdict}
 use Rattle.type_info.specs.Verdict.{previousOf}
-use Rattle.member_bounds.specs.MemberBounds.{memberBounds, boundsAfter}
+use Rattle.member_bounds.specs.MemberBounds.{memberBounds}
+use Rattle.valid_blend.specs.Blend.{sourceAt, sourceResult, blendedAfter, otherLocation, structBlend}
 use Rattle.member_rules.specs.MemberRules.{uniformAfter, storageAfter, immediatesAfter}
 use Rattle.validate_type.specs.ValidateType.{flagsOf, uniformOf, storageOf, immediatesOf, rowOf, judge}
 use Rattle.valid.specs.Arena.{row, judgeOutcome, arenaOutcome, arena}
@@ -48,30 +49,30 @@ types =
 
 -- two rows of struct 2, three of struct 5, two of struct 7
 abbrev pub members : List ℕ
-members = 1 ∷ 0 ∷ 0 ∷ 12 ∷ 3 ∷ 0 ∷ 2 ∷ 32 ∷ 4 ∷ 48 ∷ 0 ∷ 0 ∷ 6 ∷ 16 ∷ []
+members = 1 ∷ 0 ∷ 0 ∷ 0 ∷ 0 ∷ 12 ∷ 0 ∷ 0 ∷ 3 ∷ 0 ∷ 0 ∷ 0 ∷ 2 ∷ 32 ∷ 0 ∷ 0 ∷ 4 ∷ 48 ∷ 0 ∷ 0 ∷ 0 ∷ 0 ∷ 0 ∷ 0 ∷ 6 ∷ 16 ∷ 0 ∷ 0 ∷ []
 
 -- it is accepted with no capability
 pub accepted : arena 0 types members ≡ Accepted
-unfolding arena arenaOutcome layoutOutcome judgeOutcome tablesFit recordAt fieldsOk typeInner innerOf structMembers resultAt valueAt trySize membersAlignment alignmentOf layoutOf integerWidth floatWidth checkWidth arrayVerdict shareVerdict memberVerdict distanceVerdict distanceOk unsizedVerdict spanVerdict previousOf memberBounds boundsAfter uniformAfter storageAfter immediatesAfter leafFlags flagsOf uniformOf storageOf immediatesOf rowOf judge
+unfolding arena arenaOutcome layoutOutcome judgeOutcome tablesFit recordAt locatedTo fieldsOk typeInner innerOf structMembers resultAt valueAt trySize membersAlignment alignmentOf layoutOf integerWidth floatWidth checkWidth arrayVerdict shareVerdict memberVerdict distanceVerdict distanceOk unsizedVerdict spanVerdict previousOf memberBounds blendedAfter sourceResult sourceAt otherLocation structBlend uniformAfter storageAfter immediatesAfter leafFlags flagsOf uniformOf storageOf immediatesOf rowOf judge
 accepted = refl
 
 -- the sizes of types 0, 1, 2 and 5
 pub sizes : (rowIn 0 types members 0 .size ≡ 4) × (rowIn 0 types members 1 .size ≡ 12) × (rowIn 0 types members 2 .size ≡ 16) × (rowIn 0 types members 5 .size ≡ 64)
-unfolding typeInner innerOf structMembers resultAt valueAt trySize membersAlignment alignmentOf layoutOf integerWidth floatWidth checkWidth arrayVerdict shareVerdict memberVerdict distanceVerdict distanceOk unsizedVerdict spanVerdict previousOf memberBounds boundsAfter uniformAfter storageAfter immediatesAfter leafFlags flagsOf uniformOf storageOf immediatesOf rowOf judge
+unfolding typeInner innerOf structMembers resultAt valueAt trySize membersAlignment alignmentOf layoutOf integerWidth floatWidth checkWidth arrayVerdict shareVerdict memberVerdict distanceVerdict distanceOk unsizedVerdict spanVerdict previousOf memberBounds blendedAfter sourceResult sourceAt otherLocation structBlend uniformAfter storageAfter immediatesAfter leafFlags flagsOf uniformOf storageOf immediatesOf rowOf judge
 sizes = (refl, refl, refl, refl)
 
 -- the flags of the struct: DATA, COPY, HOST_SHAREABLE and CREATION_RESOLVED
 pub flags : rowIn 0 types members 5 .flags ≡ 149
-unfolding typeInner innerOf structMembers resultAt valueAt trySize membersAlignment alignmentOf layoutOf integerWidth floatWidth checkWidth arrayVerdict shareVerdict memberVerdict distanceVerdict distanceOk unsizedVerdict spanVerdict previousOf memberBounds boundsAfter uniformAfter storageAfter immediatesAfter leafFlags flagsOf uniformOf storageOf immediatesOf rowOf judge
+unfolding typeInner innerOf structMembers resultAt valueAt trySize membersAlignment alignmentOf layoutOf integerWidth floatWidth checkWidth arrayVerdict shareVerdict memberVerdict distanceVerdict distanceOk unsizedVerdict spanVerdict previousOf memberBounds blendedAfter sourceResult sourceAt otherLocation structBlend uniformAfter storageAfter immediatesAfter leafFlags flagsOf uniformOf storageOf immediatesOf rowOf judge
 flags = refl
 
 pub flags-7 : rowIn 0 types members 7 .flags ≡ 247
-unfolding typeInner innerOf structMembers resultAt valueAt trySize membersAlignment alignmentOf layoutOf integerWidth floatWidth checkWidth arrayVerdict shareVerdict memberVerdict distanceVerdict distanceOk unsizedVerdict spanVerdict previousOf memberBounds boundsAfter uniformAfter storageAfter immediatesAfter leafFlags flagsOf uniformOf storageOf immediatesOf rowOf judge
+unfolding typeInner innerOf structMembers resultAt valueAt trySize membersAlignment alignmentOf layoutOf integerWidth floatWidth checkWidth arrayVerdict shareVerdict memberVerdict distanceVerdict distanceOk unsizedVerdict spanVerdict previousOf memberBounds blendedAfter sourceResult sourceAt otherLocation structBlend uniformAfter storageAfter immediatesAfter leafFlags flagsOf uniformOf storageOf immediatesOf rowOf judge
 flags-7 = refl
 
 -- its storage verdict: Ok with alignment 16
 pub storage : (rowIn 0 types members 5 .storage .code ≡ 0) × (rowIn 0 types members 5 .storage .ty ≡ 16)
-unfolding typeInner innerOf structMembers resultAt valueAt trySize membersAlignment alignmentOf layoutOf integerWidth floatWidth checkWidth arrayVerdict shareVerdict memberVerdict distanceVerdict distanceOk unsizedVerdict spanVerdict previousOf memberBounds boundsAfter uniformAfter storageAfter immediatesAfter leafFlags flagsOf uniformOf storageOf immediatesOf rowOf judge
+unfolding typeInner innerOf structMembers resultAt valueAt trySize membersAlignment alignmentOf layoutOf integerWidth floatWidth checkWidth arrayVerdict shareVerdict memberVerdict distanceVerdict distanceOk unsizedVerdict spanVerdict previousOf memberBounds blendedAfter sourceResult sourceAt otherLocation structBlend uniformAfter storageAfter immediatesAfter leafFlags flagsOf uniformOf storageOf immediatesOf rowOf judge
 storage = (refl, refl)
 
 -- the struct is a host-shareable data type of an accepted arena

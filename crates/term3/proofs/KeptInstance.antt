@@ -7,7 +7,7 @@ use Prim.Native.Nat.{ℕ}
 use native.Mathlib.Omega.{arith}
 use lib.Dec.{T}
 use Rattle.records.specs.Record.{Decoded, decoded, innerOf, typeInner, structMembers}
-use Rattle.records.specs.Fields.{tablesFit, fieldsOk, recordAt}
+use Rattle.records.specs.Fields.{tablesFit, fieldsOk, recordAt, locatedTo}
 use Rattle.records.specs.Table.{resultAt, valueAt}
 use Rattle.records.specs.declared.Outcome.the-variants.{Accepted, Refused}
 use Rattle.type_methods.specs.TypeMethods.{trySize}
@@ -18,7 +18,8 @@ use Rattle.width.specs.Width.{integerWidth, floatWidth, checkWidth}
 use Rattle.type_flags.specs.TypeFlags.{leafFlags}
 use Rattle.type_info.specs.Verdict.{alignmentIn, arrayVerdict, shareVerdict, memberVerdict, distanceVerdict, distanceOk, unsizedVerdict, spanVerdict}
 use Rattle.type_info.specs.Verdict.{previousOf}
-use Rattle.member_bounds.specs.MemberBounds.{memberBounds, boundsAfter}
+use Rattle.member_bounds.specs.MemberBounds.{memberBounds}
+use Rattle.valid_blend.specs.Blend.{sourceAt, sourceResult, blendedAfter, otherLocation, structBlend}
 use Rattle.member_rules.specs.MemberRules.{uniformAfter, storageAfter, immediatesAfter}
 use Rattle.validate_type.specs.ValidateType.{flagsOf, uniformOf, storageOf, immediatesOf, rowOf, judge}
 use Rattle.valid.specs.Arena.{row, judgeOutcome, arenaOutcome, arena}
@@ -34,11 +35,11 @@ abbrev types : List ℕ
 types = 0 ∷ 2 ∷ 2 ∷ 0 ∷ 0 ∷ 0 ∷ 8 ∷ 0 ∷ 2 ∷ 4 ∷ 0 ∷ 0 ∷ []
 
 abbrev members : List ℕ
-members = 0 ∷ 0 ∷ 0 ∷ 2 ∷ []
+members = 0 ∷ 0 ∷ 0 ∷ 0 ∷ 0 ∷ 2 ∷ 0 ∷ 0 ∷ []
 
 -- unfolding this name unfolds all that the check computes with
 unfoldable check : (c : ℕ) (ts ms : List ℕ) → Type 0
-unfolding arena arenaOutcome layoutOutcome judgeOutcome tablesFit recordAt fieldsOk typeInner innerOf structMembers resultAt valueAt trySize membersAlignment alignmentOf layoutOf integerWidth floatWidth checkWidth arrayVerdict shareVerdict memberVerdict distanceVerdict distanceOk unsizedVerdict spanVerdict previousOf memberBounds boundsAfter uniformAfter storageAfter immediatesAfter leafFlags flagsOf uniformOf storageOf immediatesOf rowOf judge
+unfolding arena arenaOutcome layoutOutcome judgeOutcome tablesFit recordAt locatedTo fieldsOk typeInner innerOf structMembers resultAt valueAt trySize membersAlignment alignmentOf layoutOf integerWidth floatWidth checkWidth arrayVerdict shareVerdict memberVerdict distanceVerdict distanceOk unsizedVerdict spanVerdict previousOf memberBounds blendedAfter sourceResult sourceAt otherLocation structBlend uniformAfter storageAfter immediatesAfter leafFlags flagsOf uniformOf storageOf immediatesOf rowOf judge
 check c ts ms = arena c ts ms ≡ Accepted
 
 without : arena 0 types members ≡ Refused 8 0 0 1
@@ -61,7 +62,7 @@ abbrev moreTypes : List ℕ
 moreTypes = 0 ∷ 2 ∷ 8 ∷ 0 ∷ 0 ∷ 0 ∷ 8 ∷ 2 ∷ 2 ∷ 16 ∷ 0 ∷ 0 ∷ []
 
 abbrev moreMembers : List ℕ
-moreMembers = 2 ∷ 0 ∷ 1 ∷ 8 ∷ []
+moreMembers = 2 ∷ 0 ∷ 0 ∷ 0 ∷ 1 ∷ 8 ∷ 0 ∷ 0 ∷ []
 
 longer-accepted : arena 3 (types ++ moreTypes) (members ++ moreMembers) ≡ Accepted
 unfolding check

@@ -82,7 +82,7 @@ module _ (c : ℕ) (types : ℕ → Decoded) (n : ℕ) (acc : AcceptedTypes c ty
       let b = member-earlier c types n acc t l count span e j lj in
       let sto = storageAfter (row c types) t members count in
       record {
-        hostShareable = λ h. m .flag hostShareableBit (rw (s .flags) at h);
+        hostShareable = λ h. m .flag hostShareableBit (rw (s .flags hostShareableBit refl) at h);
         aligned = λ k.
             let k₁ = subst (λ (v : Verdict). T (isOk v)) (s .storage) k in
             let q = s .storage ∙ span-ok t span (layout types t .alignment) sto k₁ in
@@ -265,7 +265,7 @@ module _ (c : ℕ) (types : ℕ → Decoded) (n : ℕ) (acc : AcceptedTypes c ty
       let m = struct-member c types n acc t l count span e s (g .0) in
       let m′ = struct-member c types n acc t l count span e s′ (g′ .0) in
       let z : (T (isArray (types (memberType (types t .members) s) .inner)) × (suc s ≡ count)) → ⊥ = λ x. omega (arith, x .1, g′ .0) in
-      rw (← g .1, ← g .2, ← g′ .2) (record { sized = unless (m .sizedOrTail) z; ends = m′ .apart (rw (a .flags) at o) s lt })
+      rw (← g .1, ← g .2, ← g′ .2) (record { sized = unless (m .sizedOrTail) z; ends = m′ .apart (rw (a .flags hostShareableBit refl) at o) s lt })
   before-of t l (Other x) e o w s s′ ty bytes ty′ bytes′ q q′ lt = other-step x (types t .members) s ty bytes q
 
   -- the lesser of two steps from one type leads to the lesser place

@@ -85,7 +85,7 @@ leastOf command.Unknown = 1
 abbrev pub mostOf : Command → ℕ
 mostOf command.Capabilities = 1
 mostOf command.TypeRecord = 6
-mostOf command.MemberRecord = 2
+mostOf command.MemberRecord = 4
 mostOf command.Layout = 0
 mostOf command.Judge = 0
 mostOf command.Check = 0
@@ -118,7 +118,7 @@ listOf (wrong r) = []
 abbrev pub lineBy : Command → List ℕ → Line
 lineBy command.Capabilities ns = line.Capabilities (getD ns 0 0)
 lineBy command.TypeRecord ns = line.TypeRecord (getD ns 0 0) (getD ns 1 0) (getD ns 2 0) (getD ns 3 0) (getD ns 4 0) (getD ns 5 0)
-lineBy command.MemberRecord ns = line.MemberRecord (getD ns 0 0) (getD ns 1 0)
+lineBy command.MemberRecord ns = line.MemberRecord (getD ns 0 0) (getD ns 1 0) (getD ns 2 0) (getD ns 3 0)
 lineBy command.Layout ns = line.Layout
 lineBy command.Judge ns = line.Judge
 lineBy command.Check ns = line.Check

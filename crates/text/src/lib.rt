@@ -24,6 +24,8 @@ pub enum Line {
     MemberRecord {
         ty: u32,
         offset: u32,
+        location: u32,
+        source: u32,
     },
     Layout,
     Judge,
@@ -128,7 +130,7 @@ fn usage_of(command: Command) -> Usage
     match command {
         Command::Capabilities => Usage { least: 1, most: 1 },
         Command::TypeRecord => Usage { least: 1, most: 6 },
-        Command::MemberRecord => Usage { least: 2, most: 2 },
+        Command::MemberRecord => Usage { least: 2, most: 4 },
         Command::Layout => Usage { least: 0, most: 0 },
         Command::Judge => Usage { least: 0, most: 0 },
         Command::Check => Usage { least: 0, most: 0 },
@@ -167,7 +169,12 @@ fn line_by(command: Command, numbers: &[u32]) -> Line
             d: records::word_at(numbers, 4),
             e: records::word_at(numbers, 5),
         },
-        Command::MemberRecord => Line::MemberRecord { ty: a, offset: b },
+        Command::MemberRecord => Line::MemberRecord {
+            ty: a,
+            offset: b,
+            location: records::word_at(numbers, 2),
+            source: records::word_at(numbers, 3),
+        },
         Command::Layout => Line::Layout,
         Command::Judge => Line::Judge,
         Command::Check => Line::Check,

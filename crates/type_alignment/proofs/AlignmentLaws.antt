@@ -5,10 +5,11 @@ use mathlib.Core.List.{List}
 use Prim.Native.Nat.{ℕ, _+_, _≤_, _<_, max}
 use native.Mathlib.Omega.{arith}
 use native.Mathlib.Numerals.{add-one}
-use native.Mathlib.Decide.{le-ind}
+use native.Mathlib.Decide.{le-ind, ℕ-discrete}
+use lib.Bits.{bitOr, or-add-and, and-le-l, and-le-r}
 use borrow.Author.Tests.{lt-ltb, le-ltb}
 use Rattle.records.specs.Result.{err, ok}
-use Rattle.records.specs.Record.{memberType}
+use Rattle.records.specs.Record.{memberType, memberSource, Sourceless}
 use Rattle.alignment.specs.Alignment.{vectorAlignment}
 use Rattle.alignment.proofs.PowerLaws.{vector-within}
 use Rattle.type_alignment.specs.declared.TypeLayout.{TypeLayout}
@@ -19,6 +20,21 @@ pub factor-within : (n : ℕ) → vectorAlignment n ≤ 16
 factor-within n = omega (arith, vector-within n)
 
 -- ---- the loop over members
+-- words in one that is 0
+or-none : (a b : ℕ) → bitOr a b ≡ 0 → (a ≡ 0) × (b ≡ 0)
+or-none a b e = (omega (arith, e, or-add-and a b, and-le-r a b), omega (arith, e, or-add-and a b, and-le-l a b))
+
+pub one-more-sourceless : (part : List ℕ) (j sources : ℕ) → (sources ≡ 0 → Sourceless part j)
+    → bitOr sources (memberSource part j) ≡ 0 → Sourceless part (j + 1)
+one-more-sourceless part j sources before e k h = go (ℕ-discrete k j)
+  where
+    none : (sources ≡ 0) × (memberSource part j ≡ 0)
+    none = or-none sources (memberSource part j) e
+
+    go : Dec (k ≡ j) → memberSource part k ≡ 0
+    go (yes q) = rw q (none .1)
+    go (no q) = before (none .0) k (omega (arith, h))
+
 module _ (layouts : ℕ → TypeLayout) (i : ℕ) (part : List ℕ) (j a : ℕ) (so-far : membersAlignment layouts i part j ≡ ok a) where
   pub member-earlier : memberType part j < i → membersAlignment layouts i part (j + 1) ≡ ok (max a (layouts (memberType part j) .alignment))
   unfolding membersAlignment

@@ -1,6 +1,6 @@
 -- Laws of layouts: one type, one record.
 -- Assumes nothing.
-use mathlib.Core.Path.{_≡_, refl, sym, _∙_}
+use mathlib.Core.Path.{_≡_, refl, sym, _∙_, ap}
 use mathlib.Core.Bool.{Bool, true, false, _&&_}
 use mathlib.Core.List.{List}
 use Prim.Native.Nat.{ℕ, _+_, _*_, _≤_, _<_}
@@ -9,13 +9,13 @@ use lib.Dec.{eqb, leb, leb→le}
 use lib.ListN.{length, take, drop, length-drop}
 use lib.Seq.{length-take-le}
 use borrow.Author.Tests.{ne-eqb}
-use Rattle.records.specs.Result.{err, pick, andThen}
-use Rattle.records.specs.Record.{memberCount, typeCount, typeWord, recordWords, structKind, structMembers, innerOf}
-use Rattle.records.specs.Fields.{fieldsOk, InnerBounds}
+use Rattle.records.specs.Result.{err, pick, require, andThen}
+use Rattle.records.specs.Record.{memberWords, memberCount, typeCount, typeWord, recordWords, structKind, structMembers, innerOf}
+use Rattle.records.specs.Fields.{fieldsOk, sourcesLocated, InnerBounds}
 use Rattle.records.specs.declared.Words.{Words}
 use Rattle.records.specs.declared.TypeInner.the-variants.{Array, RuntimeArray}
-use Rattle.records.proofs.ResultLaws.{true-T, and-left}
-use Rattle.records.proofs.RecordLaws.{members-part, fields-bounds}
+use Rattle.records.proofs.ResultLaws.{true-T, and-left, refused-twice}
+use Rattle.records.proofs.RecordLaws.{members-no-struct, members-part, no-rows-located, fields-bounds}
 use Rattle.type_methods.specs.TypeMethods.{arraySize, runtimeArraySize, trySize}
 use Rattle.type_alignment.specs.declared.TypeLayout.{TypeLayout}
 use Rattle.type_alignment.specs.TypeAlignment.{baseAlignment, alignmentOf}
@@ -62,14 +62,17 @@ no-kind m kind a b c d e h =
 
 -- ---- one record, by the words that were read of it
 module _ (ts ms : List ℕ) (layouts : ℕ → TypeLayout) (i : ℕ) (w : Words) (read : w ≡ recordWords ts i) where
-  pub by-words : (kind : ℕ) → w .kind ≡ kind
+  -- a record that is no struct has no rows
+  pub by-words : (kind : ℕ) → w .kind ≡ kind → (kind ≡ structKind → ⊥) → i * 6 + 6 ≤ length ts
       → wordsLayout (memberCount ms) (typeCount ts) layouts i kind (w .a) (w .b) (w .c) (w .d) (w .e) (structMembers ts ms i) ≡ recordLayout ts ms layouts i
   unfolding recordLayout
-  by-words kind e = rw (← e, read) refl
+  by-words kind e other h =
+      let none = members-no-struct ts ms i (omega (arith, h)) (λ q. other (sym e ∙ ap (λ (x : Words). x .kind) read ∙ q)) in
+      rw (← e, read, no-rows-located (structMembers ts ms i) none) refl
 
   pub unfit-words : fieldsOk (memberCount ms) (w .kind) (w .a) (w .b) (w .c) (w .d) (w .e) ≡ false → err 2 0 0 ≡ recordLayout ts ms layouts i
   unfolding recordLayout
-  unfit-words e = rw (rw read at e) refl
+  unfit-words e = rw (rw read at e) (sym (refused-twice 2 0 0 (sourcesLocated (structMembers ts ms i))))
 
 -- the member rows of a struct whose fields are in order lie in the table
 pub members-within : (m a b c d e : ℕ) → fieldsOk m structKind a b c d e ≡ true → a + b ≤ m
@@ -77,12 +80,13 @@ unfolding fieldsOk
 members-within m a b c d e h =
     leb→le (a + b) m (and-left (leb (a + b) m) (eqb d 0) (and-left (leb (a + b) m && eqb d 0) (eqb e 0) (true-T h)))
 
-pub part-length : (ms : List ℕ) (first count : ℕ) → first + count ≤ memberCount ms → length (take (count * 2) (drop (first * 2) ms)) ≡ count * 2
-part-length ms first count h = length-take-le (count * 2) (drop (first * 2) ms) (rw (length-drop (first * 2) ms) (omega (arith, h)))
+pub part-length : (ms : List ℕ) (first count : ℕ) → first + count ≤ memberCount ms → length (take (count * memberWords) (drop (first * memberWords) ms)) ≡ count * memberWords
+part-length ms first count h = length-take-le (count * memberWords) (drop (first * memberWords) ms) (rw (length-drop (first * memberWords) ms) (omega (arith, h)))
 
 -- a struct: its rows are read only where its fields are in order
 pub struct-words : (ts ms : List ℕ) (layouts : ℕ → TypeLayout) (i : ℕ) (w : Words) → w ≡ recordWords ts i → w .kind ≡ structKind → i * 6 + 6 ≤ length ts
-    → wordsLayout (memberCount ms) (typeCount ts) layouts i structKind (w .a) (w .b) (w .c) (w .d) (w .e) (take (w .b * 2) (drop (w .a * 2) ms))
+    → require (sourcesLocated (take (w .b * memberWords) (drop (w .a * memberWords) ms))) 2 0 0
+    (wordsLayout (memberCount ms) (typeCount ts) layouts i structKind (w .a) (w .b) (w .c) (w .d) (w .e) (take (w .b * memberWords) (drop (w .a * memberWords) ms)))
     ≡ recordLayout ts ms layouts i
 unfolding recordLayout
 struct-words ts ms layouts i w read k h =
@@ -92,10 +96,14 @@ struct-words ts ms layouts i w read k h =
     kind = rw read at k
 
     go : (t : Bool) → fieldsOk (memberCount ms) structKind (typeWord ts i 1) (typeWord ts i 2) (typeWord ts i 3) (typeWord ts i 4) (typeWord ts i 5) ≡ t
-        → wordsLayout (memberCount ms) (typeCount ts) layouts i structKind (typeWord ts i 1) (typeWord ts i 2) (typeWord ts i 3) (typeWord ts i 4) (typeWord ts i 5)
-        (take (typeWord ts i 2 * 2) (drop (typeWord ts i 1 * 2) ms))
+        → require (sourcesLocated (take (typeWord ts i 2 * memberWords) (drop (typeWord ts i 1 * memberWords) ms))) 2 0 0
+        (wordsLayout (memberCount ms) (typeCount ts) layouts i structKind (typeWord ts i 1) (typeWord ts i 2) (typeWord ts i 3) (typeWord ts i 4) (typeWord ts i 5)
+        (take (typeWord ts i 2 * memberWords) (drop (typeWord ts i 1 * memberWords) ms)))
         ≡ recordLayout ts ms layouts i
     go true e =
         let within = members-within (memberCount ms) (typeWord ts i 1) (typeWord ts i 2) (typeWord ts i 3) (typeWord ts i 4) (typeWord ts i 5) e in
         rw (members-part ts ms i (omega (arith, h)) kind within, kind) refl
-    go false e = rw (kind, e) refl
+    go false e =
+        rw (kind, e)
+        (refused-twice 2 0 0 (sourcesLocated (take (typeWord ts i 2 * memberWords) (drop (typeWord ts i 1 * memberWords) ms)))
+        ∙ sym (refused-twice 2 0 0 (sourcesLocated (structMembers ts ms i))))

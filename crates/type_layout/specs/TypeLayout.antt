@@ -5,7 +5,7 @@ use mathlib.Core.List.{List}
 use Prim.Native.Nat.{ℕ}
 use Rattle.records.specs.Result.{Result, err, ok, require, andThen}
 use Rattle.records.specs.Record.{memberCount, typeCount, typeWord, innerOf, structMembers}
-use Rattle.records.specs.Fields.{fieldsOk, baseWithin}
+use Rattle.records.specs.Fields.{fieldsOk, baseWithin, sourcesLocated}
 use Rattle.records.specs.declared.TypeInner.{TypeInner}
 use Rattle.type_methods.specs.TypeMethods.{trySize}
 use Rattle.type_alignment.specs.declared.TypeLayout.{TypeLayout}
@@ -32,8 +32,9 @@ wordsLayout m n layouts i kind a b c d e members =
 -- of record i
 unfoldable pub recordLayout : (ts ms : List ℕ) (layouts : ℕ → TypeLayout) → ℕ → Result TypeLayout
 recordLayout ts ms layouts i =
-    wordsLayout (memberCount ms) (typeCount ts) layouts i (typeWord ts i 0) (typeWord ts i 1) (typeWord ts i 2) (typeWord ts i 3) (typeWord ts i 4) (typeWord ts i 5)
-    (structMembers ts ms i)
+    require (sourcesLocated (structMembers ts ms i)) 2 0 0
+    (wordsLayout (memberCount ms) (typeCount ts) layouts i (typeWord ts i 0) (typeWord ts i 1) (typeWord ts i 2) (typeWord ts i 3) (typeWord ts i 4) (typeWord ts i 5)
+    (structMembers ts ms i))
 
 -- ---- what the code answers
 abbrev pub laidResult : Laid → Result TypeLayout

@@ -7,7 +7,8 @@ ghost use mathlib.Core.List.{List};
 ghost use Prim.Native.Nat.{ℕ, _+_, _*_, _≤_, _<_};
 ghost use lib.ListN.{length, take, drop};
 ghost use Rattle.records.specs.Result.{err, ok, require, andThen};
-ghost use Rattle.records.specs.Record.{scalarKind, vectorKind, matrixKind, cooperativeMatrixKind, arrayKind, structKind, memberCount};
+ghost use Rattle.records.specs.Fields.{sourcesLocated};
+ghost use Rattle.records.specs.Record.{scalarKind, vectorKind, matrixKind, cooperativeMatrixKind, arrayKind, structKind, memberWords, memberCount};
 ghost use Rattle.type_methods.specs.TypeMethods.{sizeByForm};
 ghost use Rattle.type_alignment.specs.declared.TypeLayout as layout;
 ghost use Rattle.type_alignment.specs.TypeAlignment.{baseAlignment, layoutsIn, alignedResult};
@@ -143,11 +144,12 @@ fn struct_record(
     e: u32,
 ) -> Laid
     requires { ⌜ length (now rows) ≡ i * 14 ⌝ }
-    ensures { λ r. ⌜ ((n : ℕ) → laidResult r ≡ wordsLayout (memberCount (now (members .entry))) n (layoutsIn (now (rows .entry))) i structKind a b c d e (take (b * 2) (drop (a * 2) (now (members .entry))))) ⌝ }
+    ensures { λ r. ⌜ ((n : ℕ) → laidResult r ≡ require (sourcesLocated (take (b * memberWords) (drop (a * memberWords) (now (members .entry))))) 2 0 0 (wordsLayout (memberCount (now (members .entry))) n (layoutsIn (now (rows .entry))) i structKind a b c d e (take (b * memberWords) (drop (a * memberWords) (now (members .entry)))))) ⌝ }
 {
     if fields::struct_fields(members.len() / records::MEMBER_WORDS, a, b, d, e) {
         let part = records::member_part(members, a, b);
-        return with_alignment(c, type_alignment::members_alignment(rows, i, part, b));
+        let located = type_alignment::members_alignment(rows, i, part, b);
+        return with_alignment(c, type_alignment::as_aligned(located));
     }
     unfit()
 }

@@ -4,7 +4,7 @@ use mathlib.Core.Path.{_≡_, refl, sym, _∙_, ap, subst}
 use mathlib.Core.Bool.{_&&_}
 use mathlib.Core.Logic.{_⊎_}
 use mathlib.Core.List.{List}
-use Prim.Native.Nat.{ℕ, zero, suc, _*_, _≤_, _<_}
+use Prim.Native.Nat.{ℕ, zero, suc, _*_, _/_, _%_, _^_, _≤_, _<_}
 use native.Mathlib.Nat.{not-suc-le-zero, le-refl}
 use native.Mathlib.Decide.{ℕ-discrete}
 use native.Mathlib.Omega.{arith}
@@ -20,7 +20,7 @@ use Rattle.records.specs.declared.Leaf.the-variants.{Scalar, Vector, Matrix, Co
 use Rattle.records.specs.declared.NonData.{NonData}
 use Rattle.records.specs.declared.TypeInner.{TypeInner}
 use Rattle.records.specs.declared.TypeInner.the-variants.{Plain, Array, RuntimeArray, Struct, Other}
-use Rattle.records.proofs.ResultLaws.{required, and-then-ok, ok-inj, and-left, and-right}
+use Rattle.records.proofs.ResultLaws.{required, ok-inj, and-left, and-right}
 use Rattle.records.proofs.TableLaws.{table-value, value-ok, same-value, same-good, all-ok, accepted-all}
 use Rattle.alignment.specs.Alignment.{Power}
 use Rattle.alignment.proofs.PowerLaws.{power-of-width, power-vector}
@@ -31,7 +31,7 @@ use Rattle.type_alignment.proofs.AlignmentPower.{power-one}
 use Rattle.layouter.specs.Layouter.{noLayout, layoutStep, layoutAt, layout}
 use Rattle.layouter.proofs.LayoutAccepted.{plain-layout, plain-width, array-layout, runtime-array-layout, struct-layout}
 use Rattle.layouter.proofs.LayoutPower.{layout-power}
-use Rattle.flags.specs.Flags.{bit, dataBit, sizedBit, creationResolvedBit, isSizedData}
+use Rattle.flags.specs.Flags.{bit, ioShareableFlag, dataBit, sizedBit, creationResolvedBit, isSizedData}
 use Rattle.flags.proofs.BitLaws.{bit-or-left, bit-or-right}
 use Rattle.type_flags.specs.TypeFlags.{leafFlags}
 use Rattle.type_info.specs.declared.Row.{Row}
@@ -47,6 +47,8 @@ use Rattle.member_bounds.proofs.BoundsSame.{bounds-rows}
 use Rattle.member_rules.proofs.MemberSame.{uniform-rows, storage-rows, immediates-rows}
 use Rattle.validate_type.specs.ValidateType.{flagsOf, leafVerdictAlignment, leafImmediates, uniformOf, storageOf, immediatesOf, rowOf, judge}
 use Rattle.valid.specs.Arena.{judgeStep, judgedAt, row}
+use Rattle.valid_blend.proofs.BlendLaws.{blend-bit}
+use Rattle.validate_type.proofs.StructFlags.{struct-flags}
 use Rattle.validate_type.proofs.CapabilityLaws.{HasAll, judge-more}
 use Rattle.validate_type.proofs.JudgeLaws.{Judged, judged-parts, isDataInner, flags-data}
 use Rattle.valid.proofs.DependLaws.{innerIn, rowsBefore, layout-at-depends, row-depends, judged-depends}
@@ -92,7 +94,8 @@ pub record StructRow (inner : ℕ → TypeInner) (rows : ℕ → Row) (i alignme
   pub nonempty : 0 < count
   pub after : Bounds
   pub accepted : boundsAfter inner rows count span members count ≡ ok after
-  pub flags : r .flags ≡ after .flags
+  -- blend sources may add IO_SHAREABLE, and nothing else
+  pub flags : (k : ℕ) → ioShareableFlag / 2 ^ k % 2 ≡ 0 → bit (r .flags) k ≡ bit (after .flags) k
   pub size : r .size ≡ span
   pub uniform : r .uniform ≡ spanVerdict i span alignment (uniformAfter minUniform inner rows i members count)
   pub storage : r .storage ≡ spanVerdict i span alignment (storageAfter rows i members count)
@@ -215,13 +218,12 @@ module _ (c : ℕ) (types : ℕ → Decoded) (n : ℕ) (acc : AcceptedTypes c ty
       let before = rowsBefore c types i in
       let same : (j : ℕ) → j < count → before (memberType members j) ≡ row c types (memberType members j) =
       λ j l. row-before i (memberType members j) (member-earlier i h count span e j l) in
-      let a = required (ltb 0 count) 16 0 0 _ (row c types i .flags) (p .flags) in
-      let b = and-then-ok (boundsAfter (innerIn types) before count span members count) _ (row c types i .flags) (a .1) in
+      let s = struct-flags c (innerIn types) before count span members (row c types i .flags) (p .flags) in
       record {
-        nonempty = ltb→lt 0 count (a .0);
-        after = b .0;
-        accepted = sym (bounds-rows before (row c types) members count same (innerIn types) count span count (le-refl count)) ∙ b .1;
-        flags = sym (ok-inj (b .2));
+        nonempty = ltb→lt 0 count (s .nonempty);
+        after = s .after;
+        accepted = sym (bounds-rows before (row c types) members count same (innerIn types) count span count (le-refl count)) ∙ s .accepted;
+        flags = blend-bit (innerIn types) before members count (s .after .flags) (row c types i .flags) (s .blend);
         size = row-size i h ∙ struct-layout types n (acc .layouts) i h count span e .0;
         uniform =
             ap (λ (r : Row). r .uniform) (p .is)

@@ -11,12 +11,11 @@ use Rattle.records.specs.Result.{ok, require}
 use Rattle.records.specs.Record.{structKind, typeWords, typeCount, typeWord, memberWords, memberCount, typeInner, structMembers, decoded}
 use Rattle.records.specs.Fields.{fieldsOk, baseWithin, recordAt}
 use Rattle.records.proofs.ResultLaws.{required, T-true}
-use Rattle.records.proofs.RecordLaws.{members-no-struct, members-part}
+use Rattle.records.proofs.RecordLaws.{record-fields, members-no-struct, members-part}
 use Rattle.type_layout.proofs.TypeLayoutLaws.{members-within}
 
 -- the member table has the rows of a struct whose record is in order
 struct-within : (ts ms : List ℕ) (i : ℕ) → recordAt ts ms i ≡ ok tt → typeWord ts i 0 ≡ structKind → typeWord ts i 1 + typeWord ts i 2 ≤ memberCount ms
-unfolding recordAt
 struct-within ts ms i in-order kind =
     let fields =
     required
@@ -24,7 +23,7 @@ struct-within ts ms i in-order kind =
     2 0 0
     (require (baseWithin (typeCount ts) (typeWord ts i 0) (typeWord ts i 1)) 3 0 0 (ok tt))
     tt
-    in-order
+    (record-fields ts ms i in-order)
     .0 in
     members-within (memberCount ms) (typeWord ts i 1) (typeWord ts i 2) (typeWord ts i 3) (typeWord ts i 4) (typeWord ts i 5) (T-true _ (rw kind at fields))
 

@@ -1,22 +1,27 @@
 // validate_type of naga's valid/type.rs: the row of a struct, and of any type by its kind, with numbers 2 to 7 of its record before it.
 use members::Members;
-use type_alignment::Aligned;
+use type_alignment::Located;
+use valid_blend::Blend;
+use valid_blend::Source;
 use validate_type::Judged;
 ghost use mathlib.Core.Path.{_≡_};
+ghost use mathlib.Core.Bool.{false};
 ghost use Prim.Native.Nat.{ℕ, _+_, _*_, _≤_, _<_};
 ghost use lib.ListN.{length, take, drop};
-ghost use Rattle.records.specs.Record.{structKind, memberCount, typeInner, memberType};
+ghost use Rattle.records.specs.Record.{structKind, memberWords, memberCount, typeInner, memberType, Sourceless};
+ghost use Rattle.records.specs.Result.{require};
+ghost use Rattle.records.specs.Fields.{sourcesLocated};
 ghost use Rattle.records.specs.declared.TypeInner.the-variants.{Struct};
 ghost use Rattle.type_info.specs.TypeInfo.{rowsIn};
 ghost use Rattle.members.specs.Members.{stateAfter, membersResult};
 ghost use Rattle.validate_type.specs.ValidateType.{judge, Settled};
 ghost use Rattle.validate_type.specs.TypeRow.{wordsRow, recordRow};
 
-// All members of struct i.
+// All members of struct i, by the rules that do not read blend sources.
 fn members_of(types: &[u32], rows: &[u32], i: u32, part: &[u32], count: u32, span: u32) -> Members
     requires { ⌜ length (now rows) ≡ i * 14 ⌝ }
     requires { ⌜ i * 6 ≤ length (now types) ⌝ }
-    requires { ⌜ length (now part) ≡ count * 2 ⌝ }
+    requires { ⌜ length (now part) ≡ count * memberWords ⌝ }
     requires { ⌜ ((j : ℕ) → j < count → memberType (now part) j < i) ⌝ }
     ensures { λ r. ⌜ membersResult r ≡ stateAfter (typeInner (now (types .entry))) (rowsIn (now (rows .entry))) i count span (now (part .entry)) count ⌝ }
 {
@@ -35,8 +40,10 @@ fn members_of(types: &[u32], rows: &[u32], i: u32, part: &[u32], count: u32, spa
     members::members_of(types, rows, i, part, count, span, taken, state)
 }
 
-// The row of struct i, whose fields are in order and whose alignment is known.
+// The row of struct i, whose fields and rows are in order and whose alignment is known. sourced: a member may have a blend source.
 fn members_row(
+    capabilities: u32,
+    sourced: bool,
     types: &[u32],
     part: &[u32],
     rows: &mut [u32],
@@ -47,9 +54,10 @@ fn members_row(
 ) -> Judged
     requires { ⌜ i * 14 + 14 ≤ length (now rows) ⌝ }
     requires { ⌜ i * 6 ≤ length (now types) ⌝ }
-    requires { ⌜ length (now part) ≡ count * 2 ⌝ }
+    requires { ⌜ length (now part) ≡ count * memberWords ⌝ }
     requires { ⌜ ((j : ℕ) → j < count → memberType (now part) j < i) ⌝ }
-    ensures { λ r. ⌜ ((c : ℕ) → Settled r (i * 14) (now (rows .entry)) (now (rows .exit)) (judge c (typeInner (now (types .entry))) (rowsIn (take (i * 14) (now (rows .entry)))) i (record { size = span; alignment = alignment }) (Struct count span) (now (part .entry)))) ⌝ }
+    requires { ⌜ (sourced ≡ false → Sourceless (now part) (memberCount (now part))) ⌝ }
+    ensures { λ r. ⌜ Settled r (i * 14) (now (rows .entry)) (now (rows .exit)) (judge capabilities (typeInner (now (types .entry))) (rowsIn (take (i * 14) (now (rows .entry)))) i (record { size = span; alignment = alignment }) (Struct count span) (now (part .entry))) ⌝ }
 {
     if count == 0 {
         return Judged::Refused {
@@ -62,31 +70,61 @@ fn members_row(
     match members_of(types, &rows[..at], i, part, count, span) {
         Members::Taken(state) => {
             let bounds = state.bounds;
-            let flags = bounds.flags;
-            let uniform = type_info::span_verdict(i, span, alignment, state.uniform);
-            let storage = type_info::span_verdict(i, span, alignment, state.storage);
-            type_rows::put(
-                rows,
+            match valid_blend::blended_flags(
+                sourced,
+                capabilities,
+                types,
+                &rows[..at],
                 i,
-                span,
-                alignment,
-                flags,
-                uniform,
-                storage,
-                state.immediates,
-            );
-            Judged::Made
+                part,
+                count,
+                bounds.flags,
+            ) {
+                Blend::Flags(flags) => {
+                    let uniform = type_info::span_verdict(i, span, alignment, state.uniform);
+                    let storage = type_info::span_verdict(i, span, alignment, state.storage);
+                    type_rows::put(
+                        rows,
+                        i,
+                        span,
+                        alignment,
+                        flags,
+                        uniform,
+                        storage,
+                        state.immediates,
+                    );
+                    Judged::Made
+                }
+                Blend::Refused { number, detail } => Judged::Refused {
+                    number,
+                    member: 0,
+                    detail,
+                },
+            }
         }
-        Members::Refused { number, member } => Judged::Refused {
-            number,
-            member,
-            detail: 0,
-        },
+        Members::Refused { number, member } => {
+            match valid_blend::source_before(sourced, capabilities, part, number, member) {
+                Source::Fine => Judged::Refused {
+                    number,
+                    member,
+                    detail: 0,
+                },
+                Source::Refused {
+                    number: first,
+                    detail,
+                } => Judged::Refused {
+                    number: first,
+                    member: 0,
+                    detail,
+                },
+            }
+        }
     }
 }
 
 // Of struct i, a record with these words: numbers 2 to 7 and then its row, which is written where there is one.
 fn struct_row(
+    capabilities: u32,
     types: &[u32],
     members: &[u32],
     rows: &mut [u32],
@@ -99,7 +137,7 @@ fn struct_row(
 ) -> Judged
     requires { ⌜ i * 14 + 14 ≤ length (now rows) ⌝ }
     requires { ⌜ i * 6 ≤ length (now types) ⌝ }
-    ensures { λ r. ⌜ ((c n : ℕ) → Settled r (i * 14) (now (rows .entry)) (now (rows .exit)) (wordsRow c (memberCount (now (members .entry))) n (typeInner (now (types .entry))) (take (i * 14) (now (rows .entry))) i structKind first count span d e (take (count * 2) (drop (first * 2) (now (members .entry)))))) ⌝ }
+    ensures { λ r. ⌜ ((n : ℕ) → Settled r (i * 14) (now (rows .entry)) (now (rows .exit)) (require (sourcesLocated (take (count * memberWords) (drop (first * memberWords) (now (members .entry))))) 2 0 0 (wordsRow capabilities (memberCount (now (members .entry))) n (typeInner (now (types .entry))) (take (i * 14) (now (rows .entry))) i structKind first count span d e (take (count * memberWords) (drop (first * memberWords) (now (members .entry))))))) ⌝ }
 {
     let at = (i as usize) * records::ROW_WORDS;
     if !fields::struct_fields(members.len() / records::MEMBER_WORDS, first, count, d, e) {
@@ -111,8 +149,18 @@ fn struct_row(
     }
     let part = records::member_part(members, first, count);
     match type_alignment::members_alignment(&rows[..at], i, part, count) {
-        Aligned::To(alignment) => members_row(types, part, rows, i, count, span, alignment),
-        Aligned::Refused { number, member } => Judged::Refused {
+        Located::To { alignment, sourced } => members_row(
+            capabilities,
+            sourced,
+            types,
+            part,
+            rows,
+            i,
+            count,
+            span,
+            alignment,
+        ),
+        Located::Refused { number, member } => Judged::Refused {
             number,
             member,
             detail: 0,
@@ -135,7 +183,18 @@ pub fn record_row(
     let w = records::own_record(types, i);
     let kind = w.kind;
     if kind == records::STRUCT_KIND {
-        return struct_row(types, members, rows, i, w.a, w.b, w.c, w.d, w.e);
+        return struct_row(
+            capabilities,
+            types,
+            members,
+            rows,
+            i,
+            w.a,
+            w.b,
+            w.c,
+            w.d,
+            w.e,
+        );
     }
     if kind == records::ARRAY_KIND {
         return validate_type::array_row(rows, i, w.a, w.b, w.c, w.d, w.e);

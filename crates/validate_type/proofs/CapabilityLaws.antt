@@ -15,10 +15,12 @@ use Rattle.records.specs.declared.TypeInner.the-variants.{Plain, Array, Runtime
 use Rattle.records.proofs.ResultLaws.{required, require-pass, and-then-ok}
 use Rattle.type_alignment.specs.declared.TypeLayout.{TypeLayout}
 use Rattle.flags.specs.Flags.{bit}
-use Rattle.width.specs.Width.{float64, shaderFloat16, shaderInt16, shaderInt64, shaderFloat32Atomic, shaderInt64AtomicMinMax, shaderInt64AtomicAllOps, cooperativeMatrix, cubeArrayTextures, textureExternal, rayQuery, rayTracingPipeline, rayHitVertexPosition, uint, float, integerWidth, floatWidth, checkWidth, integerAtomic, atomicWidth}
+use Rattle.width.specs.Width.{float64, shaderFloat16, shaderInt16, shaderInt64, shaderFloat32Atomic, shaderInt64AtomicMinMax, shaderInt64AtomicAllOps, cooperativeMatrix, cubeArrayTextures, textureExternal, rayQuery, rayTracingPipeline, rayHitVertexPosition, dualSourceBlending, uint, float, integerWidth, floatWidth, checkWidth, integerAtomic, atomicWidth}
 use Rattle.type_flags.specs.TypeFlags.{leafFlags, imageFlags}
 use Rattle.type_info.specs.declared.Row.{Row}
+use Rattle.valid_blend.proofs.BlendLaws.{source-more}
 use Rattle.validate_type.specs.ValidateType.{nonDataFlags, flagsOf, judge}
+use Rattle.validate_type.proofs.StructFlags.{struct-flags, flags-struct}
 
 -- every capability of c is one of d
 abbrev pub HasAll : (c d : ℕ) → Type 0
@@ -142,7 +144,16 @@ module _ (c d : ℕ) (adds : HasAll c d) where
   flags-more inner rows (Plain leaf) members f e = leaf-more leaf f e
   flags-more inner rows (Array base count stride) members f e = e
   flags-more inner rows (RuntimeArray base stride) members f e = e
-  flags-more inner rows (Struct count span) members f e = e
+  flags-more inner rows (Struct count span) members f e =
+      let s = struct-flags c inner rows count span members f e in
+      flags-struct d inner rows count span members f
+      (record {
+        nonempty = s .nonempty;
+        after = s .after;
+        accepted = s .accepted;
+        pass = λ m h. source-more (bit c dualSourceBlending) (bit d dualSourceBlending) (adds dualSourceBlending) members m (s .pass m h);
+        blend = s .blend;
+      })
   flags-more inner rows (Other o) members f e = non-data-more inner rows o f e
 
   -- the row of a type stays

@@ -3,10 +3,11 @@
 use mathlib.Core.Path.{_≡_, refl, sym, _∙_, ap}
 use mathlib.Core.Bool.{Bool, true, false, not, _&&_, _||_}
 use mathlib.Core.List.{List}
-use Prim.Native.Nat.{ℕ}
+use Prim.Native.Nat.{ℕ, _<_}
 use lib.Bits.{bitAnd, bitOr}
 use lib.Dec.{T, eqb, leb, ltb}
 use Rattle.records.specs.Result.{Result, ok, pick, require, andThen}
+use Rattle.records.specs.Record.{memberType}
 use Rattle.records.specs.declared.Leaf.{Leaf}
 use Rattle.records.specs.declared.Leaf.the-variants.{Scalar, Vector, Matrix, CooperativeMatrix, Atomic, RayQuery}
 use Rattle.records.specs.declared.NonData.{NonData}
@@ -21,12 +22,12 @@ use Rattle.width.specs.Width.{float, cooperativeMatrix, cubeArrayTextures, text
 use Rattle.type_flags.specs.TypeFlags.{leafFlags, isStruct, isExternalImage}
 use Rattle.type_info.specs.declared.Row.{Row}
 use Rattle.type_info.specs.Verdict.{minUniform, spanVerdict}
-use Rattle.member_bounds.specs.declared.Bounds.{Bounds}
-use Rattle.member_bounds.specs.MemberBounds.{boundsAfter}
 use Rattle.member_bounds.proofs.BoundsLaws.{members-in, members-data}
 use Rattle.member_bounds.proofs.BoundsSame.{bounds-inner}
 use Rattle.member_rules.proofs.MemberSame.{uniform-inner}
+use Rattle.valid_blend.proofs.BlendLaws.{blend-inner, blend-bit}
 use Rattle.validate_type.specs.ValidateType.{nonDataFlags, flagsOf, uniformOf, rowOf, judge}
+use Rattle.validate_type.proofs.StructFlags.{struct-flags, flags-struct}
 
 -- ---- parts: the flags, and the row made with them
 pub record Judged (c : ℕ) (inner : ℕ → TypeInner) (rows : ℕ → Row) (i : ℕ) (l : TypeLayout) (this : TypeInner) (members : List ℕ) (r : Row) : Type 0 where
@@ -143,9 +144,9 @@ flags-data c inner rows (Array base count stride) members f e =
 flags-data c inner rows (RuntimeArray base stride) members f e =
     let a = required (isSizedData (rows base .flags)) 15 0 0 _ f e in rw (← ok-inj (a .1)) (array-data (rows base .flags) 149 (a .0) tt)
 flags-data c inner rows (Struct count span) members f e =
-    let a = required (ltb 0 count) 16 0 0 _ f e in
-    let b = and-then-ok (boundsAfter inner rows count span members count) _ f (a .1) in
-    rw (← ok-inj (b .2)) (T-true (bit (b .0 .flags) dataBit) (members-data inner rows count span members count (b .0) (b .1)))
+    let s = struct-flags c inner rows count span members f e in
+    blend-bit inner rows members count (s .after .flags) f (s .blend) dataBit refl
+    ∙ T-true (bit (s .after .flags) dataBit) (members-data inner rows count span members count (s .after) (s .accepted))
 flags-data c inner rows (Other o) members f e = other-no-data c inner rows o f e
 
 -- ---- a type that is accepted reads only what the records of CREATION_RESOLVED types say
@@ -172,11 +173,17 @@ module _ (c : ℕ) (inner inner′ : ℕ → TypeInner) (rows : ℕ → Row)
   flags-inner (Array base count stride) members f e = e
   flags-inner (RuntimeArray base stride) members f e = e
   flags-inner (Struct count span) members f e =
-      let a = required (ltb 0 count) 16 0 0 _ f e in
-      let b = and-then-ok (boundsAfter inner rows count span members count) _ f (a .1) in
-      ap (λ (o : Result Bounds). require (ltb 0 count) 16 0 0 (andThen o (λ x. ok (x .flags))))
-      (bounds-inner inner inner′ rows members same count span count (b .0) (b .1) ∙ sym (b .1))
-      ∙ e
+      let s = struct-flags c inner rows count span members f e in
+      let resolved : (j : ℕ) → j < count → inner (memberType members j) ≡ inner′ (memberType members j) =
+      λ j h. same (memberType members j) (members-in inner rows count span members count (s .after) (s .accepted) j h .resolved) in
+      flags-struct c inner′ rows count span members f
+      (record {
+        nonempty = s .nonempty;
+        after = s .after;
+        accepted = bounds-inner inner inner′ rows members same count span count (s .after) (s .accepted);
+        pass = s .pass;
+        blend = sym (blend-inner inner inner′ rows members count (s .after .flags) resolved) ∙ s .blend;
+      })
   flags-inner (Other o) members f e = non-data-inner o f e
 
   -- the uniform verdict of an accepted type is the same
@@ -187,10 +194,9 @@ module _ (c : ℕ) (inner inner′ : ℕ → TypeInner) (rows : ℕ → Row)
   uniform-of-inner least i a (Array base count stride) members f e = refl
   uniform-of-inner least i a (RuntimeArray base stride) members f e = refl
   uniform-of-inner least i a (Struct count span) members f e =
-      let x = required (ltb 0 count) 16 0 0 _ f e in
-      let b = and-then-ok (boundsAfter inner rows count span members count) _ f (x .1) in
+      let s = struct-flags c inner rows count span members f e in
       ap (spanVerdict i span a)
-      (uniform-inner inner inner′ rows members same least i count (λ m h. members-in inner rows count span members count (b .0) (b .1) m h .resolved))
+      (uniform-inner inner inner′ rows members same least i count (λ m h. members-in inner rows count span members count (s .after) (s .accepted) m h .resolved))
   uniform-of-inner least i a (Other o) members f e = refl
 
   -- the row of an accepted type is the same

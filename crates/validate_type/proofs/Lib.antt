@@ -1,4 +1,5 @@
 pub mod RowParts
+pub mod StructFlags
 pub mod TypeRowLaws
 pub mod CapabilityLaws
 pub mod JudgeLaws

@@ -15,8 +15,8 @@ use Rattle.records.specs.declared.TypeInner.{TypeInner}
 use Rattle.records.specs.declared.TypeInner.the-variants.{Plain, Array, RuntimeArray, Struct, Other}
 use Rattle.alignment.specs.Alignment.{vectorAlignment}
 use Rattle.type_alignment.specs.declared.TypeLayout.{TypeLayout}
-use Rattle.flags.specs.Flags.{startingFlags, pointerFlags, arrayFlags, runtimeArrayFlags, isSizedData}
-use Rattle.width.specs.Width.{checkWidth, immediatesWord}
+use Rattle.flags.specs.Flags.{bit, startingFlags, pointerFlags, arrayFlags, runtimeArrayFlags, isSizedData}
+use Rattle.width.specs.Width.{dualSourceBlending, checkWidth, immediatesWord}
 use Rattle.type_flags.specs.TypeFlags.{withWidth, leafFlags, imageFlags, pointerTo, accelerationFlags, bindingArrayOf}
 use Rattle.type_info.specs.declared.Verdict.{Verdict}
 use Rattle.type_info.specs.declared.Row.{Row}
@@ -28,7 +28,7 @@ use Rattle.validate_type.specs.declared.PlainRow.the-variants as plain
 use Rattle.validate_type.specs.declared.Judged.{Judged}
 use Rattle.validate_type.specs.declared.Judged.the-variants as judged
 use Rattle.validate_type.specs.declared.Judged.the-variants.{Made}
-use Rattle.member_bounds.specs.MemberBounds.{boundsAfter}
+use Rattle.valid_blend.specs.Blend.{blendedAfter, structBlend}
 use Rattle.member_rules.specs.MemberRules.{uniformAfter, storageAfter, immediatesAfter}
 
 -- ---- flags of what is no data
@@ -47,7 +47,8 @@ flagsOf c inner rows (Array base count stride) members = require (isSizedData (r
 flagsOf c inner rows (RuntimeArray base stride) members =
     require (isSizedData (rows base .flags)) 15 0 0 (ok (runtimeArrayFlags (rows base .flags)))
 flagsOf c inner rows (Struct count span) members =
-    require (ltb 0 count) 16 0 0 (andThen (boundsAfter inner rows count span members count) (λ b. ok (b .flags)))
+    require (ltb 0 count) 16 0 0
+    (andThen (blendedAfter (bit c dualSourceBlending) inner rows count span members count) (λ b. structBlend inner rows members count (b .flags)))
 flagsOf c inner rows (Other o) members = nonDataFlags c inner rows o
 
 -- ---- verdicts

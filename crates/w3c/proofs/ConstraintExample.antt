@@ -52,7 +52,7 @@ sceneTypes =
     ∷ 8 ∷ 2 ∷ 3 ∷ 64 ∷ 0 ∷ 0 ∷ []
 
 abbrev sceneRows : List ℕ
-sceneRows = 1 ∷ 0 ∷ 0 ∷ 12 ∷ 3 ∷ 0 ∷ 4 ∷ 16 ∷ 0 ∷ 48 ∷ []
+sceneRows = 1 ∷ 0 ∷ 0 ∷ 0 ∷ 0 ∷ 12 ∷ 0 ∷ 0 ∷ 3 ∷ 0 ∷ 0 ∷ 0 ∷ 4 ∷ 16 ∷ 0 ∷ 0 ∷ 0 ∷ 48 ∷ 0 ∷ 0 ∷ []
 
 -- the arena is accepted
 scene-accepted : arena 0 sceneTypes sceneRows ≡ Accepted
@@ -64,16 +64,16 @@ lamp-is : IsType (struct lampMembers) (decoded sceneTypes sceneRows) 3
 unfolding measure
 lamp-is = (
   refl,
-  below-two (λ i. memberOffset (1 ∷ 0 ∷ 0 ∷ 12 ∷ []) i ≡ placed.offsetOfMember (own lampMembers) i) refl refl,
-  below-two (λ i. placed.IsMember (own lampMembers) (decoded sceneTypes sceneRows) i (memberType (1 ∷ 0 ∷ 0 ∷ 12 ∷ []) i)) refl refl,
+  below-two (λ i. memberOffset (1 ∷ 0 ∷ 0 ∷ 0 ∷ 0 ∷ 12 ∷ 0 ∷ 0 ∷ []) i ≡ placed.offsetOfMember (own lampMembers) i) refl refl,
+  below-two (λ i. placed.IsMember (own lampMembers) (decoded sceneTypes sceneRows) i (memberType (1 ∷ 0 ∷ 0 ∷ 0 ∷ 0 ∷ 12 ∷ 0 ∷ 0 ∷ []) i)) refl refl,
 )
 
 scene-is : IsType scene (decoded sceneTypes sceneRows) 5
 unfolding measure
 scene-is = (
   refl,
-  below-three (λ i. memberOffset (3 ∷ 0 ∷ 4 ∷ 16 ∷ 0 ∷ 48 ∷ []) i ≡ placed.offsetOfMember (own sceneMembers) i) refl refl refl,
-  below-three (λ i. placed.IsMember (own sceneMembers) (decoded sceneTypes sceneRows) i (memberType (3 ∷ 0 ∷ 4 ∷ 16 ∷ 0 ∷ 48 ∷ []) i)) lamp-is (2, refl, refl) refl,
+  below-three (λ i. memberOffset (3 ∷ 0 ∷ 0 ∷ 0 ∷ 4 ∷ 16 ∷ 0 ∷ 0 ∷ 0 ∷ 48 ∷ 0 ∷ 0 ∷ []) i ≡ placed.offsetOfMember (own sceneMembers) i) refl refl refl,
+  below-three (λ i. placed.IsMember (own sceneMembers) (decoded sceneTypes sceneRows) i (memberType (3 ∷ 0 ∷ 0 ∷ 0 ∷ 4 ∷ 16 ∷ 0 ∷ 0 ∷ 0 ∷ 48 ∷ 0 ∷ 0 ∷ []) i)) lamp-is (2, refl, refl) refl,
 )
 
 -- the struct is host-shareable and well-formed, and has no @align
@@ -144,7 +144,7 @@ wideTypes =
     ∷ 8 ∷ 3 ∷ 2 ∷ 48 ∷ 0 ∷ 0 ∷ []
 
 abbrev wideRows : List ℕ
-wideRows = 0 ∷ 0 ∷ 0 ∷ 0 ∷ 1 ∷ 32 ∷ 0 ∷ 0 ∷ 1 ∷ 16 ∷ []
+wideRows = 0 ∷ 0 ∷ 0 ∷ 0 ∷ 0 ∷ 0 ∷ 0 ∷ 0 ∷ 1 ∷ 32 ∷ 0 ∷ 0 ∷ 0 ∷ 0 ∷ 0 ∷ 0 ∷ 1 ∷ 16 ∷ 0 ∷ 0 ∷ []
 
 wide-accepted : arena 0 wideTypes wideRows ≡ Accepted
 unfolding check
@@ -154,16 +154,16 @@ wide-is : IsType wide (decoded wideTypes wideRows) 1
 unfolding measure
 wide-is = (
   refl,
-  below-one (λ i. memberOffset (0 ∷ 0 ∷ []) i ≡ placed.offsetOfMember (own wideMembers) i) refl,
-  below-one (λ i. placed.IsMember (own wideMembers) (decoded wideTypes wideRows) i (memberType (0 ∷ 0 ∷ []) i)) refl,
+  below-one (λ i. memberOffset (0 ∷ 0 ∷ 0 ∷ 0 ∷ []) i ≡ placed.offsetOfMember (own wideMembers) i) refl,
+  below-one (λ i. placed.IsMember (own wideMembers) (decoded wideTypes wideRows) i (memberType (0 ∷ 0 ∷ 0 ∷ 0 ∷ []) i)) refl,
 )
 
 outer-is : IsType outer (decoded wideTypes wideRows) 2
 unfolding measure
 outer-is = (
   refl,
-  below-two (λ i. memberOffset (0 ∷ 0 ∷ 1 ∷ 32 ∷ []) i ≡ placed.offsetOfMember (own outerMembers) i) refl refl,
-  below-two (λ i. placed.IsMember (own outerMembers) (decoded wideTypes wideRows) i (memberType (0 ∷ 0 ∷ 1 ∷ 32 ∷ []) i)) refl wide-is,
+  below-two (λ i. memberOffset (0 ∷ 0 ∷ 0 ∷ 0 ∷ 1 ∷ 32 ∷ 0 ∷ 0 ∷ []) i ≡ placed.offsetOfMember (own outerMembers) i) refl refl,
+  below-two (λ i. placed.IsMember (own outerMembers) (decoded wideTypes wideRows) i (memberType (0 ∷ 0 ∷ 0 ∷ 0 ∷ 1 ∷ 32 ∷ 0 ∷ 0 ∷ []) i)) refl wide-is,
 )
 
 array-is : IsType (array wide 2) (decoded wideTypes wideRows) 3
@@ -215,17 +215,17 @@ abbrev lowTypes : List ℕ
 lowTypes = 0 ∷ 2 ∷ 4 ∷ 0 ∷ 0 ∷ 0 ∷ 8 ∷ 0 ∷ 1 ∷ 4 ∷ 0 ∷ 0 ∷ 8 ∷ 1 ∷ 1 ∷ 4 ∷ 0 ∷ 0 ∷ []
 
 abbrev lowRows : List ℕ
-lowRows = 0 ∷ 0 ∷ 1 ∷ 0 ∷ []
+lowRows = 0 ∷ 0 ∷ 0 ∷ 0 ∷ 1 ∷ 0 ∷ 0 ∷ 0 ∷ []
 
 low-is : IsType (struct lowMembers) (decoded lowTypes lowRows) 2
 unfolding measure
 low-is = (
   refl,
-  below-one (λ i. memberOffset (1 ∷ 0 ∷ []) i ≡ placed.offsetOfMember (own lowMembers) i) refl,
-  below-one (λ i. placed.IsMember (own lowMembers) (decoded lowTypes lowRows) i (memberType (1 ∷ 0 ∷ []) i)) (
+  below-one (λ i. memberOffset (1 ∷ 0 ∷ 0 ∷ 0 ∷ []) i ≡ placed.offsetOfMember (own lowMembers) i) refl,
+  below-one (λ i. placed.IsMember (own lowMembers) (decoded lowTypes lowRows) i (memberType (1 ∷ 0 ∷ 0 ∷ 0 ∷ []) i)) (
     refl,
-    below-one (λ i. memberOffset (0 ∷ 0 ∷ []) i ≡ placed.offsetOfMember (own innerMembers) i) refl,
-    below-one (λ i. placed.IsMember (own innerMembers) (decoded lowTypes lowRows) i (memberType (0 ∷ 0 ∷ []) i)) refl,
+    below-one (λ i. memberOffset (0 ∷ 0 ∷ 0 ∷ 0 ∷ []) i ≡ placed.offsetOfMember (own innerMembers) i) refl,
+    below-one (λ i. placed.IsMember (own innerMembers) (decoded lowTypes lowRows) i (memberType (0 ∷ 0 ∷ 0 ∷ 0 ∷ []) i)) refl,
   ),
 )
 
@@ -251,7 +251,7 @@ abbrev overlapTypes : List ℕ
 overlapTypes = 0 ∷ 2 ∷ 4 ∷ 0 ∷ 0 ∷ 0 ∷ 8 ∷ 0 ∷ 2 ∷ 4 ∷ 0 ∷ 0 ∷ []
 
 abbrev overlapRows : List ℕ
-overlapRows = 0 ∷ 0 ∷ 0 ∷ 0 ∷ []
+overlapRows = 0 ∷ 0 ∷ 0 ∷ 0 ∷ 0 ∷ 0 ∷ 0 ∷ 0 ∷ []
 
 -- record 1 is the struct
 overlap-is : IsType (struct overlapMembers) (decoded overlapTypes overlapRows) 1
@@ -280,8 +280,8 @@ half-offsets : (offsetOfMember halfMembers 1 ≡ 6) × (sizeOf (struct halfMembe
 unfolding measure
 half-offsets = (refl, refl)
 
-half-row : (arena 0 (0 ∷ 2 ∷ 4 ∷ 0 ∷ 0 ∷ 0 ∷ 8 ∷ 0 ∷ 2 ∷ 12 ∷ 0 ∷ 0 ∷ []) (0 ∷ 0 ∷ 0 ∷ 6 ∷ []) ≡ Accepted)
-    × (isOk (row 0 (decoded (0 ∷ 2 ∷ 4 ∷ 0 ∷ 0 ∷ 0 ∷ 8 ∷ 0 ∷ 2 ∷ 12 ∷ 0 ∷ 0 ∷ []) (0 ∷ 0 ∷ 0 ∷ 6 ∷ [])) 1 .storage) ≡ false)
+half-row : (arena 0 (0 ∷ 2 ∷ 4 ∷ 0 ∷ 0 ∷ 0 ∷ 8 ∷ 0 ∷ 2 ∷ 12 ∷ 0 ∷ 0 ∷ []) (0 ∷ 0 ∷ 0 ∷ 0 ∷ 0 ∷ 6 ∷ 0 ∷ 0 ∷ []) ≡ Accepted)
+    × (isOk (row 0 (decoded (0 ∷ 2 ∷ 4 ∷ 0 ∷ 0 ∷ 0 ∷ 8 ∷ 0 ∷ 2 ∷ 12 ∷ 0 ∷ 0 ∷ []) (0 ∷ 0 ∷ 0 ∷ 0 ∷ 0 ∷ 6 ∷ 0 ∷ 0 ∷ [])) 1 .storage) ≡ false)
 unfolding check
 half-row = (refl, refl)
 
@@ -300,7 +300,7 @@ abbrev cooperativeTypes : List ℕ
 cooperativeTypes = 3 ∷ 8 ∷ 8 ∷ 2 ∷ 4 ∷ 0 ∷ 8 ∷ 0 ∷ 1 ∷ 288 ∷ 0 ∷ 0 ∷ []
 
 abbrev cooperativeRows : List ℕ
-cooperativeRows = 0 ∷ 4 ∷ []
+cooperativeRows = 0 ∷ 4 ∷ 0 ∷ 0 ∷ []
 
 cooperative-row : (arena 128 cooperativeTypes cooperativeRows ≡ Accepted) × (row 128 (decoded cooperativeTypes cooperativeRows) 0 .alignment ≡ 32)
     × (row 128 (decoded cooperativeTypes cooperativeRows) 0 .storage ≡ okVerdict 4)

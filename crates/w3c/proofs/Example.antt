@@ -6,7 +6,7 @@ use mathlib.Core.List.{List, [], _∷_}
 use Prim.Native.Nat.{ℕ, suc, _*_, _+_}
 use native.Mathlib.Omega.{arith}
 use Rattle.records.specs.Record.{decoded, innerOf, typeInner, structMembers, memberType, memberOffset}
-use Rattle.records.specs.Fields.{fieldsOk, recordAt}
+use Rattle.records.specs.Fields.{fieldsOk, recordAt, locatedTo}
 use Rattle.records.specs.Table.{resultAt, valueAt}
 use Rattle.records.specs.declared.Outcome.the-variants.{Accepted}
 use Rattle.alignment.specs.Alignment.{roundUp}
@@ -39,7 +39,7 @@ bodyTypes =
     ∷ 7 ∷ 4 ∷ 0 ∷ 3 ∷ 112 ∷ 0 ∷ []
 
 abbrev bodyRows : List ℕ
-bodyRows = 1 ∷ 0 ∷ 0 ∷ 12 ∷ 3 ∷ 16 ∷ []
+bodyRows = 1 ∷ 0 ∷ 0 ∷ 0 ∷ 0 ∷ 12 ∷ 0 ∷ 0 ∷ 3 ∷ 16 ∷ 0 ∷ 0 ∷ []
 
 -- the standard's offsets, sizes and alignments
 body-offsets : (offsetOfMember bodyMembers 0 ≡ 0) × (offsetOfMember bodyMembers 1 ≡ 12) × (offsetOfMember bodyMembers 2 ≡ 16)
@@ -72,7 +72,7 @@ unfolding Unaligned
 body-unaligned = (tt, tt, (tt, tt, (tt, tt)))
 
 body-accepted : layoutOutcome bodyTypes bodyRows ≡ Accepted
-unfolding layoutOutcome recordAt fieldsOk typeInner innerOf structMembers resultAt layoutOf trySize alignmentOf membersAlignment
+unfolding layoutOutcome recordAt locatedTo fieldsOk typeInner innerOf structMembers resultAt layoutOf trySize alignmentOf membersAlignment
 body-accepted = refl
 
 -- so the layouter has 336 and 16 for the array of structs
@@ -98,7 +98,7 @@ queueTypes =
     ∷ 8 ∷ 0 ∷ 3 ∷ 24 ∷ 0 ∷ 0 ∷ []
 
 abbrev queueRows : List ℕ
-queueRows = 0 ∷ 0 ∷ 1 ∷ 8 ∷ 3 ∷ 16 ∷ []
+queueRows = 0 ∷ 0 ∷ 0 ∷ 0 ∷ 1 ∷ 8 ∷ 0 ∷ 0 ∷ 3 ∷ 16 ∷ 0 ∷ 0 ∷ []
 
 queue-layout : (sizeOf queue ≡ 24) × (alignOf queue ≡ 8)
 unfolding offsetBy alignOf sizeOf lastMember maxOver
@@ -121,7 +121,7 @@ unfolding Unaligned
 queue-unaligned = (tt, tt, (tt, tt, (tt, tt)))
 
 queue-accepted : layoutOutcome queueTypes queueRows ≡ Accepted
-unfolding layoutOutcome recordAt fieldsOk typeInner innerOf structMembers resultAt layoutOf trySize alignmentOf membersAlignment
+unfolding layoutOutcome recordAt locatedTo fieldsOk typeInner innerOf structMembers resultAt layoutOf trySize alignmentOf membersAlignment
 queue-accepted = refl
 
 queue-laid-out : (layout (decoded queueTypes queueRows) 4 .size ≡ 24) × (layout (decoded queueTypes queueRows) 4 .alignment ≡ 8)
@@ -177,7 +177,7 @@ boolTypes = 0 ∷ 3 ∷ 1 ∷ 0 ∷ 0 ∷ 0 ∷ []
 
 bool-differs : IsType (plain (scalar bool)) (decoded boolTypes []) 0 × (sizeOf (plain (scalar bool)) ≡ 4) × (layoutOutcome boolTypes [] ≡ Accepted)
     × (layout (decoded boolTypes []) 0 .size ≡ 1)
-unfolding boolTypes measure typeInner innerOf structMembers sizeOf layoutOutcome recordAt fieldsOk resultAt valueAt layoutOf trySize alignmentOf
+unfolding boolTypes measure typeInner innerOf structMembers sizeOf layoutOutcome recordAt locatedTo fieldsOk resultAt valueAt layoutOf trySize alignmentOf
 bool-differs = (refl, refl, refl, refl)
 
 -- ---- records that are accepted and are no WGSL types of this tree
@@ -186,7 +186,7 @@ strideTypes : List ℕ
 strideTypes = 0 ∷ 2 ∷ 4 ∷ 0 ∷ 0 ∷ 0 ∷ 7 ∷ 0 ∷ 0 ∷ 1 ∷ 0 ∷ 0 ∷ []
 
 stride-differs : (layoutOutcome strideTypes [] ≡ Accepted) × (layout (decoded strideTypes []) 1 .size ≡ 0) × (sizeOf (array (plain (scalar (float f32))) 1) ≡ 4)
-unfolding strideTypes typeInner innerOf structMembers sizeOf alignOf layoutOutcome recordAt fieldsOk resultAt valueAt layoutOf trySize alignmentOf
+unfolding strideTypes typeInner innerOf structMembers sizeOf alignOf layoutOutcome recordAt locatedTo fieldsOk resultAt valueAt layoutOf trySize alignmentOf
 stride-differs = (refl, refl, refl)
 
 -- a struct of no member: its alignment is 1; the standard has no such struct
@@ -194,13 +194,13 @@ emptyTypes : List ℕ
 emptyTypes = 8 ∷ 0 ∷ 0 ∷ 0 ∷ 0 ∷ 0 ∷ []
 
 empty-struct : (layoutOutcome emptyTypes [] ≡ Accepted) × (layout (decoded emptyTypes []) 0 .size ≡ 0) × (layout (decoded emptyTypes []) 0 .alignment ≡ 1)
-unfolding emptyTypes typeInner innerOf structMembers layoutOutcome recordAt fieldsOk resultAt valueAt layoutOf trySize alignmentOf membersAlignment
+unfolding emptyTypes typeInner innerOf structMembers layoutOutcome recordAt locatedTo fieldsOk resultAt valueAt layoutOf trySize alignmentOf membersAlignment
 empty-struct = (refl, refl, refl)
 
 -- struct { @align(16) a: f32 }, of span 16: its alignment is 4, and 16 in the standard
 alignTypes : List ℕ
 alignTypes = 0 ∷ 2 ∷ 4 ∷ 0 ∷ 0 ∷ 0 ∷ 8 ∷ 0 ∷ 1 ∷ 16 ∷ 0 ∷ 0 ∷ []
 
-align-differs : (layoutOutcome alignTypes (0 ∷ 0 ∷ []) ≡ Accepted) × (layout (decoded alignTypes (0 ∷ 0 ∷ [])) 1 .alignment ≡ 4)
-unfolding alignTypes typeInner innerOf structMembers layoutOutcome recordAt fieldsOk resultAt valueAt layoutOf trySize alignmentOf membersAlignment
+align-differs : (layoutOutcome alignTypes (0 ∷ 0 ∷ 0 ∷ 0 ∷ []) ≡ Accepted) × (layout (decoded alignTypes (0 ∷ 0 ∷ 0 ∷ 0 ∷ [])) 1 .alignment ≡ 4)
+unfolding alignTypes typeInner innerOf structMembers layoutOutcome recordAt locatedTo fieldsOk resultAt valueAt layoutOf trySize alignmentOf membersAlignment
 align-differs = (refl, refl)

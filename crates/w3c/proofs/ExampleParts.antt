@@ -4,7 +4,7 @@ use mathlib.Core.List.{List}
 use Prim.Native.Nat.{ℕ, zero, suc, _<_}
 use native.Mathlib.Omega.{arith}
 use Rattle.records.specs.Record.{innerOf, typeInner, structMembers}
-use Rattle.records.specs.Fields.{tablesFit, fieldsOk, recordAt}
+use Rattle.records.specs.Fields.{tablesFit, fieldsOk, recordAt, locatedTo}
 use Rattle.records.specs.Table.{resultAt, valueAt}
 use Rattle.records.specs.declared.Outcome.{Outcome}
 use Rattle.type_methods.specs.TypeMethods.{trySize}
@@ -15,7 +15,8 @@ use Rattle.width.specs.Width.{integerWidth, floatWidth, checkWidth}
 use Rattle.type_flags.specs.TypeFlags.{leafFlags}
 use Rattle.type_info.specs.Verdict.{arrayVerdict, shareVerdict, memberVerdict, distanceVerdict, distanceOk, unsizedVerdict, spanVerdict}
 use Rattle.type_info.specs.Verdict.{previousOf}
-use Rattle.member_bounds.specs.MemberBounds.{memberBounds, boundsAfter}
+use Rattle.member_bounds.specs.MemberBounds.{memberBounds}
+use Rattle.valid_blend.specs.Blend.{sourceAt, sourceResult, blendedAfter, otherLocation, structBlend}
 use Rattle.member_rules.specs.MemberRules.{uniformAfter, storageAfter, immediatesAfter}
 use Rattle.validate_type.specs.ValidateType.{flagsOf, uniformOf, storageOf, immediatesOf, rowOf, judge}
 use Rattle.valid.specs.Arena.{judgeOutcome, arenaOutcome, arena}
@@ -26,7 +27,7 @@ use Rattle.w3c.specs.Placement.{placement}
 
 -- unfolding this name unfolds all that an arena check computes with
 unfoldable pub check : ℕ → List ℕ → List ℕ → Outcome
-unfolding arena tablesFit arenaOutcome layoutOutcome recordAt fieldsOk typeInner innerOf structMembers resultAt valueAt layoutOf trySize alignmentOf membersAlignment judgeOutcome judge flagsOf leafFlags checkWidth integerWidth floatWidth rowOf uniformOf storageOf immediatesOf boundsAfter memberBounds previousOf distanceOk uniformAfter storageAfter immediatesAfter arrayVerdict shareVerdict memberVerdict distanceVerdict unsizedVerdict spanVerdict
+unfolding arena tablesFit arenaOutcome layoutOutcome recordAt locatedTo fieldsOk typeInner innerOf structMembers resultAt valueAt layoutOf trySize alignmentOf membersAlignment judgeOutcome judge flagsOf leafFlags checkWidth integerWidth floatWidth rowOf uniformOf storageOf immediatesOf blendedAfter sourceResult sourceAt otherLocation structBlend memberBounds previousOf distanceOk uniformAfter storageAfter immediatesAfter arrayVerdict shareVerdict memberVerdict distanceVerdict unsizedVerdict spanVerdict
 check c ts ms = arena c ts ms
 
 -- unfolding this name unfolds all that a placed type computes with

@@ -15,7 +15,7 @@ use borrow.Author.Tests.{ltb-true}
 use Rattle.records.proofs.ResultLaws.{required, and-then-ok, ok-inj, T-true}
 use Rattle.records.proofs.TableLaws.{all-ok, value-ok, table-value}
 use Rattle.layouter.specs.Layouter.{layout}
-use Rattle.flags.specs.Flags.{bit, dataBit, arrayFlags, runtimeArrayFlags, isSizedData}
+use Rattle.flags.specs.Flags.{bit, dataBit, hostShareableBit, arrayFlags, runtimeArrayFlags, isSizedData}
 use Rattle.type_flags.specs.TypeFlags.{leafFlags}
 use Rattle.type_info.specs.declared.Verdict.{Verdict}
 use Rattle.type_info.specs.declared.Row.{Row}
@@ -24,6 +24,8 @@ use Rattle.type_info.specs.Verdict.{minUniform, okVerdict, arrayVerdict, spanVe
 use Rattle.member_bounds.specs.declared.Bounds.{Bounds}
 use Rattle.member_bounds.specs.MemberBounds.{boundsAfter}
 use Rattle.member_rules.specs.MemberRules.{uniformAfter, storageAfter}
+use Rattle.valid_blend.proofs.BlendLaws.{blend-bit}
+use Rattle.validate_type.proofs.StructFlags.{struct-flags}
 use Rattle.validate_type.specs.ValidateType.{flagsOf, leafVerdictAlignment, uniformOf, storageOf, rowOf, judge}
 use Rattle.validate_type.proofs.JudgeLaws.{isDataInner, flags-data}
 use Rattle.valid.specs.Arena.{judgeStep, judgedAt, row}
@@ -144,23 +146,18 @@ module _ (c : ℕ) (types : ℕ → Decoded) (n : ℕ) (accepted : firstRefusal 
       ∙ ap (λ (r : Row). arrayVerdict 16 t stride (r .alignment) (r .uniform)) (earlier-row base l)
 
   -- ---- structs
-  -- the flags of a struct are those after its members
+  -- a struct is HOST_SHAREABLE where it is so after its members
   pub struct-bounds : (count span : ℕ) → types t .inner ≡ Struct count span
-      → (b : Bounds) × (boundsAfter innerAt rowsBefore count span (types t .members) count ≡ ok b) × (row c types t .flags ≡ b .flags)
-  unfolding flagsOf
+      → (b : Bounds) × (boundsAfter innerAt rowsBefore count span (types t .members) count ≡ ok b) × (bit (row c types t .flags) hostShareableBit ≡ bit (b .flags) hostShareableBit)
   struct-bounds count span e =
-      let bounds = boundsAfter innerAt rowsBefore count span (types t .members) count in
-      let r = required (ltb 0 count) 16 0 0 (andThen bounds (λ b. ok (b .flags))) (row c types t .flags) (row-parts (Struct count span) e .0) in
-      let s = and-then-ok bounds (λ b. ok (b .flags)) (row c types t .flags) (r .1) in
-      (s .0, s .1, sym (ok-inj (s .2)))
+      let s = struct-flags c innerAt rowsBefore count span (types t .members) (row c types t .flags) (row-parts (Struct count span) e .0) in
+      (s .after, s .accepted, blend-bit innerAt rowsBefore (types t .members) count (s .after .flags) (row c types t .flags) (s .blend) hostShareableBit refl)
 
   -- it has a member
   pub struct-some : (count span : ℕ) → types t .inner ≡ Struct count span → 0 < count
-  unfolding flagsOf
   struct-some count span e =
-      let bounds = boundsAfter innerAt rowsBefore count span (types t .members) count in
-      let r = required (ltb 0 count) 16 0 0 (andThen bounds (λ b. ok (b .flags))) (row c types t .flags) (row-parts (Struct count span) e .0) in
-      ltb-true 0 count (T-true (ltb 0 count) (r .0))
+      let s = struct-flags c innerAt rowsBefore count span (types t .members) (row c types t .flags) (row-parts (Struct count span) e .0) in
+      ltb-true 0 count (T-true (ltb 0 count) (s .nonempty))
 
   -- and so are its verdicts, under the span rule
   pub struct-verdict : (count span : ℕ) → types t .inner ≡ Struct count span → (space : Space)

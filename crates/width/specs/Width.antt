@@ -48,6 +48,9 @@ rayTracingPipeline = 11
 abbrev pub rayHitVertexPosition : ℕ
 rayHitVertexPosition = 12
 
+abbrev pub dualSourceBlending : ℕ
+dualSourceBlending = 13
+
 -- ---- scalar kinds
 abbrev pub sint : ℕ
 sint = 0

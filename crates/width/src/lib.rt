@@ -35,6 +35,8 @@ pub const RAY_TRACING_PIPELINE: u32 = 11;
 
 pub const RAY_HIT_VERTEX_POSITION: u32 = 12;
 
+pub const DUAL_SOURCE_BLENDING: u32 = 13;
+
 // Scalar kinds.
 pub const UINT: u32 = 1;
 

@@ -30,9 +30,9 @@ const TYPES: [u32; 8 * wuldazin::TYPE_WORDS] = [
     kind::STRUCT, 2, 4, 144, 0, 0,
 ];
 #[rustfmt::skip]
-const MEMBERS: [u32; 12] = [
-    VEC3, 0, F32, 12,
-    MAT3X3, 0, U32, 48, CELLS, 64, TAIL, 128,
+const MEMBERS: [u32; 24] = [
+    VEC3, 0, 0, 0, F32, 12, 0, 0,
+    MAT3X3, 0, 0, 0, U32, 48, 0, 0, CELLS, 64, 0, 0, TAIL, 128, 0, 0,
 ];
 const TAIL_COUNT: u32 = 8;
 const BYTES: usize = 128 + 4 * TAIL_COUNT as usize;
@@ -100,7 +100,7 @@ fn storage_alignment(row: Row) -> Option<u32> {
 /// The moisture first and the temperature right after it, at byte 4: accepted, and nothing is filled.
 fn accepted_and_not_usable() -> Result<(), Refusal> {
     let mut rows = [0; 3 * wuldazin::ROW_WORDS];
-    wuldazin::judge(&TYPES[..18], &[F32, 0, VEC3, 4], 0, &mut rows)?;
+    wuldazin::judge(&TYPES[..18], &[F32, 0, 0, 0, VEC3, 4, 0, 0], 0, &mut rows)?;
     let cell = Row::of(&rows, CELL).unwrap();
     assert_eq!(storage_alignment(cell), None);
     assert_eq!(cell.storage().code, verdict::MEMBER_OFFSET);
@@ -113,7 +113,10 @@ fn main() -> Result<(), Refusal> {
     wuldazin::judge(&TYPES, &MEMBERS, 0, &mut rows)?;
     let kernel = Row::of(&rows, KERNEL).unwrap();
     assert_eq!(storage_alignment(kernel), Some(16));
-    assert_eq!(wuldazin::members(&TYPES, &MEMBERS, KERNEL), &MEMBERS[4..]);
+    assert_eq!(
+        wuldazin::members(&TYPES, &MEMBERS, KERNEL),
+        &MEMBERS[2 * wuldazin::MEMBER_WORDS..]
+    );
 
     let mut buffer = [0; BYTES];
     for at in FLAGS {

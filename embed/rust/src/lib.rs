@@ -2,7 +2,7 @@
 //! calls to the proved static library.
 //!
 //! Tables are slices of words, as wuldazin.h describes them; lengths and words may be anything. `rows` is lent for the
-//! result rows, [`ROW_WORDS`] a type: filled where the arena is accepted, zeros on numbers 2 to 24, untouched on number 1.
+//! result rows, [`ROW_WORDS`] a type: filled where the arena is accepted, zeros on numbers 2 to 24 and 34, untouched on number 1.
 //! Words after those of the arena's types are never written.
 
 mod door;
@@ -11,11 +11,11 @@ mod refusal;
 mod row;
 
 pub use pass::{NotReady, Pass};
-pub use refusal::Refusal;
+pub use refusal::{blend, Refusal};
 pub use row::{flags, verdict, Row, Verdict};
 
 pub const TYPE_WORDS: usize = 6;
-pub const MEMBER_WORDS: usize = 2;
+pub const MEMBER_WORDS: usize = 4;
 pub const ROW_WORDS: usize = 14;
 pub const REPORT_WORDS: usize = 2;
 pub const MOST_TYPES: usize = 1024;
@@ -100,7 +100,8 @@ pub mod capabilities {
     pub const RAY_QUERY: u32 = 1 << 10;
     pub const RAY_TRACING_PIPELINE: u32 = 1 << 11;
     pub const RAY_HIT_VERTEX_POSITION: u32 = 1 << 12;
-    pub const ALL: u32 = 8191;
+    pub const DUAL_SOURCE_BLENDING: u32 = 1 << 13;
+    pub const ALL: u32 = 16383;
 }
 
 /// A leaf: its first byte and its type, of a column the matrix's.
@@ -153,7 +154,7 @@ pub fn layout(types: &[u32], members: &[u32], rows: &mut [u32]) -> Result<(), Re
     Refusal::of(answer)
 }
 
-/// Judges an arena. Numbers 1 to 24.
+/// Judges an arena. Numbers 1 to 24 and 34.
 ///
 /// Accepted does not mean usable in an address space: before a buffer is filled, look at [`Row::storage`] or [`Row::uniform`]
 /// of its type.
@@ -186,7 +187,7 @@ pub fn judge(
 }
 
 /// Tests the capability word, then does what [`layout`] and, where that accepts, [`judge`] do one after the other. The
-/// result and the rows are those of [`judge`]. Numbers 1 to 24.
+/// result and the rows are those of [`judge`]. Numbers 1 to 24 and 34.
 pub fn check(
     types: &[u32],
     members: &[u32],
@@ -229,7 +230,7 @@ pub fn range(offset: u32, size: u32) -> Result<Slots, Refusal> {
     Refusal::of(answer).map(|()| Slots { touched, partly })
 }
 
-/// The immediate slots of type `ty` that stands at `offset`. Judges the arena first. Numbers 1 to 26.
+/// The immediate slots of type `ty` that stands at `offset`. Judges the arena first. Numbers 1 to 26 and 34.
 ///
 /// A part is what is no struct, arrays taken whole. Each mask has the slots of all parts: a slot of which two parts cover a
 /// half each is in `partly`.
@@ -287,7 +288,7 @@ pub fn union(mask: u64, other: u64) -> u64 {
 }
 
 /// The leaf that `steps`, member, element and column numbers, lead to from type `start`. Judges the arena first. Numbers 1
-/// to 24 and 26.
+/// to 24, 26 and 34.
 ///
 /// A matrix takes one further step, its column, and the leaf is that column: rows times width bytes. The column step, from
 /// one to the next, is the matrix's alignment; the bytes between columns of three rows are in no leaf. Every other leaf is
@@ -328,7 +329,7 @@ pub fn place(
 }
 
 /// The bytes that lie in leaves and those of the span that lie in none, for each struct with [`flags::HOST_SHAREABLE`]; a
-/// runtime array counts as one element. Judges the arena first. Numbers 1 to 24 and 27.
+/// runtime array counts as one element. Judges the arena first. Numbers 1 to 24, 27 and 34.
 ///
 /// `report` is lent for [`REPORT_WORDS`] words a type, bytes carried and bytes wasted, 0 for a type that is no such struct:
 /// filled where the arena is accepted, untouched on number 1, which a shorter one gives too, and zeros on every other

@@ -7,7 +7,7 @@ const E: [u32; 6] = [kind::SCALAR, scalar::FLOAT, 4, 0, 0, 0];
 const V: [u32; 6] = [kind::VECTOR, 3, scalar::FLOAT, 4, 0, 0];
 const F16: [u32; 6] = [kind::SCALAR, scalar::FLOAT, 2, 0, 0, 0];
 /// V at 0, E at 12.
-const PAIR: [u32; 4] = [1, 0, 0, 12];
+const PAIR: [u32; 8] = [1, 0, 0, 0, 0, 12, 0, 0];
 
 fn structure(first: u32, count: u32, span: u32) -> [u32; 6] {
     [kind::STRUCT, first, count, span, 0, 0]
@@ -32,7 +32,11 @@ fn judged(types: &[[u32; 6]], members: &[u32], capabilities: u32) -> Result<Vec<
 
 /// M1's arena with E at another offset and another span.
 fn m1(offset: u32, span: u32) -> Result<Vec<u32>, Refusal> {
-    judged(&[E, V, structure(0, 2, span)], &[1, 0, 0, offset], 0)
+    judged(
+        &[E, V, structure(0, 2, span)],
+        &[1, 0, 0, 0, 0, offset, 0, 0],
+        0,
+    )
 }
 
 fn refused(number: u32, ty: u32, member: u32, detail: u32) -> Refusal {
@@ -111,12 +115,17 @@ fn m7_and_m8_arrays() {
 #[test]
 fn m9_and_m10_distances() {
     let inner = structure(0, 1, 4);
-    let rows = judged(&[E, inner, structure(1, 2, 16)], &[0, 0, 1, 0, 0, 4], 0).unwrap();
+    let rows = judged(
+        &[E, inner, structure(1, 2, 16)],
+        &[0, 0, 0, 0, 1, 0, 0, 0, 0, 4, 0, 0],
+        0,
+    )
+    .unwrap();
     let uniform = row(&rows, 2).uniform();
     assert_eq!(uniform.code, verdict::MEMBER_OFFSET_AFTER_STRUCT);
     assert_eq!(uniform.bound, 16);
     assert_eq!(row(&rows, 2).storage().alignment(), Some(4));
-    let members = [0, 0, 0, 0, 1, 16, 0, 0];
+    let members = [0, 0, 0, 0, 0, 0, 0, 0, 1, 16, 0, 0, 0, 0, 0, 0];
     let refusal = judged(&[E, inner, structure(1, 3, 32)], &members, 0);
     assert_eq!(refusal, Err(refused(21, 2, 2, 0)));
 }
@@ -128,7 +137,7 @@ fn rounded_span_at_the_border() {
     let query = [kind::RAY_QUERY, 0, 0, 0, 0, 0];
     let outer = structure(1, 2, u32::MAX);
     let border = |span, offset| {
-        let members = [0, 0, 2, 0, 1, offset];
+        let members = [0, 0, 0, 0, 2, 0, 0, 0, 1, offset, 0, 0];
         let types = [E, query, structure(0, 1, span), outer];
         judged(&types, &members, capabilities::RAY_QUERY)
     };
@@ -160,9 +169,12 @@ fn slots_in_part() {
         let f16 = capabilities::SHADER_FLOAT16;
         slots(types.as_flattened(), members, f16, &mut [0; 42], ty, 0)
     };
-    assert_eq!(walk(&[F16, structure(0, 2, 4)], &[0, 0, 0, 2]), masks(1, 1));
     assert_eq!(
-        walk(&[E, F16, structure(0, 2, 4)], &[0, 0, 1, 0]),
+        walk(&[F16, structure(0, 2, 4)], &[0, 0, 0, 0, 0, 2, 0, 0]),
+        masks(1, 1)
+    );
+    assert_eq!(
+        walk(&[E, F16, structure(0, 2, 4)], &[0, 0, 0, 0, 1, 0, 0, 0]),
         masks(1, 1)
     );
     assert_eq!(walk(&[F16, array(3, 2)], &[]), masks(3, 2));
@@ -227,7 +239,7 @@ fn empty_tables_places_and_parts() {
     assert_eq!(place(0, &[]), Ok(Place { byte: 0, leaf: 0 }));
     assert_eq!(place(2, &[2]), Err(refused(26, 0, 0, 0)));
     assert_eq!(members(types, &PAIR, 2), PAIR);
-    assert!(members(types, &PAIR, 1).is_empty() && members(types, &PAIR[..3], 2).is_empty());
+    assert!(members(types, &PAIR, 1).is_empty() && members(types, &PAIR[..7], 2).is_empty());
 }
 
 /// AlignOf and SizeOf of the standard, the column step AlignOf(vecR).
@@ -258,7 +270,7 @@ fn columns() {
         let mut rows = [0; 4 * ROW_WORDS];
         place(
             types.as_flattened(),
-            &[0, 16],
+            &[0, 16, 0, 0],
             capabilities::ALL,
             &mut rows,
             start,
@@ -315,10 +327,47 @@ fn spaces_dimensions_and_classes() {
     }
 }
 
+/// A struct of vec4s with blend sources, by E9 of 02: each detail of number 34, the capability, a source without a location, and the flag.
+#[test]
+fn blend_sources() {
+    let vec4 = [kind::VECTOR, 4, scalar::FLOAT, 4, 0, 0];
+    let bool = [kind::SCALAR, scalar::BOOL, 1, 0, 0, 0];
+    let dual = capabilities::DUAL_SOURCE_BLENDING;
+    // Location 0 is stored as 1, sources 0 and 1 as 1 and 2.
+    let two = |first: [u32; 4], second: [u32; 4], capabilities| {
+        let types = [vec4, bool, V, structure(0, 2, 32)];
+        let members = [first, second];
+        judged(&types, members.as_flattened(), capabilities)
+    };
+    let pair = ([0, 0, 1, 1], [0, 16, 1, 2]);
+    let rows = two(pair.0, pair.1, dual).unwrap();
+    assert_eq!(row(&rows, 3).flags(), 255);
+    assert!(row(&rows, 3).has(flags::IO_SHAREABLE));
+    assert_eq!(two(pair.0, pair.1, 0), Err(refused(8, 3, 0, 13)));
+    let plain = two([0, 0, 1, 0], [0, 16, 2, 0], 0).unwrap();
+    assert_eq!(row(&plain, 3).flags(), 247);
+    for (first, second, detail) in [
+        (pair.0, [0, 16, 1, 3], blend::BAD_INDEX),
+        (pair.0, [0, 16, 2, 2], blend::BAD_INDEX),
+        (pair.0, [0, 16, 1, 1], blend::COLLISION),
+        (pair.0, [2, 16, 1, 2], blend::TYPES_DIFFER),
+        ([1, 0, 1, 1], [1, 16, 1, 2], blend::NOT_SHAREABLE),
+        (pair.0, [0, 16, 2, 0], blend::ONE_MISSING),
+    ] {
+        assert_eq!(two(first, second, dual), Err(refused(34, 3, 0, detail)));
+    }
+    let third = [pair.0, pair.1, [0, 32, 2, 0]];
+    let types = [vec4, structure(0, 3, 48)];
+    let others = judged(&types, third.as_flattened(), dual);
+    let expected = refused(34, 1, 0, blend::OTHER_LOCATIONS);
+    assert_eq!(others, Err(expected));
+    assert_eq!(two(pair.0, [0, 16, 0, 2], 0), Err(refused(2, 3, 0, 0)));
+}
+
 /// A vec3 at offset 4: accepted, and not usable in either address space.
 #[test]
 fn accepted_and_not_usable() {
-    let rows = judged(&[E, V, structure(0, 2, 16)], &[0, 0, 1, 4], 0).unwrap();
+    let rows = judged(&[E, V, structure(0, 2, 16)], &[0, 0, 0, 0, 1, 4, 0, 0], 0).unwrap();
     let expected = Verdict {
         code: verdict::MEMBER_OFFSET,
         ty: 2,
@@ -336,7 +385,7 @@ fn the_header_has_the_same_sentences() {
     let (_, function) = header.split_once("*wuldazin_meaning(").unwrap();
     let (function, _) = function.split_once("\n}").unwrap();
     let sentences = function.split('"').skip(1).step_by(2);
-    let numbers = (0..28).chain([36, 37, 38]);
+    let numbers = (0..28).chain([34, 36, 37, 38]);
     let meanings = numbers.map(|number| refused(number, 0, 0, 0).meaning());
     assert!(sentences.eq(meanings));
 }
@@ -351,6 +400,10 @@ fn refusals_in_words() {
     assert_eq!(
         refused(8, 0, 0, 1).to_string(),
         "8: a capability is missing (type 0, bit 1)"
+    );
+    assert_eq!(
+        refused(34, 1, 0, 6).to_string(),
+        "34: the blend sources of a struct's members are refused (type 1, detail 6)"
     );
     assert_eq!(
         refused(26, 0, 0, 0).to_string(),

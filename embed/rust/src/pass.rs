@@ -56,7 +56,7 @@ impl Pass {
     }
 
     /// Chooses a pipeline by its immediate type. The slots that it needs are fixed here; slots set before stay set. Judges
-    /// the arena first. Numbers 1 to 24, then 26, 37 for a type whose immediates word is not 0, and 25.
+    /// the arena first. Numbers 1 to 24 and 34, then 26, 37 for a type whose immediates word is not 0, and 25.
     ///
     /// What is said of time and stack at [`crate::slots`] holds here too.
     pub fn choose(

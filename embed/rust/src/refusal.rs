@@ -5,21 +5,37 @@ use std::fmt;
 /// The first thing refused.
 #[derive(Clone, Copy, Debug, PartialEq, Eq, Hash)]
 pub struct Refusal {
-    /// 1 to 27, 36 and 37.
+    /// 1 to 27, 34, 36 and 37.
     pub number: u32,
     /// The first type refused; 0 for 1, 25, 26, 36 and 37, and for 2 of [`crate::plain`].
     pub ty: u32,
     /// Its position in the struct for 6 and 17 to 21, else 0.
     pub member: u32,
-    /// The missing capability's bit for 8, else 0.
+    /// The missing capability's bit for 8, what is wrong with a blend source for 34 ([`blend`]), else 0.
     pub detail: u32,
+}
+
+/// The detail of number 34.
+pub mod blend {
+    /// A source above 1, or a location other than 0 with a source.
+    pub const BAD_INDEX: u32 = 1;
+    /// Two members with one source.
+    pub const COLLISION: u32 = 2;
+    /// Beside both sources a member has a location alone.
+    pub const OTHER_LOCATIONS: u32 = 3;
+    /// The two types are not the same, or structs.
+    pub const TYPES_DIFFER: u32 = 4;
+    /// Their type is not IO-shareable.
+    pub const NOT_SHAREABLE: u32 = 5;
+    /// One source alone.
+    pub const ONE_MISSING: u32 = 6;
 }
 
 /// As in `wuldazin_meaning` of wuldazin.h.
 const MEANINGS: [&str; 28] = [
     "accepted",
-    "a table is no whole number of records or too long, the rows, the report or the pass are too short, or a capability bit above 12 is set",
-    "a field lies outside its set, member rows reach past the table, or no plain type has that shape and width",
+    "a table is no whole number of records or too long, the rows, the report or the pass are too short, or a capability bit above 13 is set",
+    "a field lies outside its set, member rows reach past the table, a blend source has no location, or no plain type has that shape and width",
     "the base of a pointer or binding array lies outside the arena",
     "an array's count or size is above 2,147,483,647",
     "an array's element is no earlier type",
@@ -63,8 +79,11 @@ impl Refusal {
     /// A sentence for a message: what the number stands for.
     pub fn meaning(&self) -> &'static str {
         match self.number {
+            34 => "the blend sources of a struct's members are refused",
             36 => "a dispatch has no pipeline, or slots that it needs are not set",
-            37 => "a type's immediates word is not 0, or a range's offset or size is no multiple of 4",
+            37 => {
+                "a type's immediates word is not 0, or a range's offset or size is no multiple of 4"
+            }
             number => MEANINGS
                 .get(number as usize)
                 .unwrap_or(&"no number of an answer"),
@@ -85,6 +104,7 @@ impl fmt::Display for Refusal {
             1 | 25 | 26 | 36 | 37 => Ok(()),
             6 | 17..=21 => write!(f, " (type {ty}, member {member})"),
             8 => write!(f, " (type {ty}, bit {detail})"),
+            34 => write!(f, " (type {ty}, detail {detail})"),
             _ => write!(f, " (type {ty})"),
         }
     }

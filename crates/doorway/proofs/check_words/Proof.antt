@@ -8,7 +8,7 @@ use Rattle.doorway.proofs.check_words.Tie as tie
 slice-aggregate-check : tie.Need-slice-aggregate-check
 slice-aggregate-check c =
     let a = c .before .before .before .args in
-    sym (length-take-le (a .n * 2) (a .t2) (search needs))
+    sym (length-take-le (a .n * 4) (a .t2) (search needs))
 
 pub check-words-spec : {M : Type 1} → statement M
 check-words-spec =

@@ -8,7 +8,7 @@ use Rattle.doorway.proofs.place_words.Tie as tie
 slice-aggregate-lookup : tie.Need-slice-aggregate-lookup
 slice-aggregate-lookup c =
     let a = c .before .before .before .before .args in
-    sym (length-take-le (a .n * 2) (a .t2) (search needs))
+    sym (length-take-le (a .n * 4) (a .t2) (search needs))
 
 pub place-words-spec : {M : Type 1} → statement M
 place-words-spec =

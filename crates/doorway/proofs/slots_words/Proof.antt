@@ -8,7 +8,7 @@ use Rattle.doorway.proofs.slots_words.Tie as tie
 slice-aggregate-immediate-slots : tie.Need-slice-aggregate-immediate-slots
 slice-aggregate-immediate-slots c =
     let a = c .before .before .before .args in
-    sym (length-take-le (a .n * 2) (a .t2) (search needs))
+    sym (length-take-le (a .n * 4) (a .t2) (search needs))
 
 pub slots-words-spec : {M : Type 1} → statement M
 slots-words-spec =

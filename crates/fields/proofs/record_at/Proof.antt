@@ -6,15 +6,15 @@ use Rattle.fields.proofs.record_at.Tie as tie
 
 returns : tie.Need-returns
 unfolding recordAt
-returns c = let two = rw (c .before .before .before .before .record-words .ensures) at (sym (c .before .before .before .fields-ok .ensures) ∙ c .before .before .if1 .taken) in let three = rw (c .before .before .before .before .record-words .ensures) at (sym (c .before .base-within .ensures) ∙ c .if2 .taken) in rw (two, three) refl
+returns c =
+    let located = rw (c .before .before .before .struct-members .ensures) at (sym (c .before .before .sources-located .ensures) ∙ c .before .if1 .taken) in
+    rw located (c .fields-at .ensures)
 
 returns-2 : tie.Need-returns-2
 unfolding recordAt
-returns-2 c = let two = rw (c .before .before .before .before .record-words .ensures) at (sym (c .before .before .before .fields-ok .ensures) ∙ c .before .before .if1 .taken) in let three = rw (c .before .before .before .before .record-words .ensures) at (sym (c .before .base-within .ensures) ∙ c .if2 .left) in rw (two, three) refl
-
-returns-3 : tie.Need-returns-3
-unfolding recordAt
-returns-3 c = let two = rw (c .before .before .record-words .ensures) at (sym (c .before .fields-ok .ensures) ∙ c .if1 .left) in rw two refl
+returns-2 c =
+    let located = rw (c .before .before .struct-members .ensures) at (sym (c .before .sources-located .ensures) ∙ c .if1 .left) in
+    rw located refl
 
 pub record-at-spec : {M : Type 1} → statement M
 record-at-spec =
@@ -24,5 +24,4 @@ record-at-spec =
     (λ c κs. search needs)
     (λ c κs. search needs)
     returns
-    returns-2
-    returns-3)
+    returns-2)

@@ -6,7 +6,7 @@ use borrow.Author.Tests.{leb-true}
 use denote.Ref.{now}
 use lib.Dec.{eqb, leb, ltb}
 use lib.ListN.{length}
-use Rattle.records.specs.Record.{structMembers}
+use Rattle.records.specs.Record.{memberCount, structMembers}
 use Rattle.records.proofs.ResultLaws.{true-T, T-true, and-right}
 use Rattle.records.proofs.struct_members.Statement.{statement}
 use Rattle.records.proofs.struct_members.Tie as tie
@@ -16,7 +16,7 @@ member-part-requires : tie.Need-member-part-requires
 member-part-requires c κs =
     let a = c .before .before .before .before .before .before .args in
     let last = c .before .before .type-word2 .result + c .before .type-word3 .result in
-    let rows = length (now (a .members)) / 2 in
+    let rows = memberCount (now (a .members)) in
     leb-true last rows (T-true (leb last rows) (and-right (ltb (a .i) (length (now (a .types)) / 6) && eqb (c .before .before .before .type-word .result) 8) (leb last rows) (true-T (c .if1 .taken))))
 
 returns : tie.Need-returns

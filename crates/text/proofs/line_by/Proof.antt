@@ -13,7 +13,7 @@ returns-2 : tie.Need-returns-2
 returns-2 c = rw (c .before .before .before .before .enum-told2 .given .1, c .word-at6 .ensures, c .before .word-at5 .ensures, c .before .before .word-at4 .ensures, c .before .before .before .word-at3 .ensures, c .before .before .before .before .before .before .word-at2 .ensures, c .before .before .before .before .before .before .before .word-at .ensures)
 
 returns-3 : tie.Need-returns-3
-returns-3 c = rw (c .enum-told3 .given .1, c .before .before .word-at2 .ensures, c .before .before .before .word-at .ensures)
+returns-3 c = rw (c .before .before .enum-told3 .given .1, c .word-at8 .ensures, c .before .word-at7 .ensures, c .before .before .before .before .word-at2 .ensures, c .before .before .before .before .before .word-at .ensures)
 
 returns-7 : tie.Need-returns-7
 returns-7 c = rw (c .enum-told7 .given .1, c .before .before .before .word-at .ensures)
@@ -49,6 +49,8 @@ line-by-spec =
     (λ c κs. search needs)
     (λ c κs. search needs)
     (λ c. search needs)
+    (λ c κs. search needs)
+    (λ c κs. search needs)
     (λ c. search needs)
     (λ c. search needs)
     (λ c. search needs)

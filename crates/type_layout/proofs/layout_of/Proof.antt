@@ -20,7 +20,7 @@ returns c =
     let ls = layoutsIn (now (a .rows)) in
     let w = c .before .before .own-record in
     c .scalar-layout .ensures (memberCount ms) (typeCount ts) (a .i) ls (structMembers ts ms (a .i))
-    ∙ by-words ts ms ls (a .i) (w .result) (w .ensures) 0 (c .before .match .keys1)
+    ∙ by-words ts ms ls (a .i) (w .result) (w .ensures) 0 (c .before .match .keys1) (λ q. omega arith) (c .before .before .before .before .before .before .pre .0)
 
 returns-2 : tie.Need-returns-2
 returns-2 c =
@@ -30,7 +30,7 @@ returns-2 c =
     let ls = layoutsIn (now (a .rows)) in
     let w = c .before .before .own-record in
     c .vector-layout .ensures (memberCount ms) (typeCount ts) (a .i) ls (structMembers ts ms (a .i))
-    ∙ by-words ts ms ls (a .i) (w .result) (w .ensures) 1 (c .before .match .keys2)
+    ∙ by-words ts ms ls (a .i) (w .result) (w .ensures) 1 (c .before .match .keys2) (λ q. omega arith) (c .before .before .before .before .before .before .pre .0)
 
 returns-3 : tie.Need-returns-3
 returns-3 c =
@@ -40,7 +40,7 @@ returns-3 c =
     let ls = layoutsIn (now (a .rows)) in
     let w = c .before .before .own-record in
     c .matrix-layout .ensures (memberCount ms) (typeCount ts) (a .i) ls (structMembers ts ms (a .i))
-    ∙ by-words ts ms ls (a .i) (w .result) (w .ensures) 2 (c .before .match .keys3)
+    ∙ by-words ts ms ls (a .i) (w .result) (w .ensures) 2 (c .before .match .keys3) (λ q. omega arith) (c .before .before .before .before .before .before .pre .0)
 
 returns-4 : tie.Need-returns-4
 returns-4 c =
@@ -50,7 +50,7 @@ returns-4 c =
     let ls = layoutsIn (now (a .rows)) in
     let w = c .before .before .own-record in
     c .cooperative-layout .ensures (memberCount ms) (typeCount ts) (a .i) ls (structMembers ts ms (a .i))
-    ∙ by-words ts ms ls (a .i) (w .result) (w .ensures) 3 (c .before .match .keys4)
+    ∙ by-words ts ms ls (a .i) (w .result) (w .ensures) 3 (c .before .match .keys4) (λ q. omega arith) (c .before .before .before .before .before .before .pre .0)
 
 returns-5 : tie.Need-returns-5
 unfolding fieldsOk innerOf layoutOf trySize alignmentOf
@@ -61,7 +61,7 @@ returns-5 c =
     let ls = layoutsIn (now (a .rows)) in
     let w = c .before .before .own-record in
     c .scalar-layout2 .ensures (memberCount ms) (typeCount ts) (a .i) ls (structMembers ts ms (a .i))
-    ∙ by-words ts ms ls (a .i) (w .result) (w .ensures) 4 (c .before .match .keys5)
+    ∙ by-words ts ms ls (a .i) (w .result) (w .ensures) 4 (c .before .match .keys5) (λ q. omega arith) (c .before .before .before .before .before .before .pre .0)
 
 returns-6 : tie.Need-returns-6
 unfolding innerOf layoutOf trySize alignmentOf
@@ -72,7 +72,7 @@ returns-6 c =
     let ls = layoutsIn (now (a .rows)) in
     let w = c .before .before .before .own-record in
     rw (c .before .pointer-fields .ensures (memberCount ms) (w .result .a)) at (c .based-layout .ensures)
-    ∙ by-words ts ms ls (a .i) (w .result) (w .ensures) 5 (c .before .before .match .keys6)
+    ∙ by-words ts ms ls (a .i) (w .result) (w .ensures) 5 (c .before .before .match .keys6) (λ q. omega arith) (c .before .before .before .before .before .before .before .pre .0)
 
 returns-7 : tie.Need-returns-7
 unfolding innerOf layoutOf trySize alignmentOf
@@ -83,7 +83,7 @@ returns-7 c =
     let ls = layoutsIn (now (a .rows)) in
     let w = c .before .before .before .own-record in
     rw (c .before .value-pointer-fields .ensures (memberCount ms)) at (c .handle-layout .ensures)
-    ∙ by-words ts ms ls (a .i) (w .result) (w .ensures) 6 (c .before .before .match .keys7)
+    ∙ by-words ts ms ls (a .i) (w .result) (w .ensures) 6 (c .before .before .match .keys7) (λ q. omega arith) (c .before .before .before .before .before .before .before .pre .0)
 
 returns-8 : tie.Need-returns-8
 returns-8 c =
@@ -93,7 +93,7 @@ returns-8 c =
     let ls = layoutsIn (now (a .rows)) in
     let w = c .before .before .own-record in
     c .array-record .ensures (memberCount ms) (typeCount ts) (structMembers ts ms (a .i))
-    ∙ by-words ts ms ls (a .i) (w .result) (w .ensures) 7 (c .before .match .keys8)
+    ∙ by-words ts ms ls (a .i) (w .result) (w .ensures) 7 (c .before .match .keys8) (λ q. omega arith) (c .before .before .before .before .before .before .pre .0)
 
 returns-9 : tie.Need-returns-9
 returns-9 c =
@@ -114,7 +114,7 @@ returns-10 c =
     let ls = layoutsIn (now (a .rows)) in
     let w = c .before .before .before .own-record in
     rw (c .before .image-fields .ensures (memberCount ms)) at (c .handle-layout2 .ensures)
-    ∙ by-words ts ms ls (a .i) (w .result) (w .ensures) 9 (c .before .before .match .keys10)
+    ∙ by-words ts ms ls (a .i) (w .result) (w .ensures) 9 (c .before .before .match .keys10) (λ q. omega arith) (c .before .before .before .before .before .before .before .pre .0)
 
 returns-11 : tie.Need-returns-11
 unfolding innerOf layoutOf trySize alignmentOf
@@ -125,7 +125,7 @@ returns-11 c =
     let ls = layoutsIn (now (a .rows)) in
     let w = c .before .before .before .own-record in
     rw (c .before .sampler-fields .ensures (memberCount ms)) at (c .handle-layout3 .ensures)
-    ∙ by-words ts ms ls (a .i) (w .result) (w .ensures) 10 (c .before .before .match .keys11)
+    ∙ by-words ts ms ls (a .i) (w .result) (w .ensures) 10 (c .before .before .match .keys11) (λ q. omega arith) (c .before .before .before .before .before .before .before .pre .0)
 
 returns-12 : tie.Need-returns-12
 unfolding innerOf layoutOf trySize alignmentOf
@@ -136,7 +136,7 @@ returns-12 c =
     let ls = layoutsIn (now (a .rows)) in
     let w = c .before .before .before .own-record in
     rw (c .before .acceleration-fields .ensures (memberCount ms)) at (c .handle-layout4 .ensures)
-    ∙ by-words ts ms ls (a .i) (w .result) (w .ensures) 11 (c .before .before .match .keys12)
+    ∙ by-words ts ms ls (a .i) (w .result) (w .ensures) 11 (c .before .before .match .keys12) (λ q. omega arith) (c .before .before .before .before .before .before .before .pre .0)
 
 returns-13 : tie.Need-returns-13
 unfolding fieldsOk innerOf layoutOf trySize alignmentOf
@@ -147,7 +147,7 @@ returns-13 c =
     let ls = layoutsIn (now (a .rows)) in
     let w = c .before .before .before .own-record in
     rw (c .before .acceleration-fields2 .ensures (memberCount ms)) at (c .handle-layout5 .ensures)
-    ∙ by-words ts ms ls (a .i) (w .result) (w .ensures) 12 (c .before .before .match .keys13)
+    ∙ by-words ts ms ls (a .i) (w .result) (w .ensures) 12 (c .before .before .match .keys13) (λ q. omega arith) (c .before .before .before .before .before .before .before .pre .0)
 
 returns-14 : tie.Need-returns-14
 unfolding innerOf layoutOf trySize alignmentOf
@@ -158,7 +158,7 @@ returns-14 c =
     let ls = layoutsIn (now (a .rows)) in
     let w = c .before .before .before .own-record in
     rw (c .before .binding-array-fields .ensures (memberCount ms) (w .result .a)) at (c .based-layout2 .ensures)
-    ∙ by-words ts ms ls (a .i) (w .result) (w .ensures) 13 (c .before .before .match .keys14)
+    ∙ by-words ts ms ls (a .i) (w .result) (w .ensures) 13 (c .before .before .match .keys14) (λ q. omega arith) (c .before .before .before .before .before .before .before .pre .0)
 
 returns-15 : tie.Need-returns-15
 returns-15 c =

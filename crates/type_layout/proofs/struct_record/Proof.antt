@@ -1,10 +1,15 @@
 use borrow.Author.Needs.{needs}
-use mathlib.Core.Path.{sym, _∙_}
+use mathlib.Core.Path.{sym, _∙_, ap}
 use denote.Ref.{now}
-use Rattle.records.specs.Record.{memberCount, innerOf}
+use Prim.Native.Nat.{ℕ, _*_}
+use lib.ListN.{take, drop}
+use Rattle.records.specs.Result.{Result, ok}
+use Rattle.records.specs.Record.{memberWords, memberCount, innerOf}
+use Rattle.records.specs.Fields.{sourcesLocated}
+use Rattle.records.proofs.ResultLaws.{refused-twice, require-then}
 use Rattle.type_methods.specs.TypeMethods.{trySize}
-use Rattle.type_alignment.specs.TypeAlignment.{alignmentOf}
-use Rattle.type_layout.specs.TypeLayout.{layoutOf}
+use Rattle.type_alignment.specs.TypeAlignment.{membersAlignment, alignmentOf, layoutsIn}
+use Rattle.type_layout.specs.TypeLayout.{sizedLayout, layoutOf}
 use Rattle.type_layout.proofs.TypeLayoutLaws.{members-within, part-length}
 use Rattle.type_layout.proofs.struct_record.Statement.{statement}
 use Rattle.type_layout.proofs.struct_record.Tie as tie
@@ -23,13 +28,19 @@ members-alignment-requires c κs =
 returns : tie.Need-returns
 unfolding innerOf layoutOf trySize alignmentOf
 returns c =
-    let a = c .before .before .before .before .before .before .before .args in
-    λ n. rw (sym (c .before .before .before .before .struct-fields .ensures (a .c)) ∙ c .before .before .before .if1 .taken) (rw (c .before .members-alignment .ensures, c .before .before .member-part .ensures) at (c .with-alignment .ensures))
+    let a = c .before .before .before .before .before .before .before .before .args in
+    let part = take (a .b * memberWords) (drop (a .a * memberWords) (now (a .members))) in
+    let located = rw (c .before .before .before .member-part .ensures) at (c .before .before .members-alignment .ensures .0) in
+    λ n. rw (sym (c .before .before .before .before .before .struct-fields .ensures (a .c)) ∙ c .before .before .before .before .if1 .taken)
+    (c .with-alignment .ensures ∙ ap (λ (o : Result ℕ). sizedLayout o (a .c)) (c .before .as-aligned .ensures ∙ located)
+    ∙ sym (require-then (sourcesLocated part) 2 0 0 (membersAlignment (layoutsIn (now (a .rows))) (a .i) part (a .b)) (λ x. ok (record { size = a .c; alignment = x }))))
 
+-- a field outside its set
 returns-2 : tie.Need-returns-2
 returns-2 c =
     let a = c .before .before .before .before .before .args in
-    λ n. rw (sym (c .before .before .struct-fields .ensures (a .c)) ∙ c .before .if1 .left) (c .unfit .ensures)
+    λ n. rw (sym (c .before .before .struct-fields .ensures (a .c)) ∙ c .before .if1 .left)
+    (c .unfit .ensures ∙ sym (refused-twice 2 0 0 (sourcesLocated (take (a .b * memberWords) (drop (a .a * memberWords) (now (a .members)))))))
 
 pub struct-record-spec : {M : Type 1} → statement M
 struct-record-spec =
@@ -38,6 +49,7 @@ struct-record-spec =
     (λ c κs. search needs)
     member-part-requires
     members-alignment-requires
+    (λ c κs. search needs)
     (λ c κs. search needs)
     returns
     (λ c κs. search needs)

@@ -2,6 +2,7 @@ use borrow.Author.Needs.{needs}
 use mathlib.Core.Path.{refl}
 use Prim.Native.Nat.{_*_}
 use lib.ListN.{take}
+use native.Mathlib.Omega.{arith}
 use denote.Ref.{now}
 use Rattle.records.specs.Record.{memberCount, typeCount, typeInner, structMembers}
 use Rattle.validate_struct.proofs.RecordRowLaws.{by-words, struct-words}
@@ -12,19 +13,19 @@ returns : tie.Need-returns
 returns c =
     let s = c .before .before .before .before .before .before .before .before .before in let a = s .args in let ts = now (a .types) in let ms = now (a .members) in
     let w = c .before .before .before .before .before .own-record in
-    rw (← struct-words (a .capabilities) ts ms (take (a .i * 14) (now (a .rows))) (a .i) (w .result) (w .ensures) (c .before .before .before .before .if1 .taken) (s .pre .1)) (c .before .before .struct-row .ensures (a .capabilities) (typeCount ts))
+    rw (← struct-words (a .capabilities) ts ms (take (a .i * 14) (now (a .rows))) (a .i) (w .result) (w .ensures) (c .before .before .before .before .if1 .taken) (s .pre .1)) (c .before .before .struct-row .ensures (typeCount ts))
 
 returns-2 : tie.Need-returns-2
 returns-2 c =
-    let a = c .before .before .before .before .before .before .before .before .before .before .args in let ts = now (a .types) in let ms = now (a .members) in
+    let s = c .before .before .before .before .before .before .before .before .before .before in let a = s .args in let ts = now (a .types) in let ms = now (a .members) in
     let w = c .before .before .before .before .before .before .own-record in
-    rw (← by-words (a .capabilities) ts ms (take (a .i * 14) (now (a .rows))) (a .i) (w .result) (w .ensures) 7 (c .before .before .before .before .if2 .taken)) (c .before .before .array-row .ensures (a .capabilities) (memberCount ms) (typeCount ts) (typeInner ts) (structMembers ts ms (a .i)))
+    rw (← by-words (a .capabilities) ts ms (take (a .i * 14) (now (a .rows))) (a .i) (w .result) (w .ensures) 7 (c .before .before .before .before .if2 .taken) (λ q. omega arith) (s .pre .1)) (c .before .before .array-row .ensures (a .capabilities) (memberCount ms) (typeCount ts) (typeInner ts) (structMembers ts ms (a .i)))
 
 returns-3 : tie.Need-returns-3
 returns-3 c =
-    let a = c .before .before .before .before .before .before .before .before .before .before .args in let ts = now (a .types) in let ms = now (a .members) in
+    let s = c .before .before .before .before .before .before .before .before .before .before in let a = s .args in let ts = now (a .types) in let ms = now (a .members) in
     let w = c .before .before .before .before .before .before .own-record in
-    rw (← by-words (a .capabilities) ts ms (take (a .i * 14) (now (a .rows))) (a .i) (w .result) (w .ensures) (w .result .kind) refl) (c .before .before .plain-row .ensures (memberCount ms) (structMembers ts ms (a .i)))
+    rw (← by-words (a .capabilities) ts ms (take (a .i * 14) (now (a .rows))) (a .i) (w .result) (w .ensures) (w .result .kind) refl (c .before .before .before .before .before .if1 .left) (s .pre .1)) (c .before .before .plain-row .ensures (memberCount ms) (structMembers ts ms (a .i)))
 
 pub record-row-spec : {M : Type 1} → statement M
 record-row-spec =

@@ -1,0 +1,61 @@
+use borrow.Author.Needs.{needs}
+use mathlib.Core.Path.{_≡_, sym, _∙_}
+use Prim.Native.Nat.{_-_, _<_, _≤_}
+use native.Mathlib.Omega.{arith}
+use denote.Ref.{now}
+use Rattle.records.specs.Record.{typeInner}
+use Rattle.type_info.specs.TypeInfo.{rowsIn}
+use Rattle.valid_blend.proofs.BlendLaws.{source-within, both-missing, second-alone, first-alone, both-there}
+use Rattle.valid_blend.proofs.struct_blend.Statement.{statement}
+use Rattle.valid_blend.proofs.struct_blend.Tie as tie
+
+returns : tie.Need-returns
+returns c =
+    let a = c .before .before .before .before .before .before .before .args in
+    let first = c .before .before .before .source-at in
+    let second = c .before .before .source-at2 in
+    sym (both-missing (typeInner (now (a .types))) (rowsIn (now (a .rows))) (now (a .part)) (a .count) (a .flags) (first .result) (second .result) (sym (first .ensures)) (sym (second .ensures)) (c .before .if1 .taken) (c .if2 .taken))
+
+returns-2 : tie.Need-returns-2
+returns-2 c =
+    let a = c .before .before .before .before .before .before .before .args in
+    let first = c .before .before .before .source-at in
+    let second = c .before .before .source-at2 in
+    sym (second-alone (typeInner (now (a .types))) (rowsIn (now (a .rows))) (now (a .part)) (a .count) (a .flags) (first .result) (second .result) (sym (first .ensures)) (sym (second .ensures)) (c .before .if1 .taken) (omega (arith, c .if2 .left)))
+
+returns-3 : tie.Need-returns-3
+returns-3 c =
+    let a = c .before .before .before .before .before .before .before .args in
+    let first = c .before .before .before .source-at in
+    let second = c .before .before .source-at2 in
+    sym (first-alone (typeInner (now (a .types))) (rowsIn (now (a .rows))) (now (a .part)) (a .count) (a .flags) (first .result) (second .result) (sym (first .ensures)) (sym (second .ensures)) (omega (arith, c .before .if1 .left)) (c .if3 .taken))
+
+pair-of-requires : tie.Need-pair-of-requires
+pair-of-requires c κs =
+    let a = c .before .before .before .before .before .before .before .args in
+    let p = c .before .before .before .before .before .before .before .pre in
+    let first = c .before .before .before .source-at in
+    let below : first .result - 1 < a .count = omega (arith, c .before .if1 .left, first .ensures, source-within (now (a .part)) 1 (a .count)) in
+    let earlier = p .1 .1 (first .result - 1) below in
+    (omega (arith, p .1 .0), omega (arith, earlier, p .0))
+
+returns-4 : tie.Need-returns-4
+returns-4 c =
+    let a = c .before .before .before .before .before .before .before .before .args in
+    let first = c .before .before .before .before .source-at in
+    let second = c .before .before .before .source-at2 in
+    c .pair-of .ensures ∙ sym (both-there (typeInner (now (a .types))) (rowsIn (now (a .rows))) (now (a .part)) (a .count) (a .flags) (first .result) (second .result) (sym (first .ensures)) (sym (second .ensures)) (omega (arith, c .before .before .if1 .left)) (omega (arith, c .before .if3 .left)))
+
+pub struct-blend-spec : {M : Type 1} → statement M
+struct-blend-spec =
+    tie.close
+    (tie.spec
+    (λ c κs. search needs)
+    (λ c κs. search needs)
+    returns
+    returns-2
+    returns-3
+    (λ c. search needs)
+    (λ c. search needs)
+    pair-of-requires
+    returns-4)

@@ -1,0 +1,127 @@
+-- 02, E9: the blend sources of a struct, member by member and after the last. A member's location and blend source are stored as value
+-- plus one, 0 for none. `rows` are the rows of the types before type i.
+-- Assumes nothing.
+use mathlib.Core.Bool.{Bool, true, false, not, _&&_, _||_}
+use mathlib.Core.List.{List}
+use Prim.Native.Nat.{ℕ, zero, suc}
+use lib.Bits.{bitOr}
+use lib.Dec.{eqb, leb, ltb}
+use Rattle.records.specs.Result.{Result, err, ok, pick, require, andThen}
+use Rattle.records.specs.Record.{memberType, memberOffset, memberLocation, memberSource, structKind}
+use Rattle.records.specs.declared.Words.{Words}
+use Rattle.records.specs.declared.Leaf.{Leaf}
+use Rattle.records.specs.declared.Leaf.the-variants.{Scalar, Vector, Matrix, CooperativeMatrix, Atomic, RayQuery}
+use Rattle.records.specs.declared.TypeInner.{TypeInner}
+use Rattle.records.specs.declared.TypeInner.the-variants.{Plain, Array, RuntimeArray, Struct, Other}
+use Rattle.flags.specs.Flags.{bit, startingFlags, ioShareableBit, ioShareableFlag}
+use Rattle.width.specs.Width.{dualSourceBlending}
+use Rattle.type_info.specs.declared.Row.{Row}
+use Rattle.type_info.specs.Verdict.{previousOf}
+use Rattle.member_bounds.specs.declared.Bounds.{Bounds}
+use Rattle.member_bounds.specs.MemberBounds.{isMemberData, memberBounds}
+use Rattle.valid_blend.specs.declared.Source.{Source}
+use Rattle.valid_blend.specs.declared.Source.the-variants as source
+use Rattle.valid_blend.specs.declared.Blend.{Blend}
+use Rattle.valid_blend.specs.declared.Blend.the-variants as blend
+
+-- ---- one member
+-- the number plus one of the last of the first j members whose blend source is stored as this word; 0 for none
+unfoldable pub sourceAt : (members : List ℕ) (word : ℕ) → ℕ → ℕ
+sourceAt members word zero = 0
+sourceAt members word (suc j) = pick (eqb (memberSource members j) word) (suc j) (sourceAt members word j)
+
+-- 8, and 34 with detail 1 (bad index) and 2 (collision), of member j. dual: DUAL_SOURCE_BLENDING is among the capabilities
+abbrev pub sourceRules : (dual : Bool) (members : List ℕ) (j : ℕ) → Result (Unit {0})
+sourceRules dual members j =
+    require dual 8 0 dualSourceBlending
+    (require (eqb (memberLocation members j) 1 && leb (memberSource members j) 2) 34 0 1
+    (require (eqb (sourceAt members (memberSource members j) j) 0) 34 0 2 (ok tt)))
+
+-- a member without one passes
+unfoldable pub sourceResult : (dual : Bool) (members : List ℕ) (j : ℕ) → Result (Unit {0})
+sourceResult dual members j = pick (eqb (memberSource members j) 0) (ok tt) (sourceRules dual members j)
+
+-- of the first n members, one after the other
+unfoldable pub sourcesAfter : (dual : Bool) (members : List ℕ) → ℕ → Result (Unit {0})
+sourcesAfter dual members zero = ok tt
+sourcesAfter dual members (suc j) = andThen (sourcesAfter dual members j) (λ _. sourceResult dual members j)
+
+-- the running end and the flags after j members: numbers 17 to 21, and right after 17 those of a blend source
+unfoldable pub blendedAfter : (dual : Bool) (inner : ℕ → TypeInner) (rows : ℕ → Row) (count span : ℕ) (members : List ℕ) → ℕ → Result Bounds
+blendedAfter dual inner rows count span members zero = ok (record { end = 0; flags = startingFlags structKind })
+blendedAfter dual inner rows count span members (suc j) =
+    andThen (blendedAfter dual inner rows count span members j)
+    (λ b. require (isMemberData (rows (memberType members j) .flags)) 17 j 0
+    (andThen (sourceResult dual members j)
+    (λ _. memberBounds count span (previousOf inner members j) (inner (memberType members j)) (memberOffset members j) j (rows (memberType members j)) b)))
+
+-- ---- after the last member
+-- one of the first j members has a location and no blend source
+unfoldable pub otherLocation : (members : List ℕ) → ℕ → Bool
+otherLocation members zero = false
+otherLocation members (suc j) = pick (eqb (memberSource members j) 0 && ltb 0 (memberLocation members j)) true (otherLocation members j)
+
+-- the six words of a record that says it; what is no data is no blend source, and a struct is none that is compared
+abbrev pub sixWords : (kind a b c d e : ℕ) → Words
+sixWords kind a b c d e = record { kind = kind; a = a; b = b; c = c; d = d; e = e }
+
+abbrev pub leafWords : Leaf → Words
+leafWords (Scalar k w) = sixWords 0 k w 0 0 0
+leafWords (Vector n k w) = sixWords 1 n k w 0 0
+leafWords (Matrix columns rows k w) = sixWords 2 columns rows k w 0
+leafWords (CooperativeMatrix columns rows k w role) = sixWords 3 columns rows k w role
+leafWords (Atomic k w) = sixWords 4 k w 0 0 0
+leafWords (RayQuery v) = sixWords 12 v 0 0 0 0
+
+abbrev pub innerWords : TypeInner → Words
+innerWords (Plain leaf) = leafWords leaf
+innerWords (Array base count stride) = sixWords 7 base 0 count stride 0
+innerWords (RuntimeArray base stride) = sixWords 7 base 1 0 stride 0
+innerWords (Struct count span) = sixWords 8 0 count span 0 0
+innerWords (Other o) = sixWords 9 0 0 0 0 0
+
+abbrev pub sameWords : Words → Words → Bool
+sameWords v w =
+    eqb (v .kind) (w .kind) && eqb (v .a) (w .a) && eqb (v .b) (w .b) && eqb (v .c) (w .c) && eqb (v .d) (w .d) && eqb (v .e) (w .e)
+    && not (eqb (v .kind) 8)
+
+-- equal words, and no struct
+unfoldable pub sameType : TypeInner → TypeInner → Bool
+sameType x y = sameWords (innerWords x) (innerWords y)
+
+-- 34 with detail 3 (other locations), 4 (types differ), 5 (not IO-shareable); members a and b with source 0 and 1 that pass make the
+-- struct IO_SHAREABLE
+abbrev pub pairOf : (inner : ℕ → TypeInner) (rows : ℕ → Row) (members : List ℕ) (other : Bool) (flags a b : ℕ) → Result ℕ
+pairOf inner rows members other flags a b =
+    require (not other) 34 0 3
+    (require (sameType (inner (memberType members a)) (inner (memberType members b))) 34 0 4
+    (require (bit (rows (memberType members a) .flags) ioShareableBit) 34 0 5
+    (ok (bitOr flags ioShareableFlag))))
+
+-- detail 6 (one source missing). first, second: the members with source 0 and 1, as `sourceAt` numbers them
+abbrev pub pairResult : (inner : ℕ → TypeInner) (rows : ℕ → Row) (members : List ℕ) (other : Bool) (flags first second : ℕ) → Result ℕ
+pairResult inner rows members other flags zero zero = ok flags
+pairResult inner rows members other flags zero (suc b) = err 34 0 6
+pairResult inner rows members other flags (suc a) zero = err 34 0 6
+pairResult inner rows members other flags (suc a) (suc b) = pairOf inner rows members other flags a b
+
+unfoldable pub structBlend : (inner : ℕ → TypeInner) (rows : ℕ → Row) (members : List ℕ) (count flags : ℕ) → Result ℕ
+structBlend inner rows members count flags =
+    pairResult inner rows members (otherLocation members count) flags (sourceAt members 1 count) (sourceAt members 2 count)
+
+-- ---- what the code answers
+-- all rules of blend sources, of a struct whose members leave these flags
+abbrev pub blendedFlags : (dual : Bool) (inner : ℕ → TypeInner) (rows : ℕ → Row) (members : List ℕ) (count flags : ℕ) → Result ℕ
+blendedFlags dual inner rows members count flags = andThen (sourcesAfter dual members count) (λ _. structBlend inner rows members count flags)
+
+-- how many members' blend sources come before a number of a member: 17 is asked first
+abbrev pub sourcesBefore : (number member : ℕ) → ℕ
+sourcesBefore number member = pick (eqb number 17) member (suc member)
+
+abbrev pub sourceAnswer : Source → Result (Unit {0})
+sourceAnswer source.Fine = ok tt
+sourceAnswer (source.Refused number detail) = err number 0 detail
+
+abbrev pub blendAnswer : Blend → Result ℕ
+blendAnswer (blend.Flags f) = ok f
+blendAnswer (blend.Refused number detail) = err number 0 detail
