@@ -13,6 +13,11 @@
  * members: WULDAZIN_MEMBER_WORDS words a member, its type, its offset, its location and its blend source, the last two as value plus one,
  * 0 for none; structs may share rows.
  *
+ * rule, the word after the capability word, says by which rule uniform verdicts are worked out: WULDAZIN_OLDER, naga 30.0.1's, with arrays
+ * and structs aligned to 16, or WULDAZIN_NEWER, WGSL's uniform_buffer_standard_layout, by the storage rules; a struct with a runtime-sized
+ * member has no uniform verdict under either. Another word is number 1. The answer, and every word of a row but the five of the uniform
+ * verdict, are the same under both.
+ *
  * rows takes WULDAZIN_ROW_WORDS words a type; n types need n * WULDAZIN_ROW_WORDS words, and no word after them is ever written.
  *  - accepted: the row of each type. Also with numbers 25 to 27 and 37, which come after the arena was accepted. Accepted does not mean usable in
  *    an address space: before a buffer is filled, look at the verdict of its type. A vec3 at offset 4 is accepted, with storage code 3.
@@ -54,6 +59,12 @@ enum {
     WULDAZIN_MOST_TYPES = 1024,
     WULDAZIN_MOST_MEMBERS = 4096,
     WULDAZIN_ALL_CAPABILITIES = 16383
+};
+
+/* The uniform rule. */
+enum {
+    WULDAZIN_OLDER = 0,
+    WULDAZIN_NEWER = 1
 };
 
 /* Word 0 of a type; the words after it. */
@@ -264,20 +275,20 @@ void wuldazin_layout(const uint32_t *types, size_t types_length,
                      uint32_t *answer, size_t answer_length);
 
 /* Judges an arena. Numbers 1 to 24 and 34. rows may hold anything, laid out or not: no word of it is read before it is written, and the
- * answer and the rows depend on the tables, the capability word and rows_length alone. Where the capability word is in order, what
- * wuldazin_layout refuses is refused with the same answer. So this is the whole check, and the fastest one: a host that has no use
+ * answer and the rows depend on the tables, the capability word, the rule and rows_length alone. Where capability word and rule are in
+ * order, what wuldazin_layout refuses is refused with the same answer. So this is the whole check, and the fastest one: a host that has no use
  * for laid-out rows calls it and nothing else. */
 void wuldazin_judge(const uint32_t *types, size_t types_length,
                     const uint32_t *members, size_t members_length,
-                    uint32_t capabilities,
+                    uint32_t capabilities, uint32_t rule,
                     uint32_t *rows, size_t rows_length,
                     uint32_t *answer, size_t answer_length);
 
-/* Tests the capability word, then does what wuldazin_layout and, where that accepts, wuldazin_judge do one after the other. The
+/* Tests the capability word and the rule, then does what wuldazin_layout and, where that accepts, wuldazin_judge do one after the other. The
  * answer and the rows are those of wuldazin_judge. Numbers 1 to 24 and 34. */
 void wuldazin_check(const uint32_t *types, size_t types_length,
                     const uint32_t *members, size_t members_length,
-                    uint32_t capabilities,
+                    uint32_t capabilities, uint32_t rule,
                     uint32_t *rows, size_t rows_length,
                     uint32_t *answer, size_t answer_length);
 
@@ -294,7 +305,7 @@ void wuldazin_range(uint32_t offset, uint32_t size,
  * has this. It recurses, at most once a type: 200 KB of stack. */
 void wuldazin_slots(const uint32_t *types, size_t types_length,
                     const uint32_t *members, size_t members_length,
-                    uint32_t capabilities,
+                    uint32_t capabilities, uint32_t rule,
                     uint32_t *rows, size_t rows_length,
                     uint32_t ty, uint32_t offset,
                     uint64_t *mask, size_t mask_length,
@@ -324,7 +335,7 @@ void wuldazin_pass_set(uint64_t *pass, size_t pass_length,
  * What is said of time and stack at wuldazin_slots holds here too. */
 void wuldazin_pass_choose(const uint32_t *types, size_t types_length,
                           const uint32_t *members, size_t members_length,
-                          uint32_t capabilities,
+                          uint32_t capabilities, uint32_t rule,
                           uint32_t *rows, size_t rows_length,
                           uint32_t ty,
                           uint64_t *pass, size_t pass_length,
@@ -342,7 +353,7 @@ void wuldazin_pass_dispatch(const uint64_t *pass, size_t pass_length,
  * place: two words, the leaf's first byte and its type, of a column the matrix's; zeros on a refusal. Numbers 1 to 24, 26 and 34. */
 void wuldazin_place(const uint32_t *types, size_t types_length,
                     const uint32_t *members, size_t members_length,
-                    uint32_t capabilities,
+                    uint32_t capabilities, uint32_t rule,
                     uint32_t *rows, size_t rows_length,
                     uint32_t start,
                     const uint32_t *steps, size_t steps_length,
@@ -360,7 +371,7 @@ void wuldazin_place(const uint32_t *types, size_t types_length,
  * own share in them. The time is linear in types and members. */
 void wuldazin_report(const uint32_t *types, size_t types_length,
                      const uint32_t *members, size_t members_length,
-                     uint32_t capabilities,
+                     uint32_t capabilities, uint32_t rule,
                      uint32_t *rows, size_t rows_length,
                      uint64_t *report, size_t report_length,
                      uint64_t *totals, size_t totals_length,

@@ -46,7 +46,7 @@ static void expect(const char *what, uint64_t found, uint64_t expected) {
 static const uint32_t *row(uint32_t ty) { return rows + ty * WULDAZIN_ROW_WORDS; }
 
 static void judge(uint32_t number) {
-    wuldazin_judge(types, LENGTH(types), members, LENGTH(members), 0, rows, LENGTH(rows), answer, LENGTH(answer));
+    wuldazin_judge(types, LENGTH(types), members, LENGTH(members), 0, WULDAZIN_OLDER, rows, LENGTH(rows), answer, LENGTH(answer));
     expect("judge", answer[0], number);
 }
 
@@ -68,7 +68,7 @@ static uint32_t leaf_size(uint32_t leaf) {
 /* Copies a value to the leaf that steps lead to, if it lies within the buffer. */
 static void put(const char *name, const uint32_t *steps, size_t count, uint32_t leaf, uint64_t byte, const void *value) {
     uint64_t place[2];
-    wuldazin_place(types, LENGTH(types), members, LENGTH(members), 0, rows, LENGTH(rows), KERNEL, steps, count, place,
+    wuldazin_place(types, LENGTH(types), members, LENGTH(members), 0, WULDAZIN_OLDER, rows, LENGTH(rows), KERNEL, steps, count, place,
                    LENGTH(place), answer, LENGTH(answer));
     expect(name, answer[0], WULDAZIN_ACCEPTED);
     expect(name, place[0], byte);
@@ -97,7 +97,7 @@ static void fill_turn(void) {
 
 static void refuse_place(const char *name, const uint32_t *steps, size_t count) {
     uint64_t place[2];
-    wuldazin_place(types, LENGTH(types), members, LENGTH(members), 0, rows, LENGTH(rows), KERNEL, steps, count, place,
+    wuldazin_place(types, LENGTH(types), members, LENGTH(members), 0, WULDAZIN_OLDER, rows, LENGTH(rows), KERNEL, steps, count, place,
                    LENGTH(place), answer, LENGTH(answer));
     expect(name, answer[0], WULDAZIN_NO_SUCH_PLACE);
 }
@@ -116,7 +116,7 @@ static void try_pass(void) {
     wuldazin_pass_set(pass, LENGTH(pass), 0, 8, answer, LENGTH(answer));
     expect("bytes 0 to 7", answer[0], WULDAZIN_ACCEPTED);
     dispatch(pass, WULDAZIN_NOT_READY, 0);
-    wuldazin_pass_choose(types, LENGTH(types), members, LENGTH(members), 0, rows, LENGTH(rows), CELL, pass, LENGTH(pass), answer,
+    wuldazin_pass_choose(types, LENGTH(types), members, LENGTH(members), 0, WULDAZIN_OLDER, rows, LENGTH(rows), CELL, pass, LENGTH(pass), answer,
                          LENGTH(answer));
     expect("pipeline", answer[0], WULDAZIN_ACCEPTED);
     dispatch(pass, WULDAZIN_NOT_READY, 0xc);
@@ -130,7 +130,7 @@ static void try_pass(void) {
 /* A cell carries all of its 16 bytes, the kernel 36 of its matrix and 4 + 64 + 4 of the rest, of 144. */
 static void look_at_report(void) {
     uint64_t report[TYPES * WULDAZIN_REPORT_WORDS], totals[2], *kernel = report + KERNEL * WULDAZIN_REPORT_WORDS;
-    wuldazin_report(types, LENGTH(types), members, LENGTH(members), 0, rows, LENGTH(rows), report, LENGTH(report), totals,
+    wuldazin_report(types, LENGTH(types), members, LENGTH(members), 0, WULDAZIN_OLDER, rows, LENGTH(rows), report, LENGTH(report), totals,
                     LENGTH(totals), answer, LENGTH(answer));
     expect("report", answer[0], WULDAZIN_ACCEPTED);
     expect("carried by the kernel", kernel[0], 108);
@@ -142,7 +142,7 @@ static void look_at_report(void) {
 
 static void look_at_slots(void) {
     uint64_t mask[WULDAZIN_MASK_WORDS];
-    wuldazin_slots(types, LENGTH(types), members, LENGTH(members), 0, rows, LENGTH(rows), CELL, 16, mask, LENGTH(mask), answer,
+    wuldazin_slots(types, LENGTH(types), members, LENGTH(members), 0, WULDAZIN_OLDER, rows, LENGTH(rows), CELL, 16, mask, LENGTH(mask), answer,
                    LENGTH(answer));
     expect("slots", answer[0], WULDAZIN_ACCEPTED);
     expect("slots of a cell at 16", mask[0], 0xf0);

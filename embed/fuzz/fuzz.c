@@ -111,6 +111,9 @@ static uint32_t capability_word(void) {
     }
 }
 
+/* Mostly one of the two rules. */
+static uint32_t rule_word(void) { return below(16) ? below(2) : wild(); }
+
 /* ---- lent buffers */
 static void build(Lent *lent, size_t most) {
     size_t bytes = (most + GUARD + PAGE - 1) / PAGE * PAGE;
@@ -211,10 +214,10 @@ static void grow(Tables *t, uint32_t count) {
         require(tries < 1000 + 100 * count, "no arena is accepted");
         size_t types_length = t->types_length, members_length = t->members_length;
         propose(t, row);
-        wuldazin_check(t->types, t->types_length, t->members, t->members_length, WULDAZIN_ALL_CAPABILITIES, row, ROWS_MOST, found, 4);
+        wuldazin_check(t->types, t->types_length, t->members, t->members_length, WULDAZIN_ALL_CAPABILITIES, WULDAZIN_OLDER, row, ROWS_MOST, found, 4);
         if (found[0] || row[14 * (types_length / 6)] > 1 << 20) {
             t->types_length = types_length, t->members_length = members_length;
-            wuldazin_check(t->types, types_length, t->members, members_length, WULDAZIN_ALL_CAPABILITIES, row, ROWS_MOST, found, 4);
+            wuldazin_check(t->types, types_length, t->members, members_length, WULDAZIN_ALL_CAPABILITIES, WULDAZIN_OLDER, row, ROWS_MOST, found, 4);
         }
     }
 }
@@ -269,7 +272,7 @@ static void make_templates(void) {
     for (Tables *t = templates; t < templates + TEMPLATES; t++) {
         static uint32_t row[ROWS_MOST];
         uint32_t found[4];
-        wuldazin_check(t->types, t->types_length, t->members, t->members_length, WULDAZIN_ALL_CAPABILITIES, row, ROWS_MOST, found, 4);
+        wuldazin_check(t->types, t->types_length, t->members, t->members_length, WULDAZIN_ALL_CAPABILITIES, WULDAZIN_OLDER, row, ROWS_MOST, found, 4);
         require(found[0] == 0, "a template is refused");
     }
 }
@@ -539,14 +542,14 @@ static void pass_call(size_t answer_length, size_t length) {
 }
 
 /* An accepted choice leaves the slots set, the first mask of the type and 1; a refused one leaves the pass. Takes the pass back. */
-static void look_at_choice(uint32_t number, uint32_t capabilities, uint32_t ty) {
+static void look_at_choice(uint32_t number, uint32_t capabilities, uint32_t rule, uint32_t ty) {
     static uint32_t row[ROWS_MOST];
     uint32_t found[4];
     uint64_t before[3], after[3], masks[2];
     if (number == 0) {
         memcpy(before, output.before, sizeof before);
         memcpy(after, output.data, sizeof after);
-        wuldazin_slots(now.types, now.types_length, now.members, now.members_length, capabilities, row, ROWS_MOST, ty, 0, masks, 2, found, 4);
+        wuldazin_slots(now.types, now.types_length, now.members, now.members_length, capabilities, rule, row, ROWS_MOST, ty, 0, masks, 2, found, 4);
         require(found[0] == 0, "chosen, but its slots are refused");
         require(after[0] == before[0] && after[1] == masks[0] && after[2] == 1, "pass after a choice");
     }
@@ -571,14 +574,22 @@ static void look_at_report(uint32_t number, bool fits, uint32_t count) {
     take_back(&report, fits ? 16 * count : 0);
 }
 
-/* The check, over rows that hold other words, answers what judging did and leaves the same rows. */
-static void look_at_check(uint32_t capabilities, size_t length, uint32_t count) {
+/* The check, over rows that hold other words, answers what judging did and leaves the same rows; by the other rule it answers the same, and
+ * its rows differ in uniform verdicts alone. */
+static void look_at_check(uint32_t capabilities, uint32_t rule, size_t length, uint32_t count) {
     static uint32_t row[ROWS_MOST];
     uint32_t found[4];
     memcpy(row, noise + below(1024), 4 * length);
-    wuldazin_check(now.types, now.types_length, now.members, now.members_length, capabilities, row, length, found, 4);
+    wuldazin_check(now.types, now.types_length, now.members, now.members_length, capabilities, rule, row, length, found, 4);
     require(answer.bytes < sizeof found || !memcmp(answer.data, found, sizeof found), "the check answers otherwise");
     require(!memcmp(rows.data, row, 56 * count), "the check leaves other rows");
+    if (rule > WULDAZIN_NEWER) return;
+    wuldazin_check(now.types, now.types_length, now.members, now.members_length, capabilities, 1 - rule, row, length, found, 4);
+    require(answer.bytes < sizeof found || !memcmp(answer.data, found, sizeof found), "the other rule answers otherwise");
+    for (uint32_t i = 0; i < count; i++) {
+        memcpy(row + 14 * i + WULDAZIN_ROW_UNIFORM, rows.data + 56 * i + 4 * WULDAZIN_ROW_UNIFORM, 20);
+    }
+    require(!memcmp(rows.data, row, 56 * count), "the other rule changes more than uniform verdicts");
 }
 
 static void one_call(void) {
@@ -622,13 +633,13 @@ static void one_call(void) {
     }
 
     make_tables();
-    uint32_t ty = type_number(), capabilities = capability_word(), count = now.types_length / 6;
+    uint32_t ty = type_number(), capabilities = capability_word(), rule = rule_word(), count = now.types_length / 6;
     if ((door == SLOTS || door == CHOOSE) && parts(ty) >= PARTS_MOST) door = CHECK;
     types_seen[now.types_length] = members_seen[now.members_length] = true;
     size_t tl = now.types_length, ml = now.members_length, rl = rows_length(), sl = door == PLACE ? make_steps(list, ty) : 0;
     size_t pl = door == REPORT ? report_length() : 0;
     bool fits = tl % 6 == 0 && tl <= 6 * 1024 && ml % WULDAZIN_MEMBER_WORDS == 0 && ml <= WULDAZIN_MEMBER_WORDS * 4096 && rl / 14 >= count;
-    if (door != LAYOUT) fits = fits && capabilities <= WULDAZIN_ALL_CAPABILITIES;
+    if (door != LAYOUT) fits = fits && capabilities <= WULDAZIN_ALL_CAPABILITIES && rule <= WULDAZIN_NEWER;
     if (door == REPORT) fits = fits && pl / 2 >= count;
     if (door == CHOOSE) fits = fits && output_length >= 3;
     bool has_rows = door != MEMBERS, has_output = door == SLOTS || door == CHOOSE || door == PLACE || door == REPORT || door == MEMBERS;
@@ -642,12 +653,12 @@ static void one_call(void) {
     if (door == REPORT) p = lend(&report, noise + below(1024), 8 * pl);
     switch (door) {
     case LAYOUT: wuldazin_layout(t, tl, m, ml, r, rl, a, answer_length); break;
-    case JUDGE: wuldazin_judge(t, tl, m, ml, capabilities, r, rl, a, answer_length); break;
-    case CHECK: wuldazin_check(t, tl, m, ml, capabilities, r, rl, a, answer_length); break;
-    case SLOTS: wuldazin_slots(t, tl, m, ml, capabilities, r, rl, ty, wild(), o, output_length, a, answer_length); break;
-    case CHOOSE: wuldazin_pass_choose(t, tl, m, ml, capabilities, r, rl, ty, o, output_length, a, answer_length); break;
-    case PLACE: wuldazin_place(t, tl, m, ml, capabilities, r, rl, ty, s, sl, o, output_length, a, answer_length); break;
-    case REPORT: wuldazin_report(t, tl, m, ml, capabilities, r, rl, p, pl, o, output_length, a, answer_length); break;
+    case JUDGE: wuldazin_judge(t, tl, m, ml, capabilities, rule, r, rl, a, answer_length); break;
+    case CHECK: wuldazin_check(t, tl, m, ml, capabilities, rule, r, rl, a, answer_length); break;
+    case SLOTS: wuldazin_slots(t, tl, m, ml, capabilities, rule, r, rl, ty, wild(), o, output_length, a, answer_length); break;
+    case CHOOSE: wuldazin_pass_choose(t, tl, m, ml, capabilities, rule, r, rl, ty, o, output_length, a, answer_length); break;
+    case PLACE: wuldazin_place(t, tl, m, ml, capabilities, rule, r, rl, ty, s, sl, o, output_length, a, answer_length); break;
+    case REPORT: wuldazin_report(t, tl, m, ml, capabilities, rule, r, rl, p, pl, o, output_length, a, answer_length); break;
     case MEMBERS: wuldazin_members(t, tl, m, ml, ty, o, output_length);
     }
     doors[door]++;
@@ -661,12 +672,12 @@ static void one_call(void) {
         require(number != 25 || door == SLOTS || door == CHOOSE, "number of another door");
         require(number != 26 || door != REPORT, "number of another door");
         if (fits) look_at_rows(number, count);
-        if (door == JUDGE) look_at_check(capabilities, rl, fits ? count : 0);
+        if (door == JUDGE) look_at_check(capabilities, rule, rl, fits ? count : 0);
         if (door == REPORT) look_at_report(number, fits, count);
         take_back(&rows, fits ? 56 * count : 0);
         take_back(&answer, answer_length < 4 ? 0 : 16);
     }
-    if (door == CHOOSE) look_at_choice(number, capabilities, ty);
+    if (door == CHOOSE) look_at_choice(number, capabilities, rule, ty);
     else if (has_output) {
         size_t written = words_written(output_length);
         memcpy(out, output.data, 8 * written);

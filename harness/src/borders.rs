@@ -112,6 +112,7 @@ fn arena_of_rows(types: &[Record], rows: &[[u32; MEMBER_WORDS]], capabilities: u
         types: types.as_flattened().to_vec(),
         members: rows.as_flattened().to_vec(),
         capabilities,
+        rule: OLDER,
         rows_len: ROW_WORDS * MAX_TYPES,
     }
 }

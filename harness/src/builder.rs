@@ -64,6 +64,7 @@ impl<'r> Builder<'r> {
             types: self.types,
             members: self.members,
             capabilities: self.needed,
+            rule: OLDER,
             rows_len: 0,
         };
         (arena, self.random)

@@ -6,7 +6,7 @@ use crate::histogram::Histogram;
 use crate::random::Random;
 use crate::records::*;
 use crate::reference::{self, Expected};
-use crate::{generator, port, print};
+use crate::{generator, newer, port, print};
 
 /// What a call is lent to write to.
 pub struct Lent<'a> {
@@ -83,6 +83,10 @@ fn count_outcome(histogram: &mut Histogram, arena: &Arena, outcome: &reference::
     histogram.count_answer(outcome.answer);
     histogram.count_panic(&outcome.panic_site);
     if let Some(rows) = &outcome.rows {
+        histogram.note(match arena.rule {
+            OLDER => "accepted, by the older rule",
+            _ => "accepted, by the newer rule",
+        });
         histogram.count_accepted(arena);
         histogram.count_rows(rows);
     }
@@ -109,7 +113,8 @@ fn run_over(
     let mut histogram = Histogram::default();
     let mut last = Vec::new();
     for index in 0..count {
-        let arena = source(seed, index);
+        let mut arena = source(seed, index);
+        arena.rule = newer::chosen_rule(seed, index);
         let mut random = Random::new(!seed, index);
         let case = judge(&arena, &mut random, &mut histogram);
         let held = held(&arena, &last, &mut random);

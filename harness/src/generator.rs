@@ -103,6 +103,7 @@ pub fn doubled(levels: u32) -> Arena {
         types,
         members,
         capabilities: 0,
+        rule: OLDER,
     }
 }
 

@@ -40,6 +40,7 @@ mod member_records;
 mod members;
 #[cfg(feature = "mock")]
 mod mock;
+mod newer;
 mod panics;
 mod partly;
 mod pass;

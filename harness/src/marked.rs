@@ -18,7 +18,13 @@ fn array(base: u32, count: u32, stride: u32) -> [u32; 6] {
 fn check(types: &[[u32; 6]], members: &[u32], capabilities: u32) -> Result<Vec<Row>, Answer> {
     let types = types.as_flattened();
     let members = members_of_pairs(members);
-    let outcome = reference::check(types, &members, capabilities, ROW_WORDS * types.len() / 6);
+    let outcome = reference::check(
+        types,
+        &members,
+        capabilities,
+        OLDER,
+        ROW_WORDS * types.len() / 6,
+    );
     outcome.rows.ok_or(outcome.answer)
 }
 

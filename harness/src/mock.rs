@@ -51,6 +51,7 @@ unsafe extern "C" fn wuldazin_check(
     members: *const u32,
     members_len: usize,
     capabilities: u32,
+    rule: u32,
     rows: *mut u32,
     rows_len: usize,
     answer: *mut u32,
@@ -60,7 +61,7 @@ unsafe extern "C" fn wuldazin_check(
     let members = from_raw_parts(members, members_len);
     let rows = from_raw_parts_mut(rows, rows_len);
     let answer = from_raw_parts_mut(answer, answer_len);
-    let owed = reference::check(types, members, capabilities, rows_len).into();
+    let owed = reference::check(types, members, capabilities, rule, rows_len).into();
     deliver(owed, types, rows, &mut [], answer);
 }
 
@@ -72,6 +73,7 @@ unsafe extern "C" fn wuldazin_judge(
     members: *const u32,
     members_len: usize,
     capabilities: u32,
+    rule: u32,
     rows: *mut u32,
     rows_len: usize,
     answer: *mut u32,
@@ -83,6 +85,7 @@ unsafe extern "C" fn wuldazin_judge(
         members,
         members_len,
         capabilities,
+        rule,
         rows,
         rows_len,
         answer,
@@ -115,6 +118,7 @@ unsafe extern "C" fn wuldazin_slots(
     members: *const u32,
     members_len: usize,
     capabilities: u32,
+    rule: u32,
     rows: *mut u32,
     rows_len: usize,
     ty: u32,
@@ -129,7 +133,7 @@ unsafe extern "C" fn wuldazin_slots(
     let rows = from_raw_parts_mut(rows, rows_len);
     let mask = from_raw_parts_mut(mask, mask_len);
     let answer = from_raw_parts_mut(answer, answer_len);
-    let outcome = reference::check(types, members, capabilities, rows_len);
+    let outcome = reference::check(types, members, capabilities, rule, rows_len);
     let mut owed = crate::slots::walk(outcome, ty, offset);
     owed.output.truncate(mask_len);
     deliver(owed, types, rows, mask, answer);
@@ -161,6 +165,7 @@ unsafe extern "C" fn wuldazin_place(
     members: *const u32,
     members_len: usize,
     capabilities: u32,
+    rule: u32,
     rows: *mut u32,
     rows_len: usize,
     start: u32,
@@ -177,7 +182,7 @@ unsafe extern "C" fn wuldazin_place(
     let steps = from_raw_parts(steps, steps_len);
     let place = from_raw_parts_mut(place, place_len);
     let answer = from_raw_parts_mut(answer, answer_len);
-    let outcome = reference::check(types, members, capabilities, rows_len);
+    let outcome = reference::check(types, members, capabilities, rule, rows_len);
     let owed = crate::place::look_up(outcome, types, members, start, steps);
     deliver(owed, types, rows, place, answer);
 }
@@ -190,6 +195,7 @@ unsafe extern "C" fn wuldazin_report(
     members: *const u32,
     members_len: usize,
     capabilities: u32,
+    rule: u32,
     rows: *mut u32,
     rows_len: usize,
     report: *mut u64,
@@ -203,6 +209,7 @@ unsafe extern "C" fn wuldazin_report(
         types: from_raw_parts(types, types_len).to_vec(),
         members: from_raw_parts(members, members_len).to_vec(),
         capabilities,
+        rule,
         rows_len,
     };
     let rows = from_raw_parts_mut(rows, rows_len);
@@ -290,6 +297,7 @@ unsafe extern "C" fn wuldazin_pass_choose(
     members: *const u32,
     members_len: usize,
     capabilities: u32,
+    rule: u32,
     rows: *mut u32,
     rows_len: usize,
     ty: u32,
@@ -303,7 +311,7 @@ unsafe extern "C" fn wuldazin_pass_choose(
     let rows = from_raw_parts_mut(rows, rows_len);
     let words = from_raw_parts_mut(pass, pass_len);
     let answer = from_raw_parts_mut(answer, answer_len);
-    let outcome = reference::check(types, members, capabilities, rows_len);
+    let outcome = reference::check(types, members, capabilities, rule, rows_len);
     let before = crate::pass::Pass::of(words);
     let (owed, after) = crate::pass::choose(before.as_ref(), outcome, ty);
     deliver(owed, types, rows, &mut [], answer);

@@ -131,7 +131,7 @@ fn the_smallest_pipelines() {
     let start = Pass::of(&[0; PASS_WORDS]).unwrap();
     let number = |types: &[u32], capabilities, ty| {
         let rows_len = ROW_WORDS * (types.len() / TYPE_WORDS);
-        let outcome = crate::reference::check(types, &[], capabilities, rows_len);
+        let outcome = crate::reference::check(types, &[], capabilities, OLDER, rows_len);
         let (expected, pass) = choose(Some(&start), outcome, ty);
         (expected.answer[0], pass.map(|pass| pass.words()[1]))
     };

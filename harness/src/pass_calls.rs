@@ -8,7 +8,7 @@ use crate::pass::{self, Pass, NOT_READY, PASS_WORDS};
 use crate::random::Random;
 use crate::records::*;
 use crate::slot_calls::{offset_and_size, walked_type};
-use crate::{generator, port, print};
+use crate::{generator, newer, port, print};
 
 const MOST_ARENAS: u32 = 3;
 const MOST_STEPS: u32 = 14;
@@ -45,7 +45,10 @@ impl History {
         let mut random = Random::new(!seed, index);
         let count = random.between(1, MOST_ARENAS);
         let numbers = (0..count).map(|k| index * u64::from(MOST_ARENAS) + u64::from(k));
-        let arenas = numbers.map(|number| generator::mostly_sound(seed, number));
+        let arenas = numbers.map(|number| Arena {
+            rule: newer::chosen_rule(seed, number),
+            ..generator::mostly_sound(seed, number)
+        });
         let length = match random.below(16) {
             0 => random.below(3) as usize,
             1..=3 => PASS_WORDS + random.between(1, 4) as usize,

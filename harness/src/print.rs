@@ -8,6 +8,7 @@ pub fn reference_of(arena: &Arena) -> Outcome {
         &arena.types,
         &arena.members,
         arena.capabilities,
+        arena.rule,
         arena.rows_len,
     )
 }
@@ -16,6 +17,7 @@ pub fn arena(arena: &Arena) {
     println!("types: {:?}", arena.types);
     println!("members: {:?}", arena.members);
     println!("capabilities: {:#x}", arena.capabilities);
+    println!("rule: {}", arena.rule);
     println!("length of rows: {}", arena.rows_len);
     for (number, record) in arena.types.chunks(TYPE_WORDS).enumerate() {
         println!("  type {number}: {record:?}");

@@ -10,6 +10,9 @@ pub const CAPABILITY_BITS: u32 = 14;
 pub const DUAL_SOURCE_BLENDING: u32 = 1 << 13;
 pub const ALL_CAPABILITIES: u32 = (1 << CAPABILITY_BITS) - 1;
 pub const SLOTS: u64 = 64;
+/// The uniform rules.
+pub const OLDER: u32 = 0;
+pub const NEWER: u32 = 1;
 
 /// The kinds of a type record, by their numbers.
 pub mod kind {
@@ -48,6 +51,8 @@ pub struct Arena {
     pub types: Vec<u32>,
     pub members: Vec<u32>,
     pub capabilities: u32,
+    /// The uniform rule.
+    pub rule: u32,
     pub rows_len: usize,
 }
 

@@ -3,7 +3,7 @@
 
 use crate::panics::caught;
 use crate::records::*;
-use crate::{tables, translate};
+use crate::{newer, tables, translate};
 use naga::proc::{LayoutError, LayoutErrorInner};
 use naga::valid::{Capabilities, Disalignment, TypeError, TypeFlags, ValidationFlags, Validator};
 use naga::valid::{VaryingError, WidthError};
@@ -128,7 +128,13 @@ pub fn check_then(
 }
 
 /// The whole check.
-pub fn check(types: &[u32], members: &[u32], capabilities: u32, rows_len: usize) -> Outcome {
+pub fn check(
+    types: &[u32],
+    members: &[u32],
+    capabilities: u32,
+    rule: u32,
+    rows_len: usize,
+) -> Outcome {
     let refused = |answer, panic_site| Outcome {
         answer,
         rows: None,
@@ -137,6 +143,7 @@ pub fn check(types: &[u32], members: &[u32], capabilities: u32, rows_len: usize)
     };
     if tables::lengths_are_wrong(types, members, rows_len)
         || tables::capabilities_are_wrong(capabilities)
+        || rule > NEWER
     {
         return refused(WRONG_LENGTH, None);
     }
@@ -146,12 +153,18 @@ pub fn check(types: &[u32], members: &[u32], capabilities: u32, rows_len: usize)
     };
     match judge.judge_all() {
         Err(refusal) => refused(refusal.answer, refusal.panic_site),
-        Ok(()) => Outcome {
-            answer: ACCEPTED,
-            rows: Some(judge.handles().map(|h| judge.row(h)).collect()),
-            arena: Some(judge.types),
-            panic_site: None,
-        },
+        Ok(()) => {
+            let mut rows: Vec<Row> = judge.handles().map(|h| judge.row(h)).collect();
+            if rule == NEWER {
+                newer::put_uniform(types, members, &mut rows);
+            }
+            Outcome {
+                answer: ACCEPTED,
+                rows: Some(rows),
+                arena: Some(judge.types),
+                panic_site: None,
+            }
+        }
     }
 }
 

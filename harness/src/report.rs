@@ -246,6 +246,7 @@ mod tests {
             types: types.as_flattened().to_vec(),
             members: members_of_pairs(members),
             capabilities: 0,
+            rule: OLDER,
             rows_len: ROW_WORDS * types.len(),
         };
         let owed = of(

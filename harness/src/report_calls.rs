@@ -6,7 +6,7 @@ use crate::histogram::Histogram;
 use crate::random::Random;
 use crate::records::*;
 use crate::report::{self, Owed, NARROW_STRIDE, REPORT_WORDS};
-use crate::{generator, port, print};
+use crate::{generator, newer, port, print};
 
 /// So deep that no walk of every path comes to an end.
 const LEVELS: u32 = 28;
@@ -14,10 +14,11 @@ const LEVELS: u32 = 28;
 pub fn report(count: u64, seed: u64) -> bool {
     let (mut histogram, mut counted) = (Histogram::default(), [0; 2]);
     for index in 0..count {
-        let arena = match index {
+        let mut arena = match index {
             0 => generator::doubled(LEVELS),
             _ => generator::mostly_shareable(seed, index),
         };
+        arena.rule = newer::chosen_rule(seed, index);
         let random = &mut Random::new(!seed, index);
         let length = report_length(random, &arena);
         let owed = report::of(&arena, print::reference_of(&arena), length);

@@ -86,6 +86,7 @@ pub fn accepted_arena(types: Vec<[u32; TYPE_WORDS]>, rows: Vec<[u32; MEMBER_WORD
         types: types.into_flattened(),
         members: rows.into_flattened(),
         capabilities: ALL_CAPABILITIES,
+        rule: OLDER,
     };
     assert!(is_accepted(&arena));
     arena

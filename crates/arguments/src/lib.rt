@@ -9,6 +9,7 @@ ghost use Rattle.arguments.specs.Arguments.{numbersOf, numbersIn, countO
 
 pub enum Command {
     Capabilities,
+    Rule,
     TypeRecord,
     MemberRecord,
     Layout,

@@ -22,11 +22,13 @@ use Rattle.records.proofs.RecordLaws.{sourceless-located}
 use Rattle.records.proofs.TableLaws.{flat-length, flat-word}
 use Rattle.layouter.specs.Layouter.{layout, layoutAt, layoutOutcome, rowsAfter}
 use Rattle.type_info.specs.declared.Row.{Row}
+use Rattle.type_info.specs.declared.UniformRule.the-variants.{Older}
 use Rattle.type_info.specs.TypeInfo.{emptyRow, wordsOf}
 use Rattle.type_info.specs.Verdict.{minUniform}
 use Rattle.validate_type.specs.ValidateType.{flagsOf, rowOf, judge}
 use Rattle.validate_type.proofs.StructFlags.{former-flags}
 use Rattle.valid.specs.Arena.{judgeStep, judgeOutcome, arenaOutcome, arenaFits, arenaAnswer, arenaRows, arenaWords}
+use Rattle.valid.proofs.CommonLaws.{refused-common}
 use Rattle.blend_laws.specs.SameRows.{SameRows}
 use Rattle.blend_laws.specs.Former.{pairWords, formerCapabilities, dropped, widened, formerFits, formerFlags, formerStep, formerOutcome, formerRows, formerAnswer, formerWords, NoSources}
 use Rattle.blend_laws.proofs.ReadLaws.{never-sourced}
@@ -92,7 +94,7 @@ module _ (c : ℕ) (ts ms : List ℕ) (none : NoSources ts ms) where
       go (yes h) = never-sourced (structMembers ts ms i) (none i h) m
       go (no h) = rw (outside i (omega arith)) refl
 
-  step-former : judgeStep c (decoded ts ms) ≡ formerStep c (decoded ts ms)
+  step-former : judgeStep minUniform c (decoded ts ms) ≡ formerStep c (decoded ts ms)
   unfolding judge
   step-former =
       fun-ext (λ rows. fun-ext (λ i.
@@ -112,23 +114,25 @@ module _ (c : ℕ) (ts ms : List ℕ) (none : NoSources ts ms) where
       ap (λ (n : ℕ). require (fieldsOk n (typeWord ts i 0) (typeWord ts i 1) (typeWord ts i 2) (typeWord ts i 3) (typeWord ts i 4) (typeWord ts i 5)) 2 0 0
       (require (baseWithin (typeCount ts) (typeWord ts i 0) (typeWord ts i 1)) 3 0 0 (ok (tt {0})))) (same-rows ms .count)
 
-  steps : judgeStep c (decoded ts ms) ≡ formerStep c (decoded ts read)
+  steps : judgeStep minUniform c (decoded ts ms) ≡ formerStep c (decoded ts read)
   steps = step-former ∙ former-step-same ts ms read (same-rows ms) c
 
   outcome-former : arenaOutcome c ts ms ≡ formerOutcome c ts read
   unfolding arenaOutcome layoutOutcome judgeOutcome
   outcome-former =
-      ap (λ (f : ℕ → Result (Unit {0})). also (also (firstRefusal f (typeCount ts)) (firstRefusal (layoutAt (decoded ts ms)) (typeCount ts)))
-      (firstRefusal (resultAt emptyRow (judgeStep c (decoded ts ms))) (typeCount ts)))
+      ap (also (also (firstRefusal (recordAt ts ms) (typeCount ts)) (firstRefusal (layoutAt (decoded ts ms)) (typeCount ts))))
+      (sym (refused-common minUniform c (decoded ts ms) (typeCount ts)))
+      ∙ ap (λ (f : ℕ → Result (Unit {0})). also (also (firstRefusal f (typeCount ts)) (firstRefusal (layoutAt (decoded ts ms)) (typeCount ts)))
+      (firstRefusal (resultAt emptyRow (judgeStep minUniform c (decoded ts ms))) (typeCount ts)))
       (fun-ext (λ i. record-former i ∙ fields-same i))
       ∙ ap (λ (f : ℕ → Result _). also (also (firstRefusal (fieldsAt ts read) (typeCount ts)) (firstRefusal f (typeCount ts)))
-      (firstRefusal (resultAt emptyRow (judgeStep c (decoded ts ms))) (typeCount ts)))
+      (firstRefusal (resultAt emptyRow (judgeStep minUniform c (decoded ts ms))) (typeCount ts)))
       (layouts-same ts ms read (same-rows ms))
       ∙ ap (λ (f : (ℕ → Row) → ℕ → Result Row). also (also (firstRefusal (fieldsAt ts read) (typeCount ts)) (firstRefusal (layoutAt (decoded ts read)) (typeCount ts)))
       (firstRefusal (resultAt emptyRow f) (typeCount ts)))
       steps
 
-  rows-former : (n : ℕ) → arenaRows c ts ms n ≡ formerRows c ts read n
+  rows-former : (n : ℕ) → arenaRows Older c ts ms n ≡ formerRows c ts read n
   unfolding arenaRows
   rows-former n = ap (λ (f : (ℕ → Row) → ℕ → Result Row). flat (λ i. wordsOf (valueAt emptyRow f i)) n) steps
 
@@ -148,6 +152,6 @@ module _ (c : ℕ) (ts ms : List ℕ) (none : NoSources ts ms) where
     unfolding arenaAnswer formerAnswer
     answer-former = rw (fits-former, outcome-former) refl
 
-    pub words-former : arenaWords c ts ms rows ≡ formerWords c ts (dropped ms) rows
+    pub words-former : arenaWords Older c ts ms rows ≡ formerWords c ts (dropped ms) rows
     unfolding arenaWords formerWords
     words-former = rw (fits-former, outcome-former, rows-former (typeCount ts)) refl

@@ -1,5 +1,5 @@
 -- 02, E9: "Arenas without blend sources give the former rows." The former definitions: member records of two words, type and offset, and no
--- rule of blend sources. They are those of valid (Arena) and of the crates below it but for what stands here.
+-- rule of blend sources. They are those of valid (Arena) and of the crates below it but for what stands here. Rows are by the older uniform rule.
 -- Assumes nothing.
 use mathlib.Core.Bool.{Bool, _&&_}
 use mathlib.Core.List.{List, [], _∷_}

@@ -1,4 +1,6 @@
-// The card program: checks a fixed arena and prints a line for each type, its number and then its row. It reads nothing.
+// The card program: checks a fixed arena by the older uniform rule and prints a line for each type, its number and then its row. It reads nothing.
+use type_info::UniformRule;
+
 const STDOUT: i32 = 1;
 
 const ROW_WORDS: u32 = 14;
@@ -19,7 +21,7 @@ fn main() {
     let types = [0u32, 2, 4, 0, 0, 0, 1, 3, 2, 4, 0, 0, 8, 0, 2, 16, 0, 0];
     let members = [1u32, 0, 0, 0, 0, 12, 0, 0];
     let mut rows = [0u32; 14336];
-    valid::check(&types, &members, 0, &mut rows);
+    valid::check(&types, &members, 0, UniformRule::Older, &mut rows);
     print_row(&rows, 0);
     print_row(&rows, 1);
     print_row(&rows, 2);

@@ -19,6 +19,8 @@ use Rattle.records.specs.declared.TypeInner.the-variants.{Plain, Array, Runtime
 use Rattle.records.proofs.ResultLaws.{T-true}
 use Rattle.records.proofs.TableLaws.{table-value}
 use Rattle.type_methods.specs.TypeMethods.{leafSize, leafColumnStep}
+use Rattle.type_info.specs.declared.UniformRule.{UniformRule}
+use Rattle.type_info.specs.Verdict.{leastFor}
 use Rattle.valid.specs.Arena.{row}
 use Rattle.valid.proofs.AcceptedLaws.{AcceptedTypes, plain-row, array-row, runtime-array-row, member-earlier}
 use Rattle.steps.specs.declared.Step.the-variants.{To, Column}
@@ -54,16 +56,16 @@ not-whole (RayQuery v) s h = absurd (omega arith)
 part-has : (o k : ℕ) (q : ℕ → Bool) → o ≤ k → q (k - o) ≡ true → partHas o q k ≡ true
 part-has o k q h e = rw (le-leb o k h, e) refl
 
-module _ (c : ℕ) (types : ℕ → Decoded) (n : ℕ) (acc : AcceptedTypes c types n) where
+module _ (rule : UniformRule) (c : ℕ) (types : ℕ → Decoded) (n : ℕ) (acc : AcceptedTypes c types n) where
   abbrev WayOf : (t p : ℕ) → List ℕ → (byte leaf : ℕ) → Type 0
   WayOf = Way (stepIn types) (leafIn types)
 
   -- how long a leaf of a type is
   abbrev pub lengthOf : ℕ → ℕ
-  lengthOf leaf = lengthIn (types leaf .inner) (row c types leaf .size)
+  lengthOf leaf = lengthIn (types leaf .inner) (row (leastFor rule) c types leaf .size)
 
   plain-length : (t : ℕ) → t < n → (leaf : Leaf) → types t .inner ≡ Plain leaf → lengthOf t ≡ leafLength leaf (leafSize leaf)
-  plain-length t l leaf e = ap (λ (x : TypeInner). lengthIn x (row c types t .size)) e ∙ ap (leafLength leaf) (plain-row c types n acc t l leaf e .size)
+  plain-length t l leaf e = ap (λ (x : TypeInner). lengthIn x (row (leastFor rule) c types t .size)) e ∙ ap (leafLength leaf) (plain-row (leastFor rule) c types n acc t l leaf e .size)
 
   -- ---- the test, from those of the types before it
   abbrev pub before : ℕ → ℕ → ℕ → Bool
@@ -152,17 +154,17 @@ module _ (c : ℕ) (types : ℕ → Decoded) (n : ℕ) (acc : AcceptedTypes c ty
   held-of t l (Array base count stride) e ih p k h =
       let s = some-at (λ (i : ℕ). partHas (i * stride) (before t base) k) count h in
       let o = ap (λ (x : TypeInner). stepOf x (types t .members) (s .0)) e ∙ to-element base count stride (types t .members) (s .0) (s .1) in
-      held-part t (s .0) base (s .0 * stride) p k ih (array-row c types n acc t l base count stride e .0) o (subst (λ (x : TypeInner). firstElement x (s .0)) (sym e) tt) (s .2)
+      held-part t (s .0) base (s .0 * stride) p k ih (array-row (leastFor rule) c types n acc t l base count stride e .0) o (subst (λ (x : TypeInner). firstElement x (s .0)) (sym e) tt) (s .2)
   held-of t l (RuntimeArray base stride) e ih p k h =
       let o = ap (λ (x : TypeInner). stepOf x (types t .members) 0) e ∙ to-first base stride (types t .members) in
-      let b = runtime-array-row c types n acc t l base stride e .0 in
+      let b = runtime-array-row (leastFor rule) c types n acc t l base stride e .0 in
       held-on t 0 base (0 * stride) p (p + k) (p + 0 * stride + k) o (subst (λ (x : TypeInner). firstElement x 0) (sym e) refl) (omega (arith, zero-mul stride))
       (ih base b (p + 0 * stride) k (sym (before-is t base k b) ∙ h))
   held-of t l (Struct count span) e ih p k h =
       let members = types t .members in
       let s = some-at (λ (j : ℕ). partHas (memberOffset members j) (before t (memberType members j)) k) count h in
       let o = ap (λ (x : TypeInner). stepOf x members (s .0)) e ∙ to-member count span members (s .0) (s .1) in
-      held-part t (s .0) (memberType members (s .0)) (memberOffset members (s .0)) p k ih (member-earlier c types n acc t l count span e (s .0) (s .1)) o
+      held-part t (s .0) (memberType members (s .0)) (memberOffset members (s .0)) p k ih (member-earlier (leastFor rule) c types n acc t l count span e (s .0) (s .1)) o
       (subst (λ (x : TypeInner). firstElement x (s .0)) (sym e) tt) (s .2)
   held-of t l (Other x) e ih p k h = let z : _≡_ {A = ℕ} 0 1 = cc in absurd (omega arith)
 
@@ -227,7 +229,7 @@ module _ (c : ℕ) (types : ℕ → Decoded) (n : ℕ) (acc : AcceptedTypes c ty
   has {t = t} {p = p} (whole e) l f x low high = has-whole t l e (x - p) (omega arith)
   has {t = t} {p = p} (column s bytes o) l f x low high = has-column t l s bytes o (x - p) (omega arith) (omega arith)
   has {t = t} {p = p} (onward s ty bytes o w) l f x low high =
-      let b = descent c types n acc t l s ty bytes o .earlier in
+      let b = descent (leastFor rule) c types n acc t l s ty bytes o .earlier in
       let a = after-start (stepIn types) (leafIn types) w in
       let i = has w (omega arith) (rw o at (f .1)) x low high in
       in-leaf-is t (types t .inner) refl (x - p) ∙ has-on t l (types t .inner) refl s ty bytes p x o (f .0) b (omega arith) i

@@ -23,8 +23,8 @@ pub carried-and-wasted : CarriedAndWasted
 carried-and-wasted =
     record {
       both = sum-is-size;
-      isLeaf = λ c ts ms a t l k e.
-          let h = held c (decoded ts ms) (typeCount ts) (accepted-types c ts ms a) t l 0 k e in
+      isLeaf = λ rule c ts ms a t l k e.
+          let h = held rule c (decoded ts ms) (typeCount ts) (accepted-types c ts ms a) t l 0 k e in
           record {
             inLeaf =
                 record {
@@ -37,11 +37,11 @@ carried-and-wasted =
                 };
             firsts = h .firsts;
           };
-      everyLeaf = λ c ts ms a t k i.
+      everyLeaf = λ rule c ts ms a t k i.
           let p = i .inLeaf in
           let w = way (stepIn (decoded ts ms)) (leafIn (decoded ts ms)) (p .steps) t 0 (p .byte) (p .leaf) (place-found ts ms t (p .steps) (p .byte) (p .leaf) (p .place)) in
           rw sub-zero at
-          (has c (decoded ts ms) (typeCount ts) (accepted-types c ts ms a) w (place-started ts ms t (p .steps) (p .byte) (p .leaf) (p .place)) (i .firsts) k (p .from) (p .below));
-      wide = λ c ts ms a t l e. strides-wide c (decoded ts ms) (typeCount ts) (accepted-types c ts ms a) t l e;
-      notWide = λ c ts ms a t l e. strides-narrow c (decoded ts ms) (typeCount ts) (accepted-types c ts ms a) t l e;
+          (has rule c (decoded ts ms) (typeCount ts) (accepted-types c ts ms a) w (place-started ts ms t (p .steps) (p .byte) (p .leaf) (p .place)) (i .firsts) k (p .from) (p .below));
+      wide = λ rule c ts ms a t l e. strides-wide rule c (decoded ts ms) (typeCount ts) (accepted-types c ts ms a) t l e;
+      notWide = λ rule c ts ms a t l e. strides-narrow rule c (decoded ts ms) (typeCount ts) (accepted-types c ts ms a) t l e;
     }

@@ -15,6 +15,8 @@ use Rattle.records.specs.declared.TypeInner.{TypeInner}
 use Rattle.records.specs.declared.TypeInner.the-variants.{Plain, Array, RuntimeArray, Struct, Other}
 use Rattle.records.proofs.TableLaws.{table-value}
 use Rattle.type_methods.specs.TypeMethods.{sizeOf}
+use Rattle.type_info.specs.declared.UniformRule.{UniformRule}
+use Rattle.type_info.specs.Verdict.{leastFor}
 use Rattle.valid.specs.Arena.{row}
 use Rattle.valid.proofs.AcceptedLaws.{AcceptedTypes, array-row, runtime-array-row, member-earlier}
 use Rattle.term3.specs.Term3.{Reached, itself, element, runtimeElement, member, strideCovers, StridesCover}
@@ -64,46 +66,46 @@ module _ (types : ℕ → Decoded) where
   narrow-struct t members span e h =
       narrow-is t (Struct members span) e ∙ some-alike _ _ members (λ j l. narrow-before t (memberType (types t .members) j) (h j l))
 
-module _ (c : ℕ) (types : ℕ → Decoded) (n : ℕ) (acc : AcceptedTypes c types n) where
+module _ (rule : UniformRule) (c : ℕ) (types : ℕ → Decoded) (n : ℕ) (acc : AcceptedTypes c types n) where
   -- the type's own stride, and what it leads to
-  own-stride : (t : ℕ) → t < n → (this : TypeInner) → types t .inner ≡ this → narrow types t ≡ false → strideCovers (row c types) this
+  own-stride : (t : ℕ) → t < n → (this : TypeInner) → types t .inner ≡ this → narrow types t ≡ false → strideCovers (row (leastFor rule) c types) this
   own-stride t l (Plain leaf) e f = tt
   own-stride t l (Array base count stride) e f =
-      let b = array-row c types n acc t l base count stride e .0 in
+      let b = array-row (leastFor rule) c types n acc t l base count stride e .0 in
       let g = or-false (ltb stride (sizeOf (types base .inner))) (narrow types base) (sym (narrow-array types t base count stride e b) ∙ f) in
-      omega (arith, ltb-false stride (sizeOf (types base .inner)) (g .0), size-of c types n acc base (omega arith) (types base .inner) refl)
+      omega (arith, ltb-false stride (sizeOf (types base .inner)) (g .0), size-of rule c types n acc base (omega arith) (types base .inner) refl)
   own-stride t l (RuntimeArray base stride) e f =
-      let b = runtime-array-row c types n acc t l base stride e .0 in
+      let b = runtime-array-row (leastFor rule) c types n acc t l base stride e .0 in
       let g = or-false (ltb stride (sizeOf (types base .inner))) (narrow types base) (sym (narrow-runtime-array types t base stride e b) ∙ f) in
-      omega (arith, ltb-false stride (sizeOf (types base .inner)) (g .0), size-of c types n acc base (omega arith) (types base .inner) refl)
+      omega (arith, ltb-false stride (sizeOf (types base .inner)) (g .0), size-of rule c types n acc base (omega arith) (types base .inner) refl)
   own-stride t l (Struct count span) e f = tt
   own-stride t l (Other o) e f = tt
 
-  not-narrow : {t a : ℕ} → Reached types t a → t < n → narrow types t ≡ false → strideCovers (row c types) (types a .inner)
+  not-narrow : {t a : ℕ} → Reached types t a → t < n → narrow types t ≡ false → strideCovers (row (leastFor rule) c types) (types a .inner)
   not-narrow {t = t} itself l f = own-stride t l (types t .inner) refl f
   not-narrow {t = t} (element {base = base} {count = count} {stride = stride} e r) l f =
-      let b = array-row c types n acc t l base count stride e .0 in
+      let b = array-row (leastFor rule) c types n acc t l base count stride e .0 in
       not-narrow r (omega arith) (or-false (ltb stride (sizeOf (types base .inner))) (narrow types base) (sym (narrow-array types t base count stride e b) ∙ f) .1)
   not-narrow {t = t} (runtimeElement {base = base} {stride = stride} e r) l f =
-      let b = runtime-array-row c types n acc t l base stride e .0 in
+      let b = runtime-array-row (leastFor rule) c types n acc t l base stride e .0 in
       not-narrow r (omega arith) (or-false (ltb stride (sizeOf (types base .inner))) (narrow types base) (sym (narrow-runtime-array types t base stride e b) ∙ f) .1)
   not-narrow {t = t} (member {count = count} {span = span} j e lj r) l f =
-      let b = member-earlier c types n acc t l count span e in
+      let b = member-earlier (leastFor rule) c types n acc t l count span e in
       not-narrow r (omega (arith, b j lj)) (not-eq-not {b = false} .0 (λ q.
       true≢false (sym (some-of (λ (i : ℕ). narrow types (memberType (types t .members) i)) count j lj q) ∙ sym (narrow-struct types t count span e b) ∙ f)))
 
   -- where a type is not narrow, each array that it reaches has a stride of at least its element's size
-  pub strides-wide : (t : ℕ) → t < n → narrow types t ≡ false → StridesCover (row c types) types t
+  pub strides-wide : (t : ℕ) → t < n → narrow types t ≡ false → StridesCover (row (leastFor rule) c types) types t
   strides-wide t l f a r = not-narrow r l f
 
   -- ---- where it is, one has not
   record TooNarrow (t : ℕ) : Type 0 where
     array : ℕ
     reached : Reached types t array
-    uncovered : ¬ strideCovers (row c types) (types array .inner)
+    uncovered : ¬ strideCovers (row (leastFor rule) c types) (types array .inner)
 
-  below-size : (base stride : ℕ) → base < n → ltb stride (sizeOf (types base .inner)) ≡ true → ¬ (row c types base .size ≤ stride)
-  below-size base stride l e h = omega (arith, ltb-true stride (sizeOf (types base .inner)) e, size-of c types n acc base l (types base .inner) refl)
+  below-size : (base stride : ℕ) → base < n → ltb stride (sizeOf (types base .inner)) ≡ true → ¬ (row (leastFor rule) c types base .size ≤ stride)
+  below-size base stride l e h = omega (arith, ltb-true stride (sizeOf (types base .inner)) e, size-of rule c types n acc base l (types base .inner) refl)
 
   abbrev NarrowBelow : ℕ → Type 0
   NarrowBelow t = (u : ℕ) → u < t → narrow types u ≡ true → TooNarrow u
@@ -112,19 +114,19 @@ module _ (c : ℕ) (types : ℕ → Decoded) (n : ℕ) (acc : AcceptedTypes c ty
   unfolding narrowOf
   narrow-of t l (Plain leaf) e ih q = absurd (true≢false (sym q ∙ narrow-is types t (Plain leaf) e))
   narrow-of t l (Array base count stride) e ih q =
-      let b = array-row c types n acc t l base count stride e .0 in
+      let b = array-row (leastFor rule) c types n acc t l base count stride e .0 in
       ⊎-elim
-      (λ h. record { array = t; reached = itself; uncovered = λ w. below-size base stride (omega arith) h (subst (strideCovers (row c types)) e w) })
+      (λ h. record { array = t; reached = itself; uncovered = λ w. below-size base stride (omega arith) h (subst (strideCovers (row (leastFor rule) c types)) e w) })
       (λ h. let f = ih base b h in record { array = f .array; reached = element e (f .reached); uncovered = f .uncovered })
       (either-true (ltb stride (sizeOf (types base .inner))) (narrow types base) (sym (narrow-array types t base count stride e b) ∙ q))
   narrow-of t l (RuntimeArray base stride) e ih q =
-      let b = runtime-array-row c types n acc t l base stride e .0 in
+      let b = runtime-array-row (leastFor rule) c types n acc t l base stride e .0 in
       ⊎-elim
-      (λ h. record { array = t; reached = itself; uncovered = λ w. below-size base stride (omega arith) h (subst (strideCovers (row c types)) e w) })
+      (λ h. record { array = t; reached = itself; uncovered = λ w. below-size base stride (omega arith) h (subst (strideCovers (row (leastFor rule) c types)) e w) })
       (λ h. let f = ih base b h in record { array = f .array; reached = runtimeElement e (f .reached); uncovered = f .uncovered })
       (either-true (ltb stride (sizeOf (types base .inner))) (narrow types base) (sym (narrow-runtime-array types t base stride e b) ∙ q))
   narrow-of t l (Struct count span) e ih q =
-      let b = member-earlier c types n acc t l count span e in
+      let b = member-earlier (leastFor rule) c types n acc t l count span e in
       let s = some-at (λ (j : ℕ). narrow types (memberType (types t .members) j)) count (sym (narrow-struct types t count span e b) ∙ q) in
       let f = ih (memberType (types t .members) (s .0)) (b (s .0) (s .1)) (s .2) in
       record { array = f .array; reached = member (s .0) e (s .1) (f .reached); uncovered = f .uncovered }
@@ -139,5 +141,5 @@ module _ (c : ℕ) (types : ℕ → Decoded) (n : ℕ) (acc : AcceptedTypes c ty
       go ih (yes x) =
           subst TooNarrow (sym x) (narrow-of m l (types m .inner) refl ih (subst (λ (v : ℕ). narrow types v ≡ true) x q))
 
-  pub strides-narrow : (t : ℕ) → t < n → narrow types t ≡ true → ¬ StridesCover (row c types) types t
+  pub strides-narrow : (t : ℕ) → t < n → narrow types t ≡ true → ¬ StridesCover (row (leastFor rule) c types) types t
   strides-narrow t l q w = let f = narrow-below n (omega arith) t l q in f .uncovered (w (f .array) (f .reached))

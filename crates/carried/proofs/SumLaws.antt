@@ -22,6 +22,8 @@ use Rattle.type_layout.proofs.AcceptedParts.{layout-parts}
 use Rattle.layouter.specs.Layouter.{noLayout, layoutStep, layout}
 use Rattle.layouter.proofs.LayoutAccepted.{accepted-step}
 use Rattle.flags.specs.Flags.{bit, hostShareableBit}
+use Rattle.type_info.specs.declared.UniformRule.{UniformRule}
+use Rattle.type_info.specs.Verdict.{leastFor}
 use Rattle.valid.specs.Arena.{row}
 use Rattle.valid.proofs.AcceptedLaws.{AcceptedTypes, row-size, plain-row, array-row, runtime-array-row, struct-row, struct-member, member-earlier}
 use Rattle.steps.specs.Columns.{isWhole, columnCount, leafLength}
@@ -69,20 +71,20 @@ leaf-count leaf b = go (isWhole leaf) refl
         ∙ sum-alike _ (λ s. leafLength leaf (leafSize leaf)) (columnCount leaf) (λ s l. count-below (leafLength leaf (leafSize leaf)) (leafLength leaf (leafSize leaf)) (le-refl _))
         ∙ sum-same (leafLength leaf (leafSize leaf)) (columnCount leaf)
 
-module _ (c : ℕ) (types : ℕ → Decoded) (n : ℕ) (acc : AcceptedTypes c types n) where
+module _ (rule : UniformRule) (c : ℕ) (types : ℕ → Decoded) (n : ℕ) (acc : AcceptedTypes c types n) where
   -- ---- sizes
   -- the size that was tried is the one in the row
-  tried : (t : ℕ) → t < n → (this : TypeInner) → types t .inner ≡ this → trySize this ≡ ok (row c types t .size)
+  tried : (t : ℕ) → t < n → (this : TypeInner) → types t .inner ≡ this → trySize this ≡ ok (row (leastFor rule) c types t .size)
   tried t l this e =
-      rw (e, ← row-size c types n acc t l) at
+      rw (e, ← row-size (leastFor rule) c types n acc t l) at
       (layout-parts (table noLayout (layoutStep types) t) t (types t .inner) (types t .members) (layout types t) (accepted-step types n (acc .layouts) t l) .0)
 
-  pub size-of : (t : ℕ) → t < n → (this : TypeInner) → types t .inner ≡ this → row c types t .size ≡ sizeOf this
+  pub size-of : (t : ℕ) → t < n → (this : TypeInner) → types t .inner ≡ this → row (leastFor rule) c types t .size ≡ sizeOf this
   unfolding trySize
-  size-of t l (Plain leaf) e = plain-row c types n acc t l leaf e .size
-  size-of t l (Array base count stride) e = array-row c types n acc t l base count stride e .1 .size
-  size-of t l (RuntimeArray base stride) e = runtime-array-row c types n acc t l base stride e .1 .size
-  size-of t l (Struct count span) e = struct-row c types n acc t l count span e .size
+  size-of t l (Plain leaf) e = plain-row (leastFor rule) c types n acc t l leaf e .size
+  size-of t l (Array base count stride) e = array-row (leastFor rule) c types n acc t l base count stride e .1 .size
+  size-of t l (RuntimeArray base stride) e = runtime-array-row (leastFor rule) c types n acc t l base stride e .1 .size
+  size-of t l (Struct count span) e = struct-row (leastFor rule) c types n acc t l count span e .size
   size-of t l (Other o) e = sym (ok-inj (tried t l (Other o) e))
 
   -- what a type measures
@@ -90,40 +92,40 @@ module _ (c : ℕ) (types : ℕ → Decoded) (n : ℕ) (acc : AcceptedTypes c ty
   sizeIn t = sizeOf (types t .inner)
 
   -- no byte past that lies in a leaf
-  pub inside : (t : ℕ) → t < n → StridesCover (row c types) types t → (k : ℕ) → inLeaf types t k ≡ true → k < sizeIn t
+  pub inside : (t : ℕ) → t < n → StridesCover (row (leastFor rule) c types) types t → (k : ℕ) → inLeaf types t k ≡ true → k < sizeIn t
   inside t l v k e =
-      let h = held c types n acc t l 0 k e in
-      let i = contained c types n acc (h .way) l v (h .firsts) in
-      let m = leaf-reaches c types n acc (h .way) l in
+      let h = held rule c types n acc t l 0 k e in
+      let i = contained rule c types n acc (h .way) l v (h .firsts) in
+      let m = leaf-reaches rule c types n acc (h .way) l in
       omega (arith, h .below, size-of t l (types t .inner) refl)
 
-  inside-before : (t u : ℕ) → u < t → t < n → StridesCover (row c types) types u → (k : ℕ) → before c types n acc t u k ≡ true → k < sizeIn u
-  inside-before t u h l v k e = inside u (omega arith) v k (sym (before-is c types n acc t u k h) ∙ e)
+  inside-before : (t u : ℕ) → u < t → t < n → StridesCover (row (leastFor rule) c types) types u → (k : ℕ) → before rule c types n acc t u k ≡ true → k < sizeIn u
+  inside-before t u h l v k e = inside u (omega arith) v k (sym (before-is rule c types n acc t u k h) ∙ e)
 
-  count-before : (t u : ℕ) → u < t → count (before c types n acc t u) (sizeIn u) ≡ carried types u
+  count-before : (t u : ℕ) → u < t → count (before rule c types n acc t u) (sizeIn u) ≡ carried types u
   unfolding carried
-  count-before t u h = count-alike (before c types n acc t u) (inLeaf types u) (sizeIn u) (λ k l. before-is c types n acc t u k h)
+  count-before t u h = count-alike (before rule c types n acc t u) (inLeaf types u) (sizeIn u) (λ k l. before-is rule c types n acc t u k h)
 
-  carried-of : (t : ℕ) (this : TypeInner) → types t .inner ≡ this → carried types t ≡ count (inLeafOf (before c types n acc t) this (types t .members)) (sizeOf this)
+  carried-of : (t : ℕ) (this : TypeInner) → types t .inner ≡ this → carried types t ≡ count (inLeafOf (before rule c types n acc t) this (types t .members)) (sizeOf this)
   unfolding carried
   carried-of t this e =
-      count-alike (inLeaf types t) (inLeafOf (before c types n acc t) this (types t .members)) (sizeIn t) (λ k l. in-leaf-is c types n acc t this e k)
-      ∙ ap (λ (x : TypeInner). count (inLeafOf (before c types n acc t) this (types t .members)) (sizeOf x)) e
+      count-alike (inLeaf types t) (inLeafOf (before rule c types n acc t) this (types t .members)) (sizeIn t) (λ k l. in-leaf-is rule c types n acc t this e k)
+      ∙ ap (λ (x : TypeInner). count (inLeafOf (before rule c types n acc t) this (types t .members)) (sizeOf x)) e
 
   -- ---- sums
   pub carried-leaf : (t : ℕ) → t < n → (leaf : Leaf) → types t .inner ≡ Plain leaf → carried types t ≡ leafCarried leaf (leafSize leaf)
   unfolding inLeafOf
   carried-leaf t l leaf e = carried-of t (Plain leaf) e ∙ leaf-count leaf (subst (λ (x : TypeInner). InnerBounds x) e (acc .bounds t l))
 
-  pub carried-array : (t : ℕ) → t < n → StridesCover (row c types) types t → (base elements stride : ℕ) → types t .inner ≡ Array base elements stride
+  pub carried-array : (t : ℕ) → t < n → StridesCover (row (leastFor rule) c types) types t → (base elements stride : ℕ) → types t .inner ≡ Array base elements stride
       → carried types t ≡ elements * carried types base
   unfolding inLeafOf
   carried-array t l v base elements stride e =
-      let b = array-row c types n acc t l base elements stride e .0 in
+      let b = array-row (leastFor rule) c types n acc t l base elements stride e .0 in
       let s = size-of base (omega arith) (types base .inner) refl in
-      let wide : row c types base .size ≤ stride = rw e at (v t itself) in
+      let wide : row (leastFor rule) c types base .size ≤ stride = rw e at (v t itself) in
       carried-of t (Array base elements stride) e
-      ∙ count-parts (λ i. i * stride) (λ i. sizeIn base) (λ i. before c types n acc t base) elements (elements * stride)
+      ∙ count-parts (λ i. i * stride) (λ i. sizeIn base) (λ i. before rule c types n acc t base) elements (elements * stride)
       (record {
         inside = λ j q k h. inside-before t base b l (λ a r. v a (element e r)) k h;
         within = λ j q. omega (arith, mul-le-mul-right stride q, suc-mul j stride);
@@ -132,34 +134,34 @@ module _ (c : ℕ) (types : ℕ → Decoded) (n : ℕ) (acc : AcceptedTypes c ty
       ∙ sum-alike _ (λ i. carried types base) elements (λ i q. count-before t base b)
       ∙ sum-same (carried types base) elements
 
-  pub carried-runtime-array : (t : ℕ) → t < n → StridesCover (row c types) types t → (base stride : ℕ) → types t .inner ≡ RuntimeArray base stride
+  pub carried-runtime-array : (t : ℕ) → t < n → StridesCover (row (leastFor rule) c types) types t → (base stride : ℕ) → types t .inner ≡ RuntimeArray base stride
       → carried types t ≡ carried types base
   unfolding inLeafOf
   carried-runtime-array t l v base stride e =
-      let b = runtime-array-row c types n acc t l base stride e .0 in
+      let b = runtime-array-row (leastFor rule) c types n acc t l base stride e .0 in
       let s = size-of base (omega arith) (types base .inner) refl in
-      let wide : row c types base .size ≤ stride = rw e at (v t itself) in
+      let wide : row (leastFor rule) c types base .size ≤ stride = rw e at (v t itself) in
       carried-of t (RuntimeArray base stride) e
-      ∙ count-past (before c types n acc t base) (sizeIn base) stride (omega arith)
+      ∙ count-past (before rule c types n acc t base) (sizeIn base) stride (omega arith)
       (λ k h. not-eq-not {b = false} .0 (λ q. omega (arith, inside-before t base b l (λ a r. v a (runtimeElement e r)) k q)))
       ∙ count-before t base b
 
-  pub carried-struct : (t : ℕ) → t < n → StridesCover (row c types) types t → T (bit (row c types t .flags) hostShareableBit)
+  pub carried-struct : (t : ℕ) → t < n → StridesCover (row (leastFor rule) c types) types t → T (bit (row (leastFor rule) c types t .flags) hostShareableBit)
       → (members span : ℕ) → types t .inner ≡ Struct members span → carried types t ≡ sum (λ j. carried types (memberType (types t .members) j)) members
   unfolding inLeafOf
   carried-struct t l v o members span e =
       let part = types t .members in
-      let shareable = rw (struct-row c types n acc t l members span e .flags hostShareableBit refl) at o in
-      let b = member-earlier c types n acc t l members span e in
-      let size : (j : ℕ) → j < members → row c types (memberType part j) .size ≡ sizeIn (memberType part j) =
+      let shareable = rw (struct-row (leastFor rule) c types n acc t l members span e .flags hostShareableBit refl) at o in
+      let b = member-earlier (leastFor rule) c types n acc t l members span e in
+      let size : (j : ℕ) → j < members → row (leastFor rule) c types (memberType part j) .size ≡ sizeIn (memberType part j) =
       λ j q. size-of (memberType part j) (omega (arith, b j q)) (types (memberType part j) .inner) refl in
       carried-of t (Struct members span) e
-      ∙ count-parts (λ j. memberOffset part j) (λ j. sizeIn (memberType part j)) (λ j. before c types n acc t (memberType part j)) members span
+      ∙ count-parts (λ j. memberOffset part j) (λ j. sizeIn (memberType part j)) (λ j. before rule c types n acc t (memberType part j)) members span
       (record {
         inside = λ j q k h. inside-before t (memberType part j) (b j q) l (λ a r. v a (member j e q r)) k h;
-        within = λ j q. omega (arith, struct-member c types n acc t l members span e j q .within, size j q);
+        within = λ j q. omega (arith, struct-member (leastFor rule) c types n acc t l members span e j q .within, size j q);
         apart = λ i j q r.
-            omega (arith, struct-member c types n acc t l members span e j r .apart shareable i q, size i (omega arith));
+            omega (arith, struct-member (leastFor rule) c types n acc t l members span e j r .apart shareable i q, size i (omega arith));
       })
       ∙ sum-alike _ (λ j. carried types (memberType part j)) members (λ j q. count-before t (memberType part j) (b j q))
 

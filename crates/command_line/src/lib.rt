@@ -19,10 +19,11 @@ fn put_help() {
         STDOUT,
         b"inspect answers the commands on standard input, one to a line. Numbers are decimal; # starts a comment.
   caps N              sets the capability word
+  rule N              sets the uniform rule: 0 the older, 1 the newer
   type K W1 .. W5     appends a type; words left off are 0
   member TYPE OFFSET [LOCATION [SOURCE]]
                       appends a member row; location and blend source as value plus one, 0 for none
-  clear               empties the arena, capability word 0
+  clear               empties the arena, capability word 0, uniform rule 0
   layout              ok, and a line for each type: its number, size, alignment and zeros
   judge               ok, and a line for each type: its number and its row, whatever the rows hold
   check               lays out, then judges: the same

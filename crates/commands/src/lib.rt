@@ -18,6 +18,8 @@ pub type Rows = [u32; 14336];
 
 pub struct Session {
     pub capabilities: u32,
+    // The uniform rule as a word.
+    pub rule: u32,
     // Where the types and the members end in the arena.
     pub types: usize,
     pub members: usize,
@@ -38,6 +40,7 @@ pub struct Session {
 pub fn start() -> Session {
     Session {
         capabilities: 0,
+        rule: 0,
         types: 0,
         members: MEMBERS_AT,
         pass: immediates_pass::start(),
@@ -117,6 +120,9 @@ pub fn change(line: Line, mut s: Session, arena: &mut Arena) -> Session {
         Line::Capabilities(word) => {
             s.capabilities = word;
         }
+        Line::Rule(word) => {
+            s.rule = word;
+        }
         Line::TypeRecord {
             kind,
             a,
@@ -146,6 +152,7 @@ pub fn change(line: Line, mut s: Session, arena: &mut Arena) -> Session {
         }
         Line::Clear => {
             s.capabilities = 0;
+            s.rule = 0;
             s.types = 0;
             s.members = MEMBERS_AT;
         }

@@ -12,6 +12,7 @@ use Rattle.records.specs.declared.Outcome.{Outcome}
 use Rattle.records.specs.declared.Outcome.the-variants.{Accepted, Refused}
 use Rattle.slots.specs.declared.SlotsAnswer.{SlotsAnswer}
 use Rattle.slots.specs.declared.SlotsAnswer.the-variants as slots
+use Rattle.type_info.specs.declared.UniformRule.{UniformRule}
 use Rattle.valid.specs.Arena.{arenaWords}
 use Rattle.immediates_pass.specs.declared.Pass.{Pass}
 use Rattle.immediates_pass.specs.declared.Tried.{Tried}
@@ -130,5 +131,5 @@ unfoldable pub withTried : List ℕ → Tried → List ℕ
 withTried words r = keptWords (r .outcome) (withPass words (r .pass)) words
 
 -- the lent rows of a choice: on fewer than three words of a pass no arena is judged
-unfoldable pub passRows : (words : List ℕ) (c : ℕ) (ts ms rows : List ℕ) → List ℕ
-passRows words c ts ms rows = pick (leb 3 (length words)) (arenaWords c ts ms rows) rows
+unfoldable pub passRows : (words : List ℕ) (rule : UniformRule) (c : ℕ) (ts ms rows : List ℕ) → List ℕ
+passRows words rule c ts ms rows = pick (leb 3 (length words)) (arenaWords rule c ts ms rows) rows

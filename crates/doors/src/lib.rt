@@ -15,6 +15,7 @@ ghost use Rattle.records.specs.Record.{typeWord, memberWords};
 ghost use Rattle.records.specs.declared.Outcome.the-variants.{Refused};
 ghost use lib.ListN.{length, drop};
 ghost use Rattle.layouter.specs.Layouter.{layoutAnswer, layoutWords};
+ghost use Rattle.rule_word.specs.RuleWord.{ruleOf, capabilitiesBy};
 ghost use Rattle.valid.specs.Arena.{arenaAnswer, arenaWords};
 ghost use Rattle.slots.specs.Slots.{rangeSlots, partAnswer, contains, difference, union};
 ghost use Rattle.immediates.specs.Immediates.{slotsAnswer};
@@ -369,13 +370,16 @@ pub extern "C" fn wuldazin_check(
     types: &[u32],
     members: &[u32],
     capabilities: u32,
+    rule: u32,
     rows: &mut [u32],
     answer: &mut [u32],
 )
-    ensures { λ _. ⌜ now (rows .exit) ≡ arenaWords capabilities (now (types .entry)) (now (members .entry)) (now (rows .entry)) ⌝ }
-    ensures { λ _. ⌜ now (answer .exit) ≡ withAnswer (now (answer .entry)) (arenaAnswer capabilities (now (types .entry)) (now (members .entry)) (now (rows .entry))) ⌝ }
+    ensures { λ _. ⌜ now (rows .exit) ≡ arenaWords (ruleOf rule) (capabilitiesBy rule capabilities) (now (types .entry)) (now (members .entry)) (now (rows .entry)) ⌝ }
+    ensures { λ _. ⌜ now (answer .exit) ≡ withAnswer (now (answer .entry)) (arenaAnswer (capabilitiesBy rule capabilities) (now (types .entry)) (now (members .entry)) (now (rows .entry))) ⌝ }
 {
-    let outcome = valid::check(types, members, capabilities, rows);
+    let known = rule_word::capabilities_by(rule, capabilities);
+    let by = rule_word::rule_of(rule);
+    let outcome = valid::check(types, members, known, by, rows);
     put_answer(answer, outcome);
 }
 
@@ -385,13 +389,16 @@ pub extern "C" fn wuldazin_judge(
     types: &[u32],
     members: &[u32],
     capabilities: u32,
+    rule: u32,
     rows: &mut [u32],
     answer: &mut [u32],
 )
-    ensures { λ _. ⌜ now (rows .exit) ≡ arenaWords capabilities (now (types .entry)) (now (members .entry)) (now (rows .entry)) ⌝ }
-    ensures { λ _. ⌜ now (answer .exit) ≡ withAnswer (now (answer .entry)) (arenaAnswer capabilities (now (types .entry)) (now (members .entry)) (now (rows .entry))) ⌝ }
+    ensures { λ _. ⌜ now (rows .exit) ≡ arenaWords (ruleOf rule) (capabilitiesBy rule capabilities) (now (types .entry)) (now (members .entry)) (now (rows .entry)) ⌝ }
+    ensures { λ _. ⌜ now (answer .exit) ≡ withAnswer (now (answer .entry)) (arenaAnswer (capabilitiesBy rule capabilities) (now (types .entry)) (now (members .entry)) (now (rows .entry))) ⌝ }
 {
-    let outcome = valid::judge(types, members, capabilities, rows);
+    let known = rule_word::capabilities_by(rule, capabilities);
+    let by = rule_word::rule_of(rule);
+    let outcome = valid::judge(types, members, known, by, rows);
     put_answer(answer, outcome);
 }
 
@@ -412,17 +419,20 @@ pub extern "C" fn wuldazin_slots(
     types: &[u32],
     members: &[u32],
     capabilities: u32,
+    rule: u32,
     rows: &mut [u32],
     ty: u32,
     offset: u32,
     mask: &mut [u64],
     answer: &mut [u32],
 )
-    ensures { λ _. ⌜ now (rows .exit) ≡ arenaWords capabilities (now (types .entry)) (now (members .entry)) (now (rows .entry)) ⌝ }
-    ensures { λ _. ⌜ now (mask .exit) ≡ withMasks (now (mask .entry)) (slotsAnswer capabilities (now (types .entry)) (now (members .entry)) (now (rows .entry)) ty offset) ⌝ }
-    ensures { λ _. ⌜ now (answer .exit) ≡ withAnswer (now (answer .entry)) (slotsOutcome (slotsAnswer capabilities (now (types .entry)) (now (members .entry)) (now (rows .entry)) ty offset)) ⌝ }
+    ensures { λ _. ⌜ now (rows .exit) ≡ arenaWords (ruleOf rule) (capabilitiesBy rule capabilities) (now (types .entry)) (now (members .entry)) (now (rows .entry)) ⌝ }
+    ensures { λ _. ⌜ now (mask .exit) ≡ withMasks (now (mask .entry)) (slotsAnswer (capabilitiesBy rule capabilities) (now (types .entry)) (now (members .entry)) (now (rows .entry)) ty offset) ⌝ }
+    ensures { λ _. ⌜ now (answer .exit) ≡ withAnswer (now (answer .entry)) (slotsOutcome (slotsAnswer (capabilitiesBy rule capabilities) (now (types .entry)) (now (members .entry)) (now (rows .entry)) ty offset)) ⌝ }
 {
-    let found = immediates::immediate_slots(types, members, capabilities, rows, ty, offset);
+    let known = rule_word::capabilities_by(rule, capabilities);
+    let by = rule_word::rule_of(rule);
+    let found = immediates::immediate_slots(types, members, known, by, rows, ty, offset);
     put_masks(mask, found);
     put_answer(answer, slots_outcome(found));
 }
@@ -457,17 +467,20 @@ pub extern "C" fn wuldazin_place(
     types: &[u32],
     members: &[u32],
     capabilities: u32,
+    rule: u32,
     rows: &mut [u32],
     start: u32,
     steps: &[u32],
     place: &mut [u64],
     answer: &mut [u32],
 )
-    ensures { λ _. ⌜ now (rows .exit) ≡ arenaWords capabilities (now (types .entry)) (now (members .entry)) (now (rows .entry)) ⌝ }
-    ensures { λ _. ⌜ now (place .exit) ≡ withTwo (now (place .entry)) (byteOf (lookupAnswer capabilities (now (types .entry)) (now (members .entry)) (now (rows .entry)) start (now (steps .entry)))) (leafOf (lookupAnswer capabilities (now (types .entry)) (now (members .entry)) (now (rows .entry)) start (now (steps .entry)))) ⌝ }
-    ensures { λ _. ⌜ now (answer .exit) ≡ withAnswer (now (answer .entry)) (placeOutcome (lookupAnswer capabilities (now (types .entry)) (now (members .entry)) (now (rows .entry)) start (now (steps .entry)))) ⌝ }
+    ensures { λ _. ⌜ now (rows .exit) ≡ arenaWords (ruleOf rule) (capabilitiesBy rule capabilities) (now (types .entry)) (now (members .entry)) (now (rows .entry)) ⌝ }
+    ensures { λ _. ⌜ now (place .exit) ≡ withTwo (now (place .entry)) (byteOf (lookupAnswer (capabilitiesBy rule capabilities) (now (types .entry)) (now (members .entry)) (now (rows .entry)) start (now (steps .entry)))) (leafOf (lookupAnswer (capabilitiesBy rule capabilities) (now (types .entry)) (now (members .entry)) (now (rows .entry)) start (now (steps .entry)))) ⌝ }
+    ensures { λ _. ⌜ now (answer .exit) ≡ withAnswer (now (answer .entry)) (placeOutcome (lookupAnswer (capabilitiesBy rule capabilities) (now (types .entry)) (now (members .entry)) (now (rows .entry)) start (now (steps .entry)))) ⌝ }
 {
-    let found = place::lookup(types, members, capabilities, rows, start, steps);
+    let known = rule_word::capabilities_by(rule, capabilities);
+    let by = rule_word::rule_of(rule);
+    let found = place::lookup(types, members, known, by, rows, start, steps);
     put_two(place, byte_of(found), leaf_of(found) as u64);
     put_answer(answer, place_outcome(found));
 }
@@ -478,17 +491,20 @@ pub extern "C" fn wuldazin_report(
     types: &[u32],
     members: &[u32],
     capabilities: u32,
+    rule: u32,
     rows: &mut [u32],
     report: &mut [u64],
     totals: &mut [u64],
     answer: &mut [u32],
 )
-    ensures { λ _. ⌜ now (rows .exit) ≡ reportRows capabilities (now (types .entry)) (now (members .entry)) (now (rows .entry)) (now (report .entry)) ⌝ }
-    ensures { λ _. ⌜ now (report .exit) ≡ reportWords capabilities (now (types .entry)) (now (members .entry)) (now (rows .entry)) (now (report .entry)) ⌝ }
-    ensures { λ _. ⌜ now (totals .exit) ≡ withTwo (now (totals .entry)) (carriedOf (reportAnswer capabilities (now (types .entry)) (now (members .entry)) (now (rows .entry)) (now (report .entry)))) (wastedOf (reportAnswer capabilities (now (types .entry)) (now (members .entry)) (now (rows .entry)) (now (report .entry)))) ⌝ }
-    ensures { λ _. ⌜ now (answer .exit) ≡ withAnswer (now (answer .entry)) (totalsOutcome (reportAnswer capabilities (now (types .entry)) (now (members .entry)) (now (rows .entry)) (now (report .entry)))) ⌝ }
+    ensures { λ _. ⌜ now (rows .exit) ≡ reportRows (ruleOf rule) (capabilitiesBy rule capabilities) (now (types .entry)) (now (members .entry)) (now (rows .entry)) (now (report .entry)) ⌝ }
+    ensures { λ _. ⌜ now (report .exit) ≡ reportWords (capabilitiesBy rule capabilities) (now (types .entry)) (now (members .entry)) (now (rows .entry)) (now (report .entry)) ⌝ }
+    ensures { λ _. ⌜ now (totals .exit) ≡ withTwo (now (totals .entry)) (carriedOf (reportAnswer (capabilitiesBy rule capabilities) (now (types .entry)) (now (members .entry)) (now (rows .entry)) (now (report .entry)))) (wastedOf (reportAnswer (capabilitiesBy rule capabilities) (now (types .entry)) (now (members .entry)) (now (rows .entry)) (now (report .entry)))) ⌝ }
+    ensures { λ _. ⌜ now (answer .exit) ≡ withAnswer (now (answer .entry)) (totalsOutcome (reportAnswer (capabilitiesBy rule capabilities) (now (types .entry)) (now (members .entry)) (now (rows .entry)) (now (report .entry)))) ⌝ }
 {
-    let found = report::report(types, members, capabilities, rows, report);
+    let known = rule_word::capabilities_by(rule, capabilities);
+    let by = rule_word::rule_of(rule);
+    let found = report::report(types, members, known, by, rows, report);
     put_two(totals, carried_of(found), wasted_of(found));
     put_answer(answer, totals_outcome(found));
 }
@@ -523,20 +539,23 @@ pub extern "C" fn wuldazin_pass_choose(
     types: &[u32],
     members: &[u32],
     capabilities: u32,
+    rule: u32,
     rows: &mut [u32],
     ty: u32,
     pass: &mut [u64],
     answer: &mut [u32],
 )
-    ensures { λ _. ⌜ now (rows .exit) ≡ passRows (now (pass .entry)) capabilities (now (types .entry)) (now (members .entry)) (now (rows .entry)) ⌝ }
-    ensures { λ _. ⌜ now (pass .exit) ≡ withTried (now (pass .entry)) (triedIn (now (pass .entry)) (Choose capabilities (now (types .entry)) (now (members .entry)) (now (rows .entry)) ty)) ⌝ }
-    ensures { λ _. ⌜ now (answer .exit) ≡ withAnswer (now (answer .entry)) (triedIn (now (pass .entry)) (Choose capabilities (now (types .entry)) (now (members .entry)) (now (rows .entry)) ty) .outcome) ⌝ }
+    ensures { λ _. ⌜ now (rows .exit) ≡ passRows (now (pass .entry)) (ruleOf rule) (capabilitiesBy rule capabilities) (now (types .entry)) (now (members .entry)) (now (rows .entry)) ⌝ }
+    ensures { λ _. ⌜ now (pass .exit) ≡ withTried (now (pass .entry)) (triedIn (now (pass .entry)) (Choose (capabilitiesBy rule capabilities) (now (types .entry)) (now (members .entry)) (now (rows .entry)) ty)) ⌝ }
+    ensures { λ _. ⌜ now (answer .exit) ≡ withAnswer (now (answer .entry)) (triedIn (now (pass .entry)) (Choose (capabilitiesBy rule capabilities) (now (types .entry)) (now (members .entry)) (now (rows .entry)) ty) .outcome) ⌝ }
 {
     if pass.len() < 3 {
         put_answer(answer, short_pass());
         return;
     }
-    let tried = immediates_pass::choose(pass_of(pass), types, members, capabilities, rows, ty);
+    let known = rule_word::capabilities_by(rule, capabilities);
+    let by = rule_word::rule_of(rule);
+    let tried = immediates_pass::choose(pass_of(pass), types, members, known, by, rows, ty);
     let outcome = tried.outcome;
     put_tried(pass, tried);
     put_answer(answer, outcome);

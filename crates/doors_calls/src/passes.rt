@@ -20,6 +20,7 @@ fn choose(name: &[u8], pass: &mut [u64; 7], ty: u32) {
         &doors_lent::TYPES,
         &doors_lent::MEMBERS,
         0,
+        0,
         &mut rows,
         ty,
         pass,
@@ -89,6 +90,7 @@ fn short_choose() {
     doors::wuldazin_pass_choose(
         &M6,
         &doors_lent::MEMBERS,
+        0,
         0,
         &mut rows,
         2,

@@ -9,6 +9,7 @@ fn answer_of_check() {
         &doors_lent::TYPES,
         &doors_lent::MEMBERS,
         0,
+        0,
         &mut rows,
         &mut answer[..3],
     );
@@ -64,6 +65,7 @@ fn place() {
     doors::wuldazin_place(
         &doors_lent::TYPES,
         &doors_lent::MEMBERS,
+        0,
         0,
         &mut rows,
         2,

@@ -1,5 +1,5 @@
 // What the programs doors_calls and doors_refusals share: calls of the static library with lent buffers, and the lines that they print.
-// The calls. Each word of a lent buffer is 9 before its call, and all of them are printed after it, those past the call's own too.
+// The calls, by the older uniform rule. Each word of a lent buffer is 9 before its call, and all of them are printed after it, those past the call's own too.
 const STDOUT: i32 = 1;
 
 // A line begins with a name.
@@ -91,7 +91,7 @@ fn first(words: &[u32], n: usize) -> &[u32] {
 
 pub fn check(name: &[u8], types: &[u32], members: &[u32], capabilities: u32, rows: &mut [u32]) {
     let mut answer = [9u32; 5];
-    doors::wuldazin_check(types, members, capabilities, rows, &mut answer);
+    doors::wuldazin_check(types, members, capabilities, 0, rows, &mut answer);
     words(name, &answer);
     words(b"rows", rows);
 }
@@ -132,7 +132,7 @@ pub fn layout_m1(name: &[u8], types: usize, members: usize) {
 pub fn judge(name: &[u8], types: &[u32]) {
     let mut rows = [9u32; 44];
     let mut answer = [9u32; 5];
-    doors::wuldazin_judge(types, &MEMBERS, 0, &mut rows, &mut answer);
+    doors::wuldazin_judge(types, &MEMBERS, 0, 0, &mut rows, &mut answer);
     words(name, &answer);
     words(b"rows", &rows);
 }
@@ -146,6 +146,7 @@ pub fn report(name: &[u8], types: &[u32]) {
     doors::wuldazin_report(
         types,
         &MEMBERS,
+        0,
         0,
         &mut rows,
         &mut report,
@@ -167,6 +168,7 @@ pub fn report_short(name: &[u8], types: &[u32]) {
         types,
         &MEMBERS,
         0,
+        0,
         &mut rows,
         &mut report[..5],
         &mut totals,
@@ -185,6 +187,7 @@ pub fn slots(name: &[u8], types: &[u32], ty: u32, offset: u32) {
     doors::wuldazin_slots(
         types,
         &MEMBERS,
+        0,
         0,
         &mut rows,
         ty,
@@ -210,6 +213,7 @@ pub fn place(name: &[u8], types: &[u32], capabilities: u32, start: u32, steps: &
         types,
         &MEMBERS,
         capabilities,
+        0,
         &mut rows,
         start,
         steps,

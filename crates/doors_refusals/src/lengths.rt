@@ -25,7 +25,7 @@ fn rows() {
 fn check_long(name: &[u8], types: &[u32]) {
     let mut rows = [9u32; 14350];
     let mut answer = [9u32; 5];
-    doors::wuldazin_check(types, &[], 0, &mut rows, &mut answer);
+    doors::wuldazin_check(types, &[], 0, 0, &mut rows, &mut answer);
     doors_lent::words(name, &answer);
     doors_lent::count(b"rows that are 0", &rows, 0);
     doors_lent::count(b"rows that are 9", &rows, 9);

@@ -5,7 +5,7 @@
 fn refuse(number: u32, types: &[u32], members: &[u32], capabilities: u32) {
     let mut rows = [9u32; 44];
     let mut answer = [9u32; 5];
-    doors::wuldazin_check(types, members, capabilities, &mut rows, &mut answer);
+    doors::wuldazin_check(types, members, capabilities, 0, &mut rows, &mut answer);
     doors_lent::refusal(number, &answer);
     doors_lent::words(b"rows", &rows);
 }

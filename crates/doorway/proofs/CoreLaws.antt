@@ -9,6 +9,7 @@ use lib.ListN.{length}
 use borrow.Author.Tests.{lt-leb}
 use Rattle.records.specs.Fields.{tablesFit}
 use Rattle.records.specs.declared.Outcome.the-variants as outcome
+use Rattle.type_info.specs.declared.UniformRule.{UniformRule}
 use Rattle.valid.specs.Arena.{arenaFits, arenaAnswer, arenaWords}
 use Rattle.place.specs.Place.{lookupAnswer}
 use Rattle.place.specs.declared.PlaceAnswer.the-variants as place
@@ -26,9 +27,9 @@ module _ (c : ℕ) (ts rows ms : List ℕ) (long : 16384 < length ms) where
   unfolding arenaAnswer
   answer-refuses = simp unfits
 
-  pub words-refuses : arenaWords c ts ms rows ≡ rows
+  pub words-refuses : (rule : UniformRule) → arenaWords rule c ts ms rows ≡ rows
   unfolding arenaWords
-  words-refuses = simp unfits
+  words-refuses rule = simp unfits
 
   pub lookup-refuses : (start : ℕ) (steps : List ℕ) → lookupAnswer c ts ms rows start steps ≡ place.Refused 1 0 0 0
   unfolding lookupAnswer

@@ -1,4 +1,4 @@
-// Members as a lent run of member records, taken apart for the word core.
+// Members as a lent run of member records, taken apart for the word core. The uniform rule is a word, 0 the older and 1 the newer; another word is number 1.
 use member_words::Member;
 use place::PlaceAnswer;
 use records::Outcome;
@@ -8,6 +8,7 @@ ghost use Prim.Native.Nat.{_*_, _≤_};
 ghost use lib.ListN.{take};
 ghost use Rattle.records.specs.Record.{memberWords};
 ghost use Rattle.valid.specs.Arena.{arenaAnswer, arenaWords};
+ghost use Rattle.rule_word.specs.RuleWord.{ruleOf, capabilitiesBy};
 ghost use Rattle.place.specs.Place.{lookupAnswer};
 ghost use Rattle.immediates.specs.Immediates.{slotsAnswer};
 ghost use Rattle.member_words.specs.Flat.{flat};
@@ -18,14 +19,17 @@ fn check_words(
     words: [u32; 16388],
     n: usize,
     capabilities: u32,
+    rule: u32,
     rows: &mut [u32],
 ) -> Outcome
     requires { ⌜ n ≤ 4097 ⌝ }
-    ensures { λ r. ⌜ r ≡ arenaAnswer capabilities (now (types .entry)) (take (n * memberWords) words) (now (rows .entry)) ⌝ }
-    ensures { λ _. ⌜ now (rows .exit) ≡ arenaWords capabilities (now (types .entry)) (take (n * memberWords) words) (now (rows .entry)) ⌝ }
+    ensures { λ r. ⌜ r ≡ arenaAnswer (capabilitiesBy rule capabilities) (now (types .entry)) (take (n * memberWords) words) (now (rows .entry)) ⌝ }
+    ensures { λ _. ⌜ now (rows .exit) ≡ arenaWords (ruleOf rule) (capabilitiesBy rule capabilities) (now (types .entry)) (take (n * memberWords) words) (now (rows .entry)) ⌝ }
 {
     let e = n * records::MEMBER_WORDS;
-    valid::check(types, &words[..e], capabilities, rows)
+    let by = rule_word::rule_of(rule);
+    let c = rule_word::capabilities_by(rule, capabilities);
+    valid::check(types, &words[..e], c, by, rows)
 }
 
 // The arena check.
@@ -33,14 +37,15 @@ pub fn check_members(
     types: &[u32],
     members: &[Member],
     capabilities: u32,
+    rule: u32,
     rows: &mut [u32],
 ) -> Outcome
-    ensures { λ r. ⌜ r ≡ arenaAnswer capabilities (now (types .entry)) (flat (now (members .entry))) (now (rows .entry)) ⌝ }
-    ensures { λ _. ⌜ now (rows .exit) ≡ arenaWords capabilities (now (types .entry)) (flat (now (members .entry))) (now (rows .entry)) ⌝ }
+    ensures { λ r. ⌜ r ≡ arenaAnswer (capabilitiesBy rule capabilities) (now (types .entry)) (flat (now (members .entry))) (now (rows .entry)) ⌝ }
+    ensures { λ _. ⌜ now (rows .exit) ≡ arenaWords (ruleOf rule) (capabilitiesBy rule capabilities) (now (types .entry)) (flat (now (members .entry))) (now (rows .entry)) ⌝ }
 {
     let n = member_words::fit(members.len());
     let words = member_words::words_of(members, n);
-    check_words(types, words, n, capabilities, rows)
+    check_words(types, words, n, capabilities, rule, rows)
 }
 
 // The place lookup on the words of n records.
@@ -49,16 +54,19 @@ fn place_words(
     words: [u32; 16388],
     n: usize,
     capabilities: u32,
+    rule: u32,
     rows: &mut [u32],
     start: u32,
     steps: &[u32],
 ) -> PlaceAnswer
     requires { ⌜ n ≤ 4097 ⌝ }
-    ensures { λ r. ⌜ r ≡ lookupAnswer capabilities (now (types .entry)) (take (n * memberWords) words) (now (rows .entry)) start (now (steps .entry)) ⌝ }
-    ensures { λ _. ⌜ now (rows .exit) ≡ arenaWords capabilities (now (types .entry)) (take (n * memberWords) words) (now (rows .entry)) ⌝ }
+    ensures { λ r. ⌜ r ≡ lookupAnswer (capabilitiesBy rule capabilities) (now (types .entry)) (take (n * memberWords) words) (now (rows .entry)) start (now (steps .entry)) ⌝ }
+    ensures { λ _. ⌜ now (rows .exit) ≡ arenaWords (ruleOf rule) (capabilitiesBy rule capabilities) (now (types .entry)) (take (n * memberWords) words) (now (rows .entry)) ⌝ }
 {
     let e = n * records::MEMBER_WORDS;
-    place::lookup(types, &words[..e], capabilities, rows, start, steps)
+    let by = rule_word::rule_of(rule);
+    let c = rule_word::capabilities_by(rule, capabilities);
+    place::lookup(types, &words[..e], c, by, rows, start, steps)
 }
 
 // The place lookup.
@@ -66,16 +74,17 @@ pub fn place_members(
     types: &[u32],
     members: &[Member],
     capabilities: u32,
+    rule: u32,
     rows: &mut [u32],
     start: u32,
     steps: &[u32],
 ) -> PlaceAnswer
-    ensures { λ r. ⌜ r ≡ lookupAnswer capabilities (now (types .entry)) (flat (now (members .entry))) (now (rows .entry)) start (now (steps .entry)) ⌝ }
-    ensures { λ _. ⌜ now (rows .exit) ≡ arenaWords capabilities (now (types .entry)) (flat (now (members .entry))) (now (rows .entry)) ⌝ }
+    ensures { λ r. ⌜ r ≡ lookupAnswer (capabilitiesBy rule capabilities) (now (types .entry)) (flat (now (members .entry))) (now (rows .entry)) start (now (steps .entry)) ⌝ }
+    ensures { λ _. ⌜ now (rows .exit) ≡ arenaWords (ruleOf rule) (capabilitiesBy rule capabilities) (now (types .entry)) (flat (now (members .entry))) (now (rows .entry)) ⌝ }
 {
     let n = member_words::fit(members.len());
     let words = member_words::words_of(members, n);
-    place_words(types, words, n, capabilities, rows, start, steps)
+    place_words(types, words, n, capabilities, rule, rows, start, steps)
 }
 
 // The slot walk on the words of n records.
@@ -84,16 +93,19 @@ fn slots_words(
     words: [u32; 16388],
     n: usize,
     capabilities: u32,
+    rule: u32,
     rows: &mut [u32],
     ty: u32,
     offset: u32,
 ) -> SlotsAnswer
     requires { ⌜ n ≤ 4097 ⌝ }
-    ensures { λ r. ⌜ r ≡ slotsAnswer capabilities (now (types .entry)) (take (n * memberWords) words) (now (rows .entry)) ty offset ⌝ }
-    ensures { λ _. ⌜ now (rows .exit) ≡ arenaWords capabilities (now (types .entry)) (take (n * memberWords) words) (now (rows .entry)) ⌝ }
+    ensures { λ r. ⌜ r ≡ slotsAnswer (capabilitiesBy rule capabilities) (now (types .entry)) (take (n * memberWords) words) (now (rows .entry)) ty offset ⌝ }
+    ensures { λ _. ⌜ now (rows .exit) ≡ arenaWords (ruleOf rule) (capabilitiesBy rule capabilities) (now (types .entry)) (take (n * memberWords) words) (now (rows .entry)) ⌝ }
 {
     let e = n * records::MEMBER_WORDS;
-    immediates::immediate_slots(types, &words[..e], capabilities, rows, ty, offset)
+    let by = rule_word::rule_of(rule);
+    let c = rule_word::capabilities_by(rule, capabilities);
+    immediates::immediate_slots(types, &words[..e], c, by, rows, ty, offset)
 }
 
 // The slot walk.
@@ -101,14 +113,15 @@ pub fn slots_members(
     types: &[u32],
     members: &[Member],
     capabilities: u32,
+    rule: u32,
     rows: &mut [u32],
     ty: u32,
     offset: u32,
 ) -> SlotsAnswer
-    ensures { λ r. ⌜ r ≡ slotsAnswer capabilities (now (types .entry)) (flat (now (members .entry))) (now (rows .entry)) ty offset ⌝ }
-    ensures { λ _. ⌜ now (rows .exit) ≡ arenaWords capabilities (now (types .entry)) (flat (now (members .entry))) (now (rows .entry)) ⌝ }
+    ensures { λ r. ⌜ r ≡ slotsAnswer (capabilitiesBy rule capabilities) (now (types .entry)) (flat (now (members .entry))) (now (rows .entry)) ty offset ⌝ }
+    ensures { λ _. ⌜ now (rows .exit) ≡ arenaWords (ruleOf rule) (capabilitiesBy rule capabilities) (now (types .entry)) (flat (now (members .entry))) (now (rows .entry)) ⌝ }
 {
     let n = member_words::fit(members.len());
     let words = member_words::words_of(members, n);
-    slots_words(types, words, n, capabilities, rows, ty, offset)
+    slots_words(types, words, n, capabilities, rule, rows, ty, offset)
 }

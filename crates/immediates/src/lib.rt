@@ -1,6 +1,7 @@
 // The slots of a type of an arena: the arena check, then from_type of naga's valid/immediates.rs.
 use records::Outcome;
 use slots::SlotsAnswer;
+use type_info::UniformRule;
 ghost use mathlib.Core.Path.{_≡_};
 ghost use Rattle.valid.specs.Arena.{arenaWords};
 ghost use Rattle.immediates.specs.Immediates.{slotsAnswer};
@@ -10,14 +11,15 @@ pub fn immediate_slots(
     types: &[u32],
     members: &[u32],
     capabilities: u32,
+    rule: UniformRule,
     rows: &mut [u32],
     ty: u32,
     offset: u32,
 ) -> SlotsAnswer
     ensures { λ r. ⌜ r ≡ slotsAnswer capabilities (now (types .entry)) (now (members .entry)) (now (rows .entry)) ty offset ⌝ }
-    ensures { λ _. ⌜ now (rows .exit) ≡ arenaWords capabilities (now (types .entry)) (now (members .entry)) (now (rows .entry)) ⌝ }
+    ensures { λ _. ⌜ now (rows .exit) ≡ arenaWords rule capabilities (now (types .entry)) (now (members .entry)) (now (rows .entry)) ⌝ }
 {
-    match valid::check(types, members, capabilities, rows) {
+    match valid::check(types, members, capabilities, rule, rows) {
         Outcome::Accepted => {
             if types.len() / records::TYPE_WORDS <= ty as usize {
                 return SlotsAnswer::Refused {

@@ -32,6 +32,7 @@ fn words() {
 // Too few numbers, or too many.
 fn usage() {
     stop(b"caps");
+    stop(b"rule");
     stop(b"type");
     stop(b"member 0");
     stop(b"layout 0");

@@ -2,3 +2,4 @@ pub mod LayoutLaws
 pub mod LayoutAccepted
 pub mod LayoutPower
 pub mod TableSame
+pub mod TableMap

@@ -24,7 +24,7 @@ use Rattle.type_info.specs.Verdict.{previousOf}
 use Rattle.member_bounds.specs.MemberBounds.{memberBounds}
 use Rattle.valid_blend.specs.Blend.{sourceAt, sourceResult, blendedAfter, otherLocation, sameType, structBlend}
 use Rattle.member_rules.specs.MemberRules.{uniformAfter, storageAfter, immediatesAfter}
-use Rattle.validate_type.specs.ValidateType.{nonDataFlags, flagsOf, uniformOf, storageOf, immediatesOf, rowOf, judge}
+use Rattle.validate_type.specs.ValidateType.{nonDataFlags, flagsOf, uniformOf, storageOf, immediatesOf, rowOf, judge, judgeCommon}
 use Rattle.valid.specs.Arena.{judgeOutcome, arenaOutcome, arenaAnswer, arenaRows, arenaWords}
 use Rattle.slots.specs.declared.SlotsAnswer.{SlotsAnswer}
 use Rattle.slots.specs.declared.SlotsAnswer.the-variants as slots
@@ -32,7 +32,7 @@ use Rattle.slots.specs.declared.SlotsAnswer.the-variants.{Slots}
 use Rattle.slots.specs.Slots.{covers, coversAll, maskOf, rangeSlots, partAnswer}
 use Rattle.type_slots.specs.Walk.{membersSlots, slotsOf}
 use Rattle.immediates.specs.Immediates.{slotsAnswer}
-use Rattle.marked.specs.Marked.{Words, Example, lent, made, left, AllLeft, Holds, Case, arenaCase, slotsCase, rangeCase, CaseHolds, AllHold, marked, blends}
+use Rattle.marked.specs.Marked.{Words, Example, lent, made, left, AllLeft, Holds, Case, arenaCase, slotsCase, rangeCase, CaseHolds, AllHold, marked, blends, newer}
 
 -- ---- the test
 sameList : List ℕ → List ℕ → Bool
@@ -130,18 +130,22 @@ unfolding every AllHold
 all-hold [] t = tt
 all-hold (x ∷ xs) t = (case-holds x (and-left (caseHolds x) (every xs) t), all-hold xs (and-right (caseHolds x) (every xs) t))
 
--- the computed test over the whole table
-test : T (every marked)
-unfolding every caseHolds holds allLeft sameOutcome sameSlots sameList marked arenaAnswer arenaWords arenaOutcome judgeOutcome arenaRows layoutOutcome tablesFit recordAt locatedTo fieldsOk resultAt valueAt typeInner innerOf structMembers layoutOf trySize alignmentOf membersAlignment judge flagsOf rowOf leafFlags nonDataFlags uniformOf storageOf immediatesOf checkWidth integerWidth floatWidth blendedAfter sourceResult sourceAt otherLocation structBlend memberBounds previousOf uniformAfter storageAfter immediatesAfter arrayVerdict shareVerdict memberVerdict distanceVerdict distanceOk unsizedVerdict spanVerdict wordsOf slotsAnswer slotsOf membersSlots rangeSlots covers coversAll maskOf
-test = tt
+-- the computed test over M1 to M12 and what is told of the newer uniform rule
+test : T (every marked) × T (every newer)
+unfolding every caseHolds holds allLeft sameOutcome sameSlots sameList marked newer arenaAnswer arenaWords arenaOutcome judgeOutcome arenaRows layoutOutcome tablesFit recordAt locatedTo fieldsOk resultAt valueAt typeInner innerOf structMembers layoutOf trySize alignmentOf membersAlignment judge judgeCommon flagsOf rowOf leafFlags nonDataFlags uniformOf storageOf immediatesOf checkWidth integerWidth floatWidth blendedAfter sourceResult sourceAt otherLocation structBlend memberBounds previousOf uniformAfter storageAfter immediatesAfter arrayVerdict shareVerdict memberVerdict distanceVerdict distanceOk unsizedVerdict spanVerdict wordsOf slotsAnswer slotsOf membersSlots rangeSlots covers coversAll maskOf
+test = (tt, tt)
 
 -- M1 to M12 hold
 pub marked-hold : AllHold marked
-marked-hold = all-hold marked test
+marked-hold = all-hold marked (test .0)
+
+-- 02, E8
+pub newer-hold : AllHold newer
+newer-hold = all-hold newer (test .1)
 
 -- 02, E9
 blend-test : T (every blends)
-unfolding every caseHolds holds allLeft sameOutcome sameSlots sameList blends sameType arenaAnswer arenaWords arenaOutcome judgeOutcome arenaRows layoutOutcome tablesFit recordAt locatedTo fieldsOk resultAt valueAt typeInner innerOf structMembers layoutOf trySize alignmentOf membersAlignment judge flagsOf rowOf leafFlags nonDataFlags uniformOf storageOf immediatesOf checkWidth integerWidth floatWidth blendedAfter sourceResult sourceAt otherLocation structBlend memberBounds previousOf uniformAfter storageAfter immediatesAfter arrayVerdict shareVerdict memberVerdict distanceVerdict distanceOk unsizedVerdict spanVerdict wordsOf slotsAnswer slotsOf membersSlots rangeSlots covers maskOf
+unfolding every caseHolds holds allLeft sameOutcome sameSlots sameList blends sameType arenaAnswer arenaWords arenaOutcome judgeOutcome arenaRows layoutOutcome tablesFit recordAt locatedTo fieldsOk resultAt valueAt typeInner innerOf structMembers layoutOf trySize alignmentOf membersAlignment judge judgeCommon flagsOf rowOf leafFlags nonDataFlags uniformOf storageOf immediatesOf checkWidth integerWidth floatWidth blendedAfter sourceResult sourceAt otherLocation structBlend memberBounds previousOf uniformAfter storageAfter immediatesAfter arrayVerdict shareVerdict memberVerdict distanceVerdict distanceOk unsizedVerdict spanVerdict wordsOf slotsAnswer slotsOf membersSlots rangeSlots covers maskOf
 blend-test = tt
 
 pub blends-hold : AllHold blends

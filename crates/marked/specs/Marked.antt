@@ -1,4 +1,4 @@
--- 01, 'Marked examples of layouts': M1 to M12 as rows of one table.
+-- 01, 'Marked examples of layouts': M1 to M12 as rows of one table, by the older uniform rule. 02, E8: arenas by the newer.
 -- Assumes nothing.
 use mathlib.Core.Path.{_≡_}
 use mathlib.Core.Bool.{Bool, true, false, _&&_}
@@ -10,6 +10,8 @@ use Rattle.records.specs.Record.{typeCount}
 use Rattle.records.specs.Fields.{rowWords}
 use Rattle.records.specs.declared.Outcome.{Outcome}
 use Rattle.records.specs.declared.Outcome.the-variants.{Accepted, Refused}
+use Rattle.type_info.specs.declared.UniformRule.{UniformRule}
+use Rattle.type_info.specs.declared.UniformRule.the-variants.{Older, Newer}
 use Rattle.valid.specs.Arena.{arenaAnswer, arenaWords}
 use Rattle.slots.specs.declared.SlotsAnswer.{SlotsAnswer}
 use Rattle.slots.specs.declared.SlotsAnswer.the-variants as slots
@@ -51,9 +53,10 @@ pub record Words : Type 0 where
 abbrev pub row : (ty from : ℕ) → List ℕ → Words
 row ty from words = record { ty = ty; from = from; words = words }
 
--- an arena with its capability word, the answer, and words of the rows that it leaves
+-- an arena with its capability word and the uniform rule, the answer, and words of the rows that it leaves
 pub record Example : Type 0 where
   pub capabilities : ℕ
+  pub rule : UniformRule
   pub types : List ℕ
   pub members : List ℕ
   pub answer : Outcome
@@ -68,7 +71,7 @@ made x = arenaAnswer (x .capabilities) (x .types) (x .members) (lent x)
 
 -- the words that the check leaves from word `from` of the row of `ty` on, as many as the example has
 abbrev pub left : Example → Words → List ℕ
-left x w = take (length (w .words)) (drop (w .ty * rowWords + w .from) (arenaWords (x .capabilities) (x .types) (x .members) (lent x)))
+left x w = take (length (w .words)) (drop (w .ty * rowWords + w .from) (arenaWords (x .rule) (x .capabilities) (x .types) (x .members) (lent x)))
 
 abbrev pub AllLeft : Example → List Words → Type 0
 AllLeft x [] = Unit {0}
@@ -95,13 +98,14 @@ AllHold (x ∷ xs) = CaseHolds x × AllHold xs
 
 -- ---- the table
 abbrev pub accepted : (types members : List ℕ) → List Words → Example
-accepted types members rows = record { capabilities = 0; types = types; members = members; answer = Accepted; rows = rows }
+accepted types members rows = record { capabilities = 0; rule = Older; types = types; members = members; answer = Accepted; rows = rows }
 
 -- every refusal but 1 zeroes the rows; the word past them stays
 abbrev pub refused : (types members : List ℕ) → (number ty member detail : ℕ) → Example
 refused types members number ty member detail =
     record {
       capabilities = 0;
+      rule = Older;
       types = types;
       members = members;
       answer = Refused number ty member detail;
@@ -137,7 +141,7 @@ marked =
     ∷ arenaCase (refused (E ++ S 0 1 4 ++ S 1 3 32) (0 ∷ 0 ∷ 0 ∷ 0 ∷ 0 ∷ 0 ∷ 0 ∷ 0 ∷ 1 ∷ 16 ∷ 0 ∷ 0 ∷ 0 ∷ 0 ∷ 0 ∷ 0 ∷ []) 21 2 2 0)
     -- M11: f16 without bit 1: 8, detail 1; with it: immediates word 3
     ∷ arenaCase (refused f16 [] 8 0 0 1)
-    ∷ arenaCase (record { capabilities = 2; types = f16; members = []; answer = Accepted; rows = row 0 13 (3 ∷ []) ∷ [] })
+    ∷ arenaCase (record { capabilities = 2; rule = Older; types = f16; members = []; answer = Accepted; rows = row 0 13 (3 ∷ []) ∷ [] })
     -- M12: ranges (offset, size): (300, 0) gives 0; (3, 2) gives 3, both only in part; (252, 4) gives bit 63 alone; (252, 5) gives 25
     ∷ rangeCase 300 0 (Slots 0 0)
     ∷ rangeCase 3 2 (Slots 3 3)
@@ -150,6 +154,7 @@ abbrev pub blendRefused : (types members : List ℕ) → (number ty member detai
 blendRefused types members number ty member detail =
     record {
       capabilities = 8192;
+      rule = Older;
       types = types;
       members = members;
       answer = Refused number ty member detail;
@@ -157,7 +162,7 @@ blendRefused types members number ty member detail =
     }
 
 abbrev pub blendAccepted : (types members : List ℕ) → List Words → Example
-blendAccepted types members rows = record { capabilities = 8192; types = types; members = members; answer = Accepted; rows = rows }
+blendAccepted types members rows = record { capabilities = 8192; rule = Older; types = types; members = members; answer = Accepted; rows = rows }
 
 abbrev pub V4 : List ℕ
 V4 = 1 ∷ 4 ∷ 2 ∷ 4 ∷ 0 ∷ 0 ∷ []
@@ -189,4 +194,40 @@ blends =
     -- a source without a location is 2; a large location alone is no matter
     ∷ arenaCase (refused (E ++ counted 9 1 4 ++ S 0 1 4) (0 ∷ 0 ∷ 0 ∷ 1 ∷ []) 2 2 0 0)
     ∷ arenaCase (accepted (E ++ S 0 1 4) (0 ∷ 0 ∷ 4294967295 ∷ 0 ∷ []) (row 1 2 (247 ∷ []) ∷ []))
+    ∷ []
+
+-- ---- 02, E8
+-- the same by the newer rule
+abbrev pub byNewer : Example → Example
+byNewer x = record { capabilities = x .capabilities; rule = Newer; types = x .types; members = x .members; answer = x .answer; rows = x .rows }
+
+-- E, S{E} with span 4, and a struct of that at 0 and E at 0, which costs HOST_SHAREABLE
+abbrev pub overlaid : List Words → Example
+overlaid rows = accepted (E ++ S 0 1 4 ++ S 1 2 4) (0 ∷ 0 ∷ 0 ∷ 0 ∷ 1 ∷ 0 ∷ 0 ∷ 0 ∷ 0 ∷ 0 ∷ 0 ∷ 0 ∷ []) rows
+
+-- an array of E of no count, with stride 4
+abbrev pub tail : List ℕ
+tail = 7 ∷ 0 ∷ 1 ∷ 0 ∷ 4 ∷ 0 ∷ []
+
+unfoldable pub newer : List Case
+newer =
+    -- from a struct to the member right after it no distance is asked: older code 4, newer as storage
+    arenaCase (overlaid (row 2 3 (4 ∷ 2 ∷ 1 ∷ 0 ∷ 16 ∷ 0 ∷ 4 ∷ 0 ∷ 0 ∷ 0 ∷ []) ∷ []))
+    ∷ arenaCase (byNewer (overlaid (row 2 3 (0 ∷ 4 ∷ 0 ∷ 0 ∷ 0 ∷ 0 ∷ 4 ∷ 0 ∷ 0 ∷ 0 ∷ []) ∷ [])))
+    -- M7's array: uniform Ok 4
+    ∷ arenaCase (byNewer (accepted (E ++ counted 0 3 4) [] (row 1 3 (0 ∷ 4 ∷ 0 ∷ 0 ∷ 0 ∷ 0 ∷ 4 ∷ 0 ∷ 0 ∷ 0 ∷ []) ∷ [])))
+    -- M3's struct: the span rule is in both
+    ∷ arenaCase (byNewer (accepted (pair 20) (pairMembers 12) (row 2 3 (2 ∷ 2 ∷ 0 ∷ 20 ∷ 16 ∷ 2 ∷ 2 ∷ 0 ∷ 20 ∷ 16 ∷ []) ∷ [])))
+    -- M10's struct: 21 of the distance stays
+    ∷ arenaCase (byNewer (refused (E ++ S 0 1 4 ++ S 1 3 32) (0 ∷ 0 ∷ 0 ∷ 0 ∷ 0 ∷ 0 ∷ 0 ∷ 0 ∷ 1 ∷ 16 ∷ 0 ∷ 0 ∷ 0 ∷ 0 ∷ 0 ∷ 0 ∷ []) 21 2 2 0))
+    -- a runtime array by itself is judged as in storage; a struct with it has code 5 where it was Ok
+    ∷ arenaCase
+    (byNewer (accepted (E ++ tail ++ S 0 1 4) (1 ∷ 0 ∷ 0 ∷ 0 ∷ [])
+    (row 1 3 (0 ∷ 4 ∷ 0 ∷ 0 ∷ 0 ∷ 0 ∷ 4 ∷ 0 ∷ 0 ∷ 0 ∷ []) ∷ row 2 3 (5 ∷ 2 ∷ 0 ∷ 0 ∷ 0 ∷ 0 ∷ 4 ∷ 0 ∷ 0 ∷ 0 ∷ []) ∷ [])))
+    -- the span rule overwrites that: span 6
+    ∷ arenaCase (byNewer (accepted (E ++ tail ++ S 0 1 6) (1 ∷ 0 ∷ 0 ∷ 0 ∷ []) (row 2 3 (2 ∷ 2 ∷ 0 ∷ 6 ∷ 4 ∷ 2 ∷ 2 ∷ 0 ∷ 6 ∷ 4 ∷ []) ∷ [])))
+    -- an earlier error stays: V at 4, then the array at 16
+    ∷ arenaCase
+    (byNewer (accepted (E ++ V3 ++ tail ++ S 0 2 32) (1 ∷ 4 ∷ 0 ∷ 0 ∷ 2 ∷ 16 ∷ 0 ∷ 0 ∷ [])
+    (row 3 3 (3 ∷ 3 ∷ 0 ∷ 4 ∷ 16 ∷ 3 ∷ 3 ∷ 0 ∷ 4 ∷ 16 ∷ []) ∷ [])))
     ∷ []

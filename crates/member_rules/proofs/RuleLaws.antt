@@ -7,11 +7,11 @@ use Rattle.type_info.specs.declared.Row.{Row}
 use Rattle.type_info.specs.declared.Verdict.{Verdict}
 use Rattle.type_info.specs.declared.Previous.{Previous}
 use Rattle.type_info.specs.declared.Distance.{Distance}
-use Rattle.type_info.specs.Verdict.{minUniform, afterDistance, distanceVerdict, unsizedVerdict}
+use Rattle.type_info.specs.Verdict.{afterDistance, distanceVerdict, unsizedVerdict}
 use Rattle.member_rules.specs.MemberRules.{uniformBy, memberUniform}
 
 -- the uniform verdict by a distance that says what the rule says is the rule's
-pub uniform-by : (d : Distance) (previous : Previous) (i j t offset : ℕ) (r : Row) (so-far : Verdict)
-    → ((v : Verdict) → afterDistance d i j offset v ≡ distanceVerdict minUniform i j offset previous v)
-    → uniformBy d i j t offset r so-far ≡ memberUniform minUniform i j t offset previous r so-far
-uniform-by d previous i j t offset r so-far h = ap (unsizedVerdict (bit (r .flags) sizedBit) i j) (h _)
+pub uniform-by : (least : ℕ) (d : Distance) (previous : Previous) (i j t offset : ℕ) (r : Row) (so-far : Verdict)
+    → ((v : Verdict) → afterDistance least d i j offset v ≡ distanceVerdict least i j offset previous v)
+    → uniformBy least d i j t offset r so-far ≡ memberUniform least i j t offset previous r so-far
+uniform-by least d previous i j t offset r so-far h = ap (unsizedVerdict (bit (r .flags) sizedBit) i j) (h _)

@@ -48,10 +48,10 @@ immediatesAfter rows members (suc j) = memberImmediates (rows (memberType member
 
 -- ---- what the code answers, and what it has
 -- the uniform verdict by the distance that the code has
-abbrev pub uniformBy : Distance → (i j t offset : ℕ) → Row → Verdict → Verdict
-uniformBy d i j t offset r so-far =
+abbrev pub uniformBy : (least : ℕ) → Distance → (i j t offset : ℕ) → Row → Verdict → Verdict
+uniformBy least d i j t offset r so-far =
     unsizedVerdict (bit (r .flags) sizedBit) i j
-    (afterDistance d i j offset (memberVerdict i j offset (shareVerdict (bit (r .flags) hostShareableBit) t so-far) (r .uniform)))
+    (afterDistance least d i j offset (memberVerdict i j offset (shareVerdict (bit (r .flags) hostShareableBit) t so-far) (r .uniform)))
 
 -- the flags of a plain member
 abbrev pub isPlain : (flags : ℕ) → Bool

@@ -33,6 +33,7 @@ pub fn is_enough(d: Distance) -> bool
 
 // The uniform verdict after this member.
 pub fn uniform_of(
+    least: u32,
     d: Distance,
     i: u32,
     j: u32,
@@ -41,12 +42,12 @@ pub fn uniform_of(
     row: Row,
     so_far: Verdict,
 ) -> Verdict
-    ensures { λ r. ⌜ r ≡ uniformBy d i j t offset row «so_far» ⌝ }
+    ensures { λ r. ⌜ r ≡ uniformBy least d i j t offset row «so_far» ⌝ }
 {
     let own = row.uniform;
     let shared = type_info::share_verdict(flags::is_host_shareable(row.flags), t, so_far);
     let joined = type_info::member_verdict(i, j, offset, shared, own);
-    let apart = type_info::after_distance(d, i, j, offset, joined);
+    let apart = type_info::after_distance(least, d, i, j, offset, joined);
     type_info::unsized_verdict(flags::is_sized(row.flags), i, j, apart)
 }
 

@@ -11,7 +11,8 @@ use Rattle.flags.specs.Flags.{isSizedData}
 use Rattle.type_info.specs.declared.Previous.{Previous}
 use Rattle.type_info.specs.declared.Row.{Row}
 use Rattle.type_info.specs.declared.Verdict.{Verdict}
-use Rattle.type_info.specs.Verdict.{minUniform, previousOf, distanceVerdict, distanceOk}
+use Rattle.type_info.specs.declared.UniformRule.{UniformRule}
+use Rattle.type_info.specs.Verdict.{leastFor, previousOf, distanceVerdict, distanceOk}
 use Rattle.member_bounds.specs.MemberBounds.{boundsBy, boundsAfter}
 use Rattle.member_rules.specs.MemberRules.{memberUniform, memberStorage, memberImmediates, uniformAfter, storageAfter, immediatesAfter}
 use Rattle.members.specs.declared.State.{State}
@@ -26,24 +27,24 @@ use Rattle.members.specs.declared.Members.the-variants as members
 use Rattle.members.specs.declared.Members.the-variants.{Taken}
 
 -- after j members
-unfoldable pub stateAfter : (inner : ℕ → TypeInner) (rows : ℕ → Row) (i count span : ℕ) (members : List ℕ) → ℕ → Result State
-stateAfter inner rows i count span members j =
+unfoldable pub stateAfter : (least : ℕ) (inner : ℕ → TypeInner) (rows : ℕ → Row) (i count span : ℕ) (members : List ℕ) → ℕ → Result State
+stateAfter least inner rows i count span members j =
     andThen (boundsAfter inner rows count span members j)
     (λ b. ok (record {
       bounds = b;
-      uniform = uniformAfter minUniform inner rows i members j;
+      uniform = uniformAfter least inner rows i members j;
       storage = storageAfter rows i members j;
       immediates = immediatesAfter rows members j;
       previous = previousOf inner members j;
     }))
 
 -- from the state before member j to the one after it. array, next: `isArray` and `structAt` of its type
-unfoldable pub memberStep : (i count span j t offset : ℕ) (array : Bool) (next : Previous) → Row → State → Result State
-memberStep i count span j t offset array next r s =
+unfoldable pub memberStep : (least i count span j t offset : ℕ) (array : Bool) (next : Previous) → Row → State → Result State
+memberStep least i count span j t offset array next r s =
     andThen (boundsBy count span (distanceOk (s .previous) offset) array offset j (r .size) (r .flags) (s .bounds))
     (λ b. ok (record {
       bounds = b;
-      uniform = memberUniform minUniform i j t offset (s .previous) r (s .uniform);
+      uniform = memberUniform least i j t offset (s .previous) r (s .uniform);
       storage = memberStorage i j t offset r (s .storage);
       immediates = memberImmediates (r .immediates) (s .immediates);
       previous = next;
@@ -63,7 +64,7 @@ pub record InOrder (flags running offset end span : ℕ) (previous : Previous) :
   pub apart : running ≤ offset
   pub inside : end ≤ span
   pub within : distanceOk previous offset ≡ true
-  pub enough : (i j : ℕ) (v : Verdict) → distanceVerdict minUniform i j offset previous v ≡ v
+  pub enough : (rule : UniformRule) (i j : ℕ) (v : Verdict) → distanceVerdict (leastFor rule) i j offset previous v ≡ v
 
 -- what is taken as a member in order is the member's step; nothing is said of a member that is passed on
 abbrev pub orderedStep : Ordered → Result State → Type 0

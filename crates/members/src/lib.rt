@@ -3,6 +3,7 @@ use member_bounds::Bounded;
 use member_bounds::Bounds;
 use type_info::Previous;
 use type_info::Row;
+use type_info::UniformRule;
 use type_info::Verdict;
 ghost use mathlib.Core.Path.{_≡_};
 ghost use mathlib.Core.Bool.{true};
@@ -10,8 +11,9 @@ ghost use Prim.Native.Nat.{ℕ, _+_, _*_, _≤_, _<_};
 ghost use lib.ListN.{length};
 ghost use Rattle.records.specs.Record.{memberWords, memberType, typeInner};
 ghost use Rattle.records.specs.Result.{ok};
+ghost use Rattle.type_info.specs.declared.UniformRule as rule;
 ghost use Rattle.type_info.specs.TypeInfo.{rowsIn, verdictIn};
-ghost use Rattle.type_info.specs.Verdict.{okVerdict, shareVerdict, memberVerdict, structAt, previousOf};
+ghost use Rattle.type_info.specs.Verdict.{leastFor, okVerdict, shareVerdict, memberVerdict, structAt, previousOf};
 ghost use Rattle.member_bounds.specs.MemberBounds.{isArray};
 ghost use Rattle.members.specs.Members.{memberStep, stateAfter, steppedResult, membersResult, InOrder, orderedStep};
 
@@ -48,6 +50,7 @@ pub enum Members {
 
 // One member of type t, in 01's order.
 fn member(
+    rule: UniformRule,
     i: u32,
     count: u32,
     span: u32,
@@ -59,7 +62,7 @@ fn member(
     row: Row,
     state: State,
 ) -> Stepped
-    ensures { λ r. ⌜ steppedResult j r ≡ memberStep i count span j t offset array next row state ⌝ }
+    ensures { λ r. ⌜ steppedResult j r ≡ memberStep (leastFor rule) i count span j t offset array next row state ⌝ }
 {
     let so_far = state.bounds;
     let previous = state.previous;
@@ -79,7 +82,8 @@ fn member(
         so_far,
     ) {
         Bounded::Within(bounds) => {
-            let uniform = member_rules::uniform_of(d, i, j, t, offset, row, uniform_so_far);
+            let least = type_info::least_for(rule);
+            let uniform = member_rules::uniform_of(least, d, i, j, t, offset, row, uniform_so_far);
             let storage = member_rules::storage_of(i, j, t, offset, row, storage_so_far);
             let immediates = member_rules::immediates_of(row.immediates, immediates_so_far);
             Stepped::Took(State {
@@ -192,7 +196,7 @@ fn ordered_member(
 ) -> Ordered
     requires { ⌜ t < i ⌝ }
     requires { ⌜ length (now rows) ≡ i * 14 ⌝ }
-    ensures { λ r. ⌜ ((count : ℕ) → orderedStep r (memberStep i count span j t offset (isArray (typeInner (now (types .entry)) t)) (structAt (typeInner (now (types .entry)) t) offset) (rowsIn (now (rows .entry)) t) state)) ⌝ }
+    ensures { λ r. ⌜ ((rule : rule.UniformRule) (count : ℕ) → orderedStep r (memberStep (leastFor rule) i count span j t offset (isArray (typeInner (now (types .entry)) t)) (structAt (typeInner (now (types .entry)) t) offset) (rowsIn (now (rows .entry)) t) state)) ⌝ }
 {
     let so_far = state.bounds;
     let previous = state.previous;
@@ -218,7 +222,7 @@ fn ordered_member(
     })
 }
 
-// The members of struct i from `taken` on, up to the first for which `member` is needed.
+// The members of struct i from `taken` on, up to the first for which `member` is needed. They are taken alike by either rule.
 fn ordered_members(
     types: &[u32],
     rows: &[u32],
@@ -233,10 +237,9 @@ fn ordered_members(
     requires { ⌜ length (now part) ≡ count * memberWords ⌝ }
     requires { ⌜ ((j : ℕ) → j < count → memberType (now part) j < i) ⌝ }
     requires { ⌜ taken ≤ count ⌝ }
-    requires { ⌜ stateAfter (typeInner (now types)) (rowsIn (now rows)) i count span (now part) taken ≡ ok before ⌝ }
     ensures { λ r. ⌜ taken ≤ r .taken ⌝ }
     ensures { λ r. ⌜ r .taken ≤ count ⌝ }
-    ensures { λ r. ⌜ stateAfter (typeInner (now (types .entry))) (rowsIn (now (rows .entry))) i count span (now (part .entry)) (r .taken) ≡ ok (r .state) ⌝ }
+    ensures { λ r. ⌜ ((rule : rule.UniformRule) → stateAfter (leastFor rule) (typeInner (now (types .entry))) (rowsIn (now (rows .entry))) i count span (now (part .entry)) taken ≡ ok before → stateAfter (leastFor rule) (typeInner (now (types .entry))) (rowsIn (now (rows .entry))) i count span (now (part .entry)) (r .taken) ≡ ok (r .state)) ⌝ }
 {
     let mut state = before;
     let mut j: u32 = taken;
@@ -258,6 +261,7 @@ fn ordered_members(
 
 // Member j by every rule.
 fn step(
+    rule: UniformRule,
     types: &[u32],
     rows: &[u32],
     i: u32,
@@ -268,20 +272,21 @@ fn step(
     state: State,
 ) -> Stepped
     requires { ⌜ length (now rows) ≡ i * 14 ⌝ }
-    requires { ⌜ stateAfter (typeInner (now types)) (rowsIn (now rows)) i count span (now part) j ≡ ok state ⌝ }
-    ensures { λ r. ⌜ steppedResult j r ≡ stateAfter (typeInner (now (types .entry))) (rowsIn (now (rows .entry))) i count span (now (part .entry)) (j + 1) ⌝ }
+    requires { ⌜ stateAfter (leastFor rule) (typeInner (now types)) (rowsIn (now rows)) i count span (now part) j ≡ ok state ⌝ }
+    ensures { λ r. ⌜ steppedResult j r ≡ stateAfter (leastFor rule) (typeInner (now (types .entry))) (rowsIn (now (rows .entry))) i count span (now (part .entry)) (j + 1) ⌝ }
 {
     let ty = records::member_type(part, j);
     let offset = records::member_offset(part, j);
     let array = member_bounds::is_array(types, ty);
     let next = member_rules::struct_at(types, ty, offset);
     let row = type_rows::row_at(rows, ty);
-    member(i, count, span, j, ty, offset, array, next, row, state)
+    member(rule, i, count, span, j, ty, offset, array, next, row, state)
 }
 
 // The members of struct i from `taken` on, whose rows are in part; rows has those of the types before it. After one that takes every rule,
 // those in order are taken together again.
 pub fn members_of(
+    rule: UniformRule,
     types: &[u32],
     rows: &[u32],
     i: u32,
@@ -295,8 +300,8 @@ pub fn members_of(
     requires { ⌜ length (now part) ≡ count * memberWords ⌝ }
     requires { ⌜ ((j : ℕ) → j < count → memberType (now part) j < i) ⌝ }
     requires { ⌜ taken ≤ count ⌝ }
-    requires { ⌜ stateAfter (typeInner (now types)) (rowsIn (now rows)) i count span (now part) taken ≡ ok before ⌝ }
-    ensures { λ r. ⌜ membersResult r ≡ stateAfter (typeInner (now (types .entry))) (rowsIn (now (rows .entry))) i count span (now (part .entry)) count ⌝ }
+    requires { ⌜ stateAfter (leastFor rule) (typeInner (now types)) (rowsIn (now rows)) i count span (now part) taken ≡ ok before ⌝ }
+    ensures { λ r. ⌜ membersResult r ≡ stateAfter (leastFor rule) (typeInner (now (types .entry))) (rowsIn (now (rows .entry))) i count span (now (part .entry)) count ⌝ }
 {
     let mut state = before;
     let mut j: u32 = taken;
@@ -307,7 +312,7 @@ pub fn members_of(
         if at == count {
             return Members::Taken(there);
         }
-        match step(types, rows, i, part, count, span, at, there) {
+        match step(rule, types, rows, i, part, count, span, at, there) {
             Stepped::Took(after) => {
                 state = after;
             }

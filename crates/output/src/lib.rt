@@ -196,23 +196,24 @@ pub const RETURN: u32 = 10;
 pub fn usage_line(command: arguments::Command) -> u32 {
     match command {
         arguments::Command::Capabilities => 11,
-        arguments::Command::TypeRecord => 12,
-        arguments::Command::MemberRecord => 13,
-        arguments::Command::Layout => 14,
-        arguments::Command::Judge => 15,
-        arguments::Command::Check => 16,
-        arguments::Command::Members => 17,
-        arguments::Command::Slots => 18,
-        arguments::Command::Range => 19,
-        arguments::Command::Place => 20,
-        arguments::Command::Report => 21,
-        arguments::Command::Plain => 22,
-        arguments::Command::Pass => 23,
-        arguments::Command::SetRange => 24,
-        arguments::Command::Choose => 25,
-        arguments::Command::Run => 26,
-        arguments::Command::Clear => 27,
-        arguments::Command::Unknown => 28,
+        arguments::Command::Rule => 12,
+        arguments::Command::TypeRecord => 13,
+        arguments::Command::MemberRecord => 14,
+        arguments::Command::Layout => 15,
+        arguments::Command::Judge => 16,
+        arguments::Command::Check => 17,
+        arguments::Command::Members => 18,
+        arguments::Command::Slots => 19,
+        arguments::Command::Range => 20,
+        arguments::Command::Place => 21,
+        arguments::Command::Report => 22,
+        arguments::Command::Plain => 23,
+        arguments::Command::Pass => 24,
+        arguments::Command::SetRange => 25,
+        arguments::Command::Choose => 26,
+        arguments::Command::Run => 27,
+        arguments::Command::Clear => 28,
+        arguments::Command::Unknown => 29,
     }
 }
 
@@ -228,6 +229,7 @@ fn put_why(out: &mut Buffer, at: usize, why: u32) -> usize {
 : a NUL byte stands in it
 : a carriage return stands before its end
 : caps takes one number
+: rule takes one number
 : type takes a kind and at most 5 words
 : member takes a type and an offset, and may take a location and a blend source
 : layout takes no number
@@ -244,7 +246,7 @@ fn put_why(out: &mut Buffer, at: usize, why: u32) -> usize {
 : choose takes a type
 : run takes no number
 : clear takes no number
-: no such command; there are caps, type, member, layout, judge, check, members, slots, range, place, report, plain, pass, set, choose, run and clear
+: no such command; there are caps, rule, type, member, layout, judge, check, members, slots, range, place, report, plain, pass, set, choose, run and clear
 ";
     let mut end = at;
     let mut line: u32 = 2;

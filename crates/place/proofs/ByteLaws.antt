@@ -24,6 +24,7 @@ use Rattle.type_layout.proofs.AcceptedParts.{layout-parts}
 use Rattle.layouter.proofs.LayoutAccepted.{accepted-step}
 use Rattle.flags.specs.Flags.{bit, sizedBit}
 use Rattle.flags.proofs.BitLaws.{bit-and}
+use Rattle.type_info.specs.Verdict.{minStorage}
 use Rattle.valid.specs.Arena.{row}
 use Rattle.valid.proofs.AcceptedLaws.{AcceptedTypes, base-sized, runtime-array-row, struct-member}
 use Rattle.steps.specs.declared.Step.the-variants.{To, Column}
@@ -35,7 +36,7 @@ use Rattle.place.proofs.DescentLaws.{descent}
 
 -- whether type t is SIZED
 abbrev isSized : (c : ℕ) (types : ℕ → Decoded) → ℕ → Bool
-isSized c types t = bit (row c types t .flags) sizedBit
+isSized c types t = bit (row minStorage c types t .flags) sizedBit
 
 -- what a step adds: a 32-bit number, or less than 2 ^ 63 from a runtime array, which is not SIZED, to its base, which is
 abbrev Added : (sized sized′ : Bool) (bytes : ℕ) → Type 0
@@ -111,14 +112,14 @@ module _ (c : ℕ) (types : ℕ → Decoded) (n : ℕ) (acc : AcceptedTypes c ty
       inl (rw (← g .2) (omega arith))
   added-of t l (RuntimeArray base stride) e s ty bytes q =
       let g = runtime-array-step base stride (types t .members) s ty bytes q in
-      let a = runtime-array-row c types n acc t l base stride e .1 in
+      let a = runtime-array-row minStorage c types n acc t l base stride e .1 in
       let m : stride ≤ 2147483647 = runtime-array-small t l base stride e in
       let w : s ≤ 4294967295 = omega (arith, g .0) in
       let p = mul-within s stride w m in
-      rw (← g .1, ← g .2) (inr (λ z. bit-and (row c types base .flags) 149 sizedBit (rw (a .flags) at z) .1, base-sized a, omega arith))
+      rw (← g .1, ← g .2) (inr (λ z. bit-and (row minStorage c types base .flags) 149 sizedBit (rw (a .flags) at z) .1, base-sized a, omega arith))
   added-of t l (Struct count span) e s ty bytes q =
       let g = struct-step count span (types t .members) s ty bytes q in
-      let m = struct-member c types n acc t l count span e s (g .0) .fits in
+      let m = struct-member minStorage c types n acc t l count span e s (g .0) .fits in
       inl (rw (← g .2) (omega arith))
   added-of t l (Other o) e s ty bytes q = other-step o (types t .members) s ty bytes q
 
@@ -135,7 +136,7 @@ module _ (c : ℕ) (types : ℕ → Decoded) (n : ℕ) (acc : AcceptedTypes c ty
         most = λ t. mostFrom (isSized c types t) t;
         fits = λ t l. most-fits (isSized c types t) t (omega arith);
         step = λ t s ty bytes l q.
-            let k = descent c types n acc t l s ty bytes q in
+            let k = descent minStorage c types n acc t l s ty bytes q in
             let a = added-of t l (types t .inner) refl s ty bytes q in
             (omega (arith, k .earlier), step-within (isSized c types t) (isSized c types ty) t ty bytes (k .earlier) (k .sized) a);
         column = λ t s bytes l q. number-within (isSized c types t) t bytes (column-added t l s bytes q);

@@ -1,6 +1,7 @@
 // The place lookup: from a type along steps to the byte place of a leaf.
 use descent::Place;
 use records::Outcome;
+use type_info::UniformRule;
 ghost use mathlib.Core.Path.{_≡_};
 ghost use Rattle.valid.specs.Arena.{arenaWords};
 ghost use Rattle.place.specs.Place.{placeAnswer, lookupAnswer};
@@ -37,14 +38,15 @@ pub fn lookup(
     types: &[u32],
     members: &[u32],
     capabilities: u32,
+    rule: UniformRule,
     rows: &mut [u32],
     start: u32,
     steps: &[u32],
 ) -> PlaceAnswer
     ensures { λ r. ⌜ r ≡ lookupAnswer capabilities (now (types .entry)) (now (members .entry)) (now (rows .entry)) start (now (steps .entry)) ⌝ }
-    ensures { λ _. ⌜ now (rows .exit) ≡ arenaWords capabilities (now (types .entry)) (now (members .entry)) (now (rows .entry)) ⌝ }
+    ensures { λ _. ⌜ now (rows .exit) ≡ arenaWords rule capabilities (now (types .entry)) (now (members .entry)) (now (rows .entry)) ⌝ }
 {
-    match valid::check(types, members, capabilities, rows) {
+    match valid::check(types, members, capabilities, rule, rows) {
         Outcome::Accepted => place_answer(descent::place_of(types, members, start, steps)),
         Outcome::Refused {
             number,

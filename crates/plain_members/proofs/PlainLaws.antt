@@ -19,7 +19,9 @@ use Rattle.type_info.specs.declared.Verdict.{Verdict}
 use Rattle.type_info.specs.declared.Row.{Row}
 use Rattle.type_info.specs.declared.Previous.{Previous}
 use Rattle.type_info.specs.declared.Previous.the-variants.{NoStruct, StructBefore}
-use Rattle.type_info.specs.Verdict.{minUniform, okVerdict, isOk, alignmentIn, distanceOk, distanceVerdict, shareVerdict, memberVerdict, unsizedVerdict}
+use Rattle.type_info.specs.declared.UniformRule.{UniformRule}
+use Rattle.type_info.specs.Verdict.{minUniform, leastFor, okVerdict, isOk, alignmentIn, distanceOk, distanceVerdict, shareVerdict, memberVerdict, unsizedVerdict}
+use Rattle.type_info.proofs.DistanceLaws.{distance-enough}
 use Rattle.member_bounds.specs.MemberBounds.{memberBounds}
 use Rattle.member_rules.specs.MemberRules.{isPlain, memberUniform, memberStorage}
 use Rattle.plain_members.specs.declared.PlainState.{PlainState}
@@ -29,19 +31,19 @@ use Rattle.plain_members.specs.PlainMembers.{leastOf, keepsVerdicts, pla
 pub record Apart (end offset i j : ℕ) (before : Previous) : Type 0 where
   pub clear : end ≤ offset
   pub within : distanceOk before offset ≡ true
-  pub verdict : (v : Verdict) → distanceVerdict minUniform i j offset before v ≡ v
+  pub verdict : (rule : UniformRule) (v : Verdict) → distanceVerdict (leastFor rule) i j offset before v ≡ v
 
 -- an offset from the least one on overlaps nothing and keeps the distance
 pub apart : (end offset i j : ℕ) (before : Previous) → leastOf end before ≤ offset → offset ≤ most → Apart end offset i j before
 unfolding distanceOk distanceVerdict
-apart end offset i j NoStruct h l = record { clear = h; within = refl; verdict = λ v. refl }
+apart end offset i j NoStruct h l = record { clear = h; within = refl; verdict = λ rule v. refl }
 apart end offset i j (StructBefore span at) h l =
     let both = below end (at + roundUp minUniform span) offset h in
     let enough : roundUp minUniform span ≤ offset - at = omega (arith, both .1) in
     record {
       clear = both .0;
       within = rw (le-leb at offset (omega (arith, both .1)), sum-within span (omega (arith, both .1, l)), le-leb (roundUp minUniform span) (offset - at) enough) refl;
-      verdict = λ v. rw (le-leb (roundUp minUniform span) (offset - at) enough) refl;
+      verdict = λ rule v. distance-enough rule i j offset span at v (le-leb (roundUp minUniform span) (offset - at) enough);
     }
   where
     below : (m n k : ℕ) → max m n ≤ k → (m ≤ k) × (n ≤ k)
@@ -116,10 +118,10 @@ module _ (this : TypeInner) (r : Row) (i count span j t offset : ℕ) (before : 
   bounds-step a within fits =
       rw (is-data, is-sized, is-resolved, le-leb (s .end) offset (a .clear), le-leb (offset + r .size) most (omega arith), le-leb (offset + r .size) span within, a .within) refl
 
-  pub uniform-step : Apart (s .end) offset i j before → Kept r offset
-      → memberUniform minUniform i j t offset before r (okVerdict (s .uniform)) ≡ okVerdict (max (s .uniform) (alignmentIn (r .uniform)))
+  pub uniform-step : (rule : UniformRule) → Apart (s .end) offset i j before → Kept r offset
+      → memberUniform (leastFor rule) i j t offset before r (okVerdict (s .uniform)) ≡ okVerdict (max (s .uniform) (alignmentIn (r .uniform)))
   unfolding shareVerdict memberVerdict unsizedVerdict
-  uniform-step a k = rw (is-sized, is-shareable, a .verdict, k .uniformOk, k .uniform) refl
+  uniform-step rule a k = rw (is-sized, is-shareable, a .verdict rule, k .uniformOk, k .uniform) refl
 
   pub storage-step : Kept r offset
       → memberStorage i j t offset r (okVerdict (s .storage)) ≡ okVerdict (max (s .storage) (alignmentIn (r .storage)))

@@ -39,19 +39,19 @@ plainBounds s = record { end = s .end; flags = s .flags }
 
 -- what is taken as a plain member is the member's step, by each rule; nothing is said of a member that is passed on.
 -- this: what the record of its type says
-abbrev pub Stepped : (this : TypeInner) (r : Row) (i count span j t offset : ℕ) → Previous → PlainState → Plain → Type 0
-Stepped this r i count span j t offset before s (Took next) =
+abbrev pub Stepped : (least : ℕ) (this : TypeInner) (r : Row) (i count span j t offset : ℕ) → Previous → PlainState → Plain → Type 0
+Stepped least this r i count span j t offset before s (Took next) =
     (memberBounds count span before this offset j r (plainBounds s) ≡ ok (plainBounds next))
-    × (memberUniform minUniform i j t offset before r (okVerdict (s .uniform)) ≡ okVerdict (next .uniform))
+    × (memberUniform least i j t offset before r (okVerdict (s .uniform)) ≡ okVerdict (next .uniform))
     × (memberStorage i j t offset r (okVerdict (s .storage)) ≡ okVerdict (next .storage))
     × (r .immediates ≡ 0)
     × (leastOf (next .end) (structAt this offset) ≡ next .least)
-Stepped this r i count span j t offset before s Other = Unit {0}
+Stepped least this r i count span j t offset before s Other = Unit {0}
 
 -- what is known after the first `taken` members
-abbrev pub PlainAfter : (inner : ℕ → TypeInner) (rows : ℕ → Row) (i count span : ℕ) (members : List ℕ) (taken : ℕ) → PlainState → Type 0
-PlainAfter inner rows i count span members taken s =
+abbrev pub PlainAfter : (least : ℕ) (inner : ℕ → TypeInner) (rows : ℕ → Row) (i count span : ℕ) (members : List ℕ) (taken : ℕ) → PlainState → Type 0
+PlainAfter least inner rows i count span members taken s =
     (boundsAfter inner rows count span members taken ≡ ok (plainBounds s))
-    × (uniformAfter minUniform inner rows i members taken ≡ okVerdict (s .uniform))
+    × (uniformAfter least inner rows i members taken ≡ okVerdict (s .uniform))
     × (storageAfter rows i members taken ≡ okVerdict (s .storage))
     × (immediatesAfter rows members taken ≡ 0)

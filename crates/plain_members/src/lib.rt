@@ -1,14 +1,15 @@
 // The first members of a struct, as long as none breaks a rule: the member loop of validate_type in naga's valid/type.rs,
 // in fewer tests than `members` takes.
+use type_info::UniformRule;
 ghost use mathlib.Core.Path.{_≡_};
 ghost use Prim.Native.Nat.{ℕ, _+_, _*_, _≤_, _<_};
 ghost use lib.ListN.{length};
 ghost use Rattle.records.specs.Record.{structKind, memberWords, memberType, typeInner};
 ghost use Rattle.flags.specs.Flags.{startingFlags};
 ghost use Rattle.type_info.specs.declared.Previous as previous;
+ghost use Rattle.type_info.specs.declared.UniformRule as rule;
 ghost use Rattle.type_info.specs.TypeInfo.{rowsIn};
-ghost use Rattle.type_info.specs.Verdict.{minUniform, minStorage};
-ghost use Rattle.type_info.specs.Verdict.{structAt};
+ghost use Rattle.type_info.specs.Verdict.{minStorage, leastFor, structAt};
 ghost use Rattle.plain_members.specs.PlainMembers.{leastOf, keepsVerdicts, Stepped, PlainAfter};
 
 // What is known after them: the running end, the flags, the alignment in each verdict, both of them Ok,
@@ -72,7 +73,7 @@ fn plain_member(
 ) -> Plain
     requires { ⌜ t * 14 + 14 ≤ length (now rows) ⌝ }
     requires { ⌜ t * 6 + 6 ≤ length (now types) ⌝ }
-    ensures { λ r. ⌜ ((count j : ℕ) (before : previous.Previous) → leastOf (state .end) before ≡ state .least → Stepped (typeInner (now (types .entry)) t) (rowsIn (now (rows .entry)) t) i count span j t offset before state r) ⌝ }
+    ensures { λ r. ⌜ ((rule : rule.UniformRule) (count j : ℕ) (before : previous.Previous) → leastOf (state .end) before ≡ state .least → Stepped (leastFor rule) (typeInner (now (types .entry)) t) (rowsIn (now (rows .entry)) t) i count span j t offset before state r) ⌝ }
 {
     let flags = rows::own_word(rows, t, rows::FLAGS);
     let end = member_rules::end_of(offset, rows::own_word(rows, t, rows::SIZE));
@@ -104,14 +105,14 @@ fn plain_member(
 }
 
 // Before the first member.
-fn start() -> PlainState
-    ensures { λ r. ⌜ r ≡ record { end = 0; flags = startingFlags structKind; uniform = minUniform; storage = minStorage; least = 0 } ⌝ }
+fn start(rule: UniformRule) -> PlainState
+    ensures { λ r. ⌜ r ≡ record { end = 0; flags = startingFlags structKind; uniform = leastFor rule; storage = minStorage; least = 0 } ⌝ }
 {
     let flags = flags::starting_flags(flags::STRUCT_KIND);
     PlainState {
         end: 0,
         flags,
-        uniform: type_info::MIN_UNIFORM,
+        uniform: type_info::least_for(rule),
         storage: type_info::MIN_STORAGE,
         least: 0,
     }
@@ -119,6 +120,7 @@ fn start() -> PlainState
 
 // The members of struct i up to the first that breaks a rule; rows has those of the types before it.
 pub fn plain_members(
+    rule: UniformRule,
     types: &[u32],
     rows: &[u32],
     i: u32,
@@ -131,9 +133,9 @@ pub fn plain_members(
     requires { ⌜ length (now part) ≡ count * memberWords ⌝ }
     requires { ⌜ ((j : ℕ) → j < count → memberType (now part) j < i) ⌝ }
     ensures { λ r. ⌜ r .taken ≤ count ⌝ }
-    ensures { λ r. ⌜ PlainAfter (typeInner (now (types .entry))) (rowsIn (now (rows .entry))) i count span (now (part .entry)) (r .taken) (r .state) ⌝ }
+    ensures { λ r. ⌜ PlainAfter (leastFor rule) (typeInner (now (types .entry))) (rowsIn (now (rows .entry))) i count span (now (part .entry)) (r .taken) (r .state) ⌝ }
 {
-    let mut state = start();
+    let mut state = start(rule);
     let last = count as usize;
     let mut j: usize = 0;
     while j < last {

@@ -67,7 +67,7 @@ module _ (ts ms rows lent : List ℕ) (n : ℕ) (r : RowsOf ts ms rows) (all : n
   sum-word : (k : ℕ) → k < n → carried (decoded ts ms) k + wasted (decoded ts ms) k ≡ rowWord rows k 0
   sum-word k h =
       carried-and-wasted .both (decoded ts ms) k
-      ∙ sym (size-word ts ms rows r k (omega arith) ∙ size-of (r .capabilities) (decoded ts ms) (typeCount ts) (accepted ts ms rows r) k (omega arith) (typeInner ts k) refl)
+      ∙ sym (size-word ts ms rows r k (omega arith) ∙ size-of (r .rule) (r .capabilities) (decoded ts ms) (typeCount ts) (accepted ts ms rows r) k (omega arith) (typeInner ts k) refl)
 
   pub all-carry : AllCarry ts rows kept n
   all-carry k h e = omega (arith, carried-word k h e, sum-word k h)

@@ -14,6 +14,8 @@ use Rattle.records.specs.declared.TypeInner.the-variants.{Plain, Array, Runtime
 use Rattle.type_methods.specs.TypeMethods.{sizeOf}
 use Rattle.flags.specs.Flags.{bit, hostShareableBit}
 use Rattle.flags.proofs.BitLaws.{bit-and}
+use Rattle.type_info.specs.declared.UniformRule.{UniformRule}
+use Rattle.type_info.specs.Verdict.{leastFor}
 use Rattle.valid.specs.Arena.{row}
 use Rattle.valid.proofs.AcceptedLaws.{AcceptedTypes, plain-row, array-row, runtime-array-row, struct-row, struct-member, member-earlier}
 use Rattle.carried.specs.Count.{some, sum}
@@ -56,42 +58,42 @@ members-bytes-is types earlier members (suc j) h =
     rw (members-bytes-is types earlier members j (λ i l. h i (omega arith)), h j (omega arith))
     (plus-bytes (some (λ i. narrow types (memberType members i)) j) (narrow types (memberType members j)) (sum (λ i. carried types (memberType members i)) j) (carried types (memberType members j)))
 
-module _ (c : ℕ) (types : ℕ → Decoded) (n : ℕ) (acc : AcceptedTypes c types n) where
+module _ (rule : UniformRule) (c : ℕ) (types : ℕ → Decoded) (n : ℕ) (acc : AcceptedTypes c types n) where
   abbrev pub Shareable : ℕ → Type 0
-  Shareable t = T (bit (row c types t .flags) hostShareableBit)
+  Shareable t = T (bit (row (leastFor rule) c types t .flags) hostShareableBit)
 
-  module _ (size : ℕ → ℕ) (earlier : ℕ → LeafBytes) (t : ℕ) (l : t < n) (o : Shareable t) (sizes : (u : ℕ) → u < t → size u ≡ row c types u .size)
+  module _ (size : ℕ → ℕ) (earlier : ℕ → LeafBytes) (t : ℕ) (l : t < n) (o : Shareable t) (sizes : (u : ℕ) → u < t → size u ≡ row (leastFor rule) c types u .size)
       (before : (u : ℕ) → u < t → Shareable u → earlier u ≡ leafBytes types u) where
-    pub leaf-bytes-is : (this : TypeInner) → types t .inner ≡ this → (own : ℕ) → own ≡ row c types t .size → leafBytesOf size earlier this (types t .members) own ≡ leafBytes types t
+    pub leaf-bytes-is : (this : TypeInner) → types t .inner ≡ this → (own : ℕ) → own ≡ row (leastFor rule) c types t .size → leafBytesOf size earlier this (types t .members) own ≡ leafBytes types t
     unfolding leafBytesOf narrowOf
     leaf-bytes-is (Plain leaf) e own q =
-        ap (λ (s : ℕ). Carried (leafCarried leaf s)) (q ∙ plain-row c types n acc t l leaf e .size)
-        ∙ bytes-carried types t _ (narrow-is types t (Plain leaf) e) (carried-leaf c types n acc t l leaf e)
+        ap (λ (s : ℕ). Carried (leafCarried leaf s)) (q ∙ plain-row (leastFor rule) c types n acc t l leaf e .size)
+        ∙ bytes-carried types t _ (narrow-is types t (Plain leaf) e) (carried-leaf rule c types n acc t l leaf e)
     leaf-bytes-is (Array base count stride) e own q =
-        let a = array-row c types n acc t l base count stride e in
+        let a = array-row (leastFor rule) c types n acc t l base count stride e in
         let b = a .0 in
-        let s = size-of c types n acc base (omega arith) (types base .inner) refl in
-        let h = bit-and (row c types base .flags) 247 hostShareableBit (rw (a .1 .flags) at o) .0 in
+        let s = size-of rule c types n acc base (omega arith) (types base .inner) refl in
+        let h = bit-and (row (leastFor rule) c types base .flags) 247 hostShareableBit (rw (a .1 .flags) at o) .0 in
         rw (before base b h, sizes base b ∙ s)
         (array-bytes-is types t base count stride (narrow-array types t base count stride e b)
-        (λ f. carried-array c types n acc t l (strides-wide c types n acc t l f) base count stride e))
+        (λ f. carried-array rule c types n acc t l (strides-wide rule c types n acc t l f) base count stride e))
     leaf-bytes-is (RuntimeArray base stride) e own q =
-        let a = runtime-array-row c types n acc t l base stride e in
+        let a = runtime-array-row (leastFor rule) c types n acc t l base stride e in
         let b = a .0 in
-        let s = size-of c types n acc base (omega arith) (types base .inner) refl in
-        let h = bit-and (row c types base .flags) 149 hostShareableBit (rw (a .1 .flags) at o) .0 in
+        let s = size-of rule c types n acc base (omega arith) (types base .inner) refl in
+        let h = bit-and (row (leastFor rule) c types base .flags) 149 hostShareableBit (rw (a .1 .flags) at o) .0 in
         rw (before base b h, sizes base b ∙ s)
         (array-bytes-is types t base 1 stride (narrow-runtime-array types t base stride e b)
-        (λ f. carried-runtime-array c types n acc t l (strides-wide c types n acc t l f) base stride e ∙ sym (one-mul (carried types base))))
+        (λ f. carried-runtime-array rule c types n acc t l (strides-wide rule c types n acc t l f) base stride e ∙ sym (one-mul (carried types base))))
     leaf-bytes-is (Struct count span) e own q =
         let members = types t .members in
-        let b = member-earlier c types n acc t l count span e in
-        let r = struct-row c types n acc t l count span e in
+        let b = member-earlier (leastFor rule) c types n acc t l count span e in
+        let r = struct-row (leastFor rule) c types n acc t l count span e in
         members-bytes-is types earlier members count
-        (λ i k. before (memberType members i) (b i k) (struct-member c types n acc t l count span e i k .flag hostShareableBit (rw (r .flags hostShareableBit refl) at o)))
+        (λ i k. before (memberType members i) (b i k) (struct-member (leastFor rule) c types n acc t l count span e i k .flag hostShareableBit (rw (r .flags hostShareableBit refl) at o)))
         ∙ go (some (λ i. narrow types (memberType members i)) count) (narrow-struct types t count span e b)
       where
         go : (x : Bool) → narrow types t ≡ x → pick x Narrow (Carried (sum (λ i. carried types (memberType (types t .members) i)) count)) ≡ leafBytes types t
         go true f = bytes-narrow types t f
-        go false f = bytes-carried types t _ f (carried-struct c types n acc t l (strides-wide c types n acc t l f) o count span e)
-    leaf-bytes-is (Other x) e own q = bytes-carried types t 0 (narrow-is types t (Other x) e) (carried-other c types n acc t x e)
+        go false f = bytes-carried types t _ f (carried-struct rule c types n acc t l (strides-wide rule c types n acc t l f) o count span e)
+    leaf-bytes-is (Other x) e own q = bytes-carried types t 0 (narrow-is types t (Other x) e) (carried-other rule c types n acc t x e)

@@ -20,6 +20,7 @@ use Rattle.flags.specs.Flags.{bit, hostShareableBit}
 use Rattle.rows.specs.Rows.{rowWord}
 use Rattle.type_info.specs.declared.Row.{Row}
 use Rattle.type_info.specs.TypeInfo.{wordsOf}
+use Rattle.type_info.specs.Verdict.{leastFor}
 use Rattle.valid.specs.Arena.{row, rowAt}
 use Rattle.valid.proofs.AcceptedLaws.{AcceptedTypes}
 use Rattle.valid.proofs.ArenaLaws.{accepted-types}
@@ -71,16 +72,16 @@ module _ (ts ms rows : List ℕ) where
 
 module _ (ts ms rows : List ℕ) (r : RowsOf ts ms rows) where
   abbrev pub rowFor : ℕ → Row
-  rowFor k = row (r .capabilities) (decoded ts ms) k
+  rowFor k = row (leastFor (r .rule)) (r .capabilities) (decoded ts ms) k
 
   pub accepted : AcceptedTypes (r .capabilities) (decoded ts ms) (typeCount ts)
   accepted = accepted-types (r .capabilities) ts ms (r .accepted)
 
-  row-word-is : (k j : ℕ) → k < typeCount ts → j < rowWords → rowWord rows k j ≡ getD (rowAt (r .capabilities) ts ms k) j 0
+  row-word-is : (k j : ℕ) → k < typeCount ts → j < rowWords → rowWord rows k j ≡ getD (rowAt (leastFor (r .rule)) (r .capabilities) ts ms k) j 0
   row-word-is k j h l =
       sym (getD-take (typeCount ts * rowWords) rows (k * rowWords + j) 0 (omega arith))
       ∙ ap (λ (xs : List ℕ). getD xs (k * rowWords + j) 0) (r .words)
-      ∙ flat-word (rowAt (r .capabilities) ts ms) rowWords (λ i. row-length (rowFor i)) (typeCount ts) k j h l
+      ∙ flat-word (rowAt (leastFor (r .rule)) (r .capabilities) ts ms) rowWords (λ i. row-length (rowFor i)) (typeCount ts) k j h l
 
   pub size-word : (k : ℕ) → k < typeCount ts → rowWord rows k 0 ≡ rowFor k .size
   unfolding wordsOf
@@ -101,7 +102,7 @@ module _ (ts ms rows : List ℕ) (r : RowsOf ts ms rows) where
           ≡ pick b (leafBytes (decoded ts ms) i) (Carried 0)
       go false q = refl
       go true q =
-          leaf-bytes-is (r .capabilities) (decoded ts ms) (typeCount ts) accepted (λ k. rowWord rows k 0) (entryIn (take (i * reportWidth) report)) i h
+          leaf-bytes-is (r .rule) (r .capabilities) (decoded ts ms) (typeCount ts) accepted (λ k. rowWord rows k 0) (entryIn (take (i * reportWidth) report)) i h
           (rw (← flags-word i h, q) tt) (λ u l. size-word u (omega arith))
           (λ u l s.
           let t : bit (rowWord rows u 2) hostShareableBit ≡ true = rw (flags-word u (omega arith)) (T-true _ s) in
@@ -118,9 +119,9 @@ module _ (ts ms rows : List ℕ) (r : RowsOf ts ms rows) where
       go true false =
           omega (
             arith,
-            carried-within (r .capabilities) (decoded ts ms) (typeCount ts) accepted i,
+            carried-within (r .rule) (r .capabilities) (decoded ts ms) (typeCount ts) accepted i,
             size-word i h,
-            size-of (r .capabilities) (decoded ts ms) (typeCount ts) accepted i h (typeInner ts i) refl,
+            size-of (r .rule) (r .capabilities) (decoded ts ms) (typeCount ts) accepted i h (typeInner ts i) refl,
           )
 
   pub bounds-at : (i : ℕ) → i < typeCount ts → InnerBounds (typeInner ts i)

@@ -19,7 +19,10 @@ use Rattle.records.proofs.TableLaws.{flat-length}
 use Rattle.flags.specs.Flags.{bit, hostShareableBit}
 use Rattle.type_flags.specs.TypeFlags.{isStruct}
 use Rattle.rows.specs.Rows.{rowWord, cleared}
+use Rattle.type_info.specs.declared.UniformRule.{UniformRule}
+use Rattle.type_info.specs.Verdict.{leastFor}
 use Rattle.valid.specs.Arena.{row, rowAt, arenaOutcome, arenaAnswer, arenaRows, arenaWords}
+use Rattle.valid.proofs.CommonLaws.{row-common-flags}
 use Rattle.valid.proofs.JudgeRows.{row-length}
 use Rattle.place.proofs.LookupLaws.{answer-accepted}
 use Rattle.carried.specs.Carried.{carried, wasted, narrow}
@@ -64,7 +67,7 @@ lengths c ts ms rows report e =
       few = tables-fitting (length ts) (length ms) (length rows) (q .1) .types;
     }
 
-module _ (c : ℕ) (ts ms rows report : List ℕ) (fits : lengthsFit c (length ts) (length ms) (length rows) (length report) ≡ true) where
+module _ (rule : UniformRule) (c : ℕ) (ts ms rows report : List ℕ) (fits : lengthsFit c (length ts) (length ms) (length rows) (length report) ≡ true) where
   l : Lengths c ts ms rows report
   l = lengths c ts ms rows report fits
 
@@ -76,7 +79,7 @@ module _ (c : ℕ) (ts ms rows report : List ℕ) (fits : lengthsFit c (length t
   -- the arena's refusal
   pub refused-same : {number ty member detail : ℕ} → arenaAnswer c ts ms rows ≡ Refused number ty member detail
       → (answer.Refused number ty member detail ≡ reportAnswer c ts ms rows report)
-      × (arenaWords c ts ms rows ≡ reportRows c ts ms rows report)
+      × (arenaWords rule c ts ms rows ≡ reportRows rule c ts ms rows report)
       × (cleared report (typeCount ts * reportWidth) ≡ reportWords c ts ms rows report)
   unfolding reportAnswer reportRows reportWords reportOutcome
   refused-same e = let o = sym outcome-is ∙ e in (rw (fits, o) refl, rw fits refl, rw (fits, o) refl)
@@ -86,24 +89,25 @@ module _ (c : ℕ) (ts ms rows report : List ℕ) (fits : lengthsFit c (length t
     outcome = sym outcome-is ∙ e
 
     -- the rows of the accepted types
-    pub rows-made : RowsOf ts ms (arenaWords c ts ms rows)
+    pub rows-made : RowsOf ts ms (arenaWords rule c ts ms rows)
     unfolding arenaWords arenaRows
     rows-made =
         record {
           capabilities = c;
+          rule = rule;
           accepted = answer-accepted c ts ms rows e;
           words =
               rw (l .known, l .fit, outcome)
-              (take-at (flat (rowAt c ts ms) (typeCount ts)) (drop (typeCount ts * rowWords) rows) (typeCount ts * rowWords)
-              (flat-length (rowAt c ts ms) rowWords (λ i. row-length (row c (decoded ts ms) i)) (typeCount ts)));
+              (take-at (flat (rowAt (leastFor rule) c ts ms) (typeCount ts)) (drop (typeCount ts * rowWords) rows) (typeCount ts * rowWords)
+              (flat-length (rowAt (leastFor rule) c ts ms) rowWords (λ i. row-length (row (leastFor rule) c (decoded ts ms) i)) (typeCount ts)));
         }
 
     abbrev made : List ℕ
-    made = arenaWords c ts ms rows
+    made = arenaWords rule c ts ms rows
 
     same-reported : (k : ℕ) → k < typeCount ts → isReported ts made k ≡ reported c (decoded ts ms) k
     unfolding rows-made
-    same-reported k h = ap (λ (f : ℕ). isStruct (typeInner ts k) && bit f hostShareableBit) (flags-word ts ms made rows-made k h)
+    same-reported k h = ap (λ (f : ℕ). isStruct (typeInner ts k) && bit f hostShareableBit) (flags-word ts ms made rows-made k h ∙ row-common-flags (leastFor rule) c (decoded ts ms) k)
 
     same-27 : (k : ℕ) → k < typeCount ts → narrowStruct ts ms made k ≡ narrowAt c (decoded ts ms) k
     same-27 k h =
@@ -144,7 +148,7 @@ module _ (c : ℕ) (ts ms rows report : List ℕ) (fits : lengthsFit c (length t
     by-words (Refused number ty member detail) = refl
 
     pub filled-same : (fillAnswer ts ms made (typeCount ts) ≡ reportAnswer c ts ms rows report)
-        × (made ≡ reportRows c ts ms rows report)
+        × (made ≡ reportRows rule c ts ms rows report)
         × (fillWords ts ms made (typeCount ts) report ≡ reportWords c ts ms rows report)
     unfolding fillAnswer fillWords reportAnswer reportRows reportWords
     filled-same = (
@@ -154,7 +158,7 @@ module _ (c : ℕ) (ts ms rows report : List ℕ) (fits : lengthsFit c (length t
     )
 
 -- number 1
-pub short-same : (c : ℕ) (ts ms rows report : List ℕ) → lengthsFit c (length ts) (length ms) (length rows) (length report) ≡ false
-    → (answer.Refused 1 0 0 0 ≡ reportAnswer c ts ms rows report) × (rows ≡ reportRows c ts ms rows report) × (report ≡ reportWords c ts ms rows report)
+pub short-same : (rule : UniformRule) (c : ℕ) (ts ms rows report : List ℕ) → lengthsFit c (length ts) (length ms) (length rows) (length report) ≡ false
+    → (answer.Refused 1 0 0 0 ≡ reportAnswer c ts ms rows report) × (rows ≡ reportRows rule c ts ms rows report) × (report ≡ reportWords c ts ms rows report)
 unfolding reportAnswer reportRows reportWords
-short-same c ts ms rows report e = (rw e refl, rw e refl, rw e refl)
+short-same rule c ts ms rows report e = (rw e refl, rw e refl, rw e refl)

@@ -14,6 +14,8 @@ use Rattle.records.specs.declared.Outcome.the-variants.{Accepted, Refused}
 use Rattle.flags.specs.Flags.{bit, hostShareableBit}
 use Rattle.type_flags.specs.TypeFlags.{isStruct}
 use Rattle.rows.specs.Rows.{rowWord, cleared}
+use Rattle.type_info.specs.declared.UniformRule.{UniformRule}
+use Rattle.type_info.specs.Verdict.{leastFor}
 use Rattle.valid.specs.Arena.{rowAt, arena}
 use Rattle.carried.specs.Count.{sum}
 use Rattle.carried.specs.Carried.{carried, wasted}
@@ -27,8 +29,9 @@ use Rattle.report.specs.LeafBytes.{reportWidth, entryWords, pairOf, isNa
 -- the rows are those of the accepted types
 pub record RowsOf (ts ms rows : List ℕ) : Type 0 where
   pub capabilities : ℕ
+  pub rule : UniformRule
   pub accepted : arena capabilities ts ms ≡ Accepted
-  pub words : take (typeCount ts * rowWords) rows ≡ flat (rowAt capabilities ts ms) (typeCount ts)
+  pub words : take (typeCount ts * rowWords) rows ≡ flat (rowAt (leastFor rule) capabilities ts ms) (typeCount ts)
 
 -- what is kept of type k
 abbrev pub entryFor : (ts ms rows : List ℕ) → ℕ → LeafBytes

@@ -15,7 +15,8 @@ use Rattle.records.specs.declared.Outcome.the-variants as outcome
 use Rattle.flags.specs.Flags.{bit, hostShareableBit}
 use Rattle.type_flags.specs.TypeFlags.{isStruct}
 use Rattle.rows.specs.Rows.{cleared}
-use Rattle.valid.specs.Arena.{row, arenaOutcome, arenaWords}
+use Rattle.type_info.specs.declared.UniformRule.{UniformRule}
+use Rattle.valid.specs.Arena.{common, arenaOutcome, arenaWords}
 use Rattle.carried.specs.Count.{sum}
 use Rattle.carried.specs.Carried.{carried, wasted, narrow}
 use Rattle.report.specs.LeafBytes.{reportWidth}
@@ -24,7 +25,7 @@ use Rattle.report.specs.declared.ReportAnswer.the-variants as answer
 
 -- a host-shareable struct
 abbrev pub reported : (c : ℕ) (types : ℕ → Decoded) → ℕ → Bool
-reported c types t = isStruct (types t .inner) && bit (row c types t .flags) hostShareableBit
+reported c types t = isStruct (types t .inner) && bit (common c types t .flags) hostShareableBit
 
 -- number 27: it reaches an array with a stride below its element's size
 abbrev pub narrowAt : (c : ℕ) (types : ℕ → Decoded) → ℕ → Result (Unit {0})
@@ -58,9 +59,9 @@ answerOf c ts ms (outcome.Refused number ty member detail) = answer.Refused numb
 unfoldable pub reportAnswer : (c : ℕ) (ts ms rows report : List ℕ) → ReportAnswer
 reportAnswer c ts ms rows report = pick (reportFits c ts ms rows report) (answerOf c ts ms (reportOutcome c ts ms)) (answer.Refused 1 0 0 0)
 
--- the rows, as the arena check leaves them
-unfoldable pub reportRows : (c : ℕ) (ts ms rows report : List ℕ) → List ℕ
-reportRows c ts ms rows report = pick (reportFits c ts ms rows report) (arenaWords c ts ms rows) rows
+-- the rows, as the arena check leaves them by the chosen uniform rule; answer and report are the same by either
+unfoldable pub reportRows : (rule : UniformRule) (c : ℕ) (ts ms rows report : List ℕ) → List ℕ
+reportRows rule c ts ms rows report = pick (reportFits c ts ms rows report) (arenaWords rule c ts ms rows) rows
 
 -- the report
 abbrev pub reportAfter : (c : ℕ) (ts ms : List ℕ) → Outcome → (report : List ℕ) → List ℕ

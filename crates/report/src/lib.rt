@@ -3,6 +3,7 @@
 use records::Leaf;
 use records::Outcome;
 use records::TypeInner;
+use type_info::UniformRule;
 ghost use mathlib.Core.Path.{_≡_};
 ghost use Prim.Native.Nat.{_+_, _*_, _≤_};
 ghost use lib.ListN.{length, getD};
@@ -353,11 +354,12 @@ pub fn report(
     types: &[u32],
     members: &[u32],
     capabilities: u32,
+    rule: UniformRule,
     rows: &mut [u32],
     report: &mut [u64],
 ) -> ReportAnswer
     ensures { λ r. ⌜ r ≡ reportAnswer capabilities (now (types .entry)) (now (members .entry)) (now (rows .entry)) (now (report .entry)) ⌝ }
-    ensures { λ _. ⌜ now (rows .exit) ≡ reportRows capabilities (now (types .entry)) (now (members .entry)) (now (rows .entry)) (now (report .entry)) ⌝ }
+    ensures { λ _. ⌜ now (rows .exit) ≡ reportRows rule capabilities (now (types .entry)) (now (members .entry)) (now (rows .entry)) (now (report .entry)) ⌝ }
     ensures { λ _. ⌜ now (report .exit) ≡ reportWords capabilities (now (types .entry)) (now (members .entry)) (now (rows .entry)) (now (report .entry)) ⌝ }
 {
     if !lengths_fit(
@@ -375,7 +377,7 @@ pub fn report(
         };
     }
     let n = (types.len() / records::TYPE_WORDS) as u32;
-    match valid::check(types, members, capabilities, rows) {
+    match valid::check(types, members, capabilities, rule, rows) {
         Outcome::Accepted => fill(types, members, rows, report, n),
         Outcome::Refused {
             number,

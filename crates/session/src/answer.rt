@@ -9,6 +9,7 @@ use plain_types::PlainAnswer;
 use records::Outcome;
 use report::ReportAnswer;
 use text::Line;
+use type_info::UniformRule;
 
 fn put_rows(out: &mut Buffer, at: usize, outcome: Outcome, types: &[u32], rows: &Rows) -> usize {
     let end = records::type_count(types) * records::ROW_WORDS;
@@ -32,9 +33,10 @@ fn put_judge(
     types: &[u32],
     members: &[u32],
     capabilities: u32,
+    rule: UniformRule,
     rows: &mut Rows,
 ) -> usize {
-    let outcome = valid::judge(types, members, capabilities, rows);
+    let outcome = valid::judge(types, members, capabilities, rule, rows);
     put_rows(out, at, outcome, types, rows)
 }
 
@@ -44,9 +46,10 @@ fn put_check(
     types: &[u32],
     members: &[u32],
     capabilities: u32,
+    rule: UniformRule,
     rows: &mut Rows,
 ) -> usize {
-    let outcome = valid::check(types, members, capabilities, rows);
+    let outcome = valid::check(types, members, capabilities, rule, rows);
     put_rows(out, at, outcome, types, rows)
 }
 
@@ -56,11 +59,12 @@ fn put_slots(
     types: &[u32],
     members: &[u32],
     capabilities: u32,
+    rule: UniformRule,
     rows: &mut Rows,
     ty: u32,
     offset: u32,
 ) -> usize {
-    let answer = immediates::immediate_slots(types, members, capabilities, rows, ty, offset);
+    let answer = immediates::immediate_slots(types, members, capabilities, rule, rows, ty, offset);
     output::put_slots(out, at, answer)
 }
 
@@ -70,11 +74,12 @@ fn put_place(
     types: &[u32],
     members: &[u32],
     capabilities: u32,
+    rule: UniformRule,
     rows: &mut Rows,
     start: u32,
     steps: &[u32],
 ) -> usize {
-    match place::lookup(types, members, capabilities, rows, start, steps) {
+    match place::lookup(types, members, capabilities, rule, rows, start, steps) {
         PlaceAnswer::Found { byte, leaf } => output::put_place(out, at, byte, leaf),
         PlaceAnswer::Refused {
             number,
@@ -99,10 +104,11 @@ fn put_report(
     types: &[u32],
     members: &[u32],
     capabilities: u32,
+    rule: UniformRule,
     rows: &mut Rows,
 ) -> usize {
     let mut words = [0u64; 2048];
-    match report::report(types, members, capabilities, rows, &mut words) {
+    match report::report(types, members, capabilities, rule, rows, &mut words) {
         ReportAnswer::Totals { carried, wasted } => {
             let own = first_words(&words, records::type_count(types) * 2);
             output::put_report(out, at, carried, wasted, own)
@@ -143,7 +149,8 @@ fn step_of(line: Line, session: Session, arena: &[u32], rows: &mut Rows) -> Trie
             pass,
             types,
             members,
-            session.capabilities,
+            rule_word::capabilities_by(session.rule, session.capabilities),
+            rule_word::rule_of(session.rule),
             rows,
             ty,
         ),
@@ -179,13 +186,14 @@ fn put_answer(
     out: &mut Buffer,
 ) -> usize {
     let at = session.waiting;
-    let capabilities = session.capabilities;
+    let capabilities = rule_word::capabilities_by(session.rule, session.capabilities);
+    let rule = rule_word::rule_of(session.rule);
     let types = commands::part(arena, 0, session.types);
     let members = commands::part(arena, commands::MEMBERS_AT, session.members);
     match line {
         Line::Layout => put_layout(out, at, types, members, rows),
-        Line::Judge => put_judge(out, at, types, members, capabilities, rows),
-        Line::Check => put_check(out, at, types, members, capabilities, rows),
+        Line::Judge => put_judge(out, at, types, members, capabilities, rule, rows),
+        Line::Check => put_check(out, at, types, members, capabilities, rule, rows),
         Line::Members(ty) => output::put_members(
             out,
             at,
@@ -197,6 +205,7 @@ fn put_answer(
             types,
             members,
             capabilities,
+            rule,
             rows,
             ty,
             offset,
@@ -209,12 +218,13 @@ fn put_answer(
                 types,
                 members,
                 capabilities,
+                rule,
                 rows,
                 start,
                 commands::part(numbers, 1, steps as usize + 1),
             )
         }
-        Line::Report => put_report(out, at, types, members, capabilities, rows),
+        Line::Report => put_report(out, at, types, members, capabilities, rule, rows),
         Line::Plain { shape, width } => put_plain(out, at, shape, width),
         _ => at,
     }

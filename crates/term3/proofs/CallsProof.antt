@@ -13,7 +13,9 @@ use Rattle.records.specs.declared.TypeInner.{TypeInner}
 use Rattle.records.specs.declared.TypeInner.the-variants.{Plain, Array, RuntimeArray, Struct, Other}
 use Rattle.rows.specs.Rows.{rowWord}
 use Rattle.type_info.specs.declared.Row.{Row}
+use Rattle.type_info.specs.declared.UniformRule.{UniformRule}
 use Rattle.type_info.specs.TypeInfo.{rowsIn, wordsOf}
+use Rattle.type_info.specs.Verdict.{leastFor}
 use Rattle.valid.specs.Arena.{row, arena, arenaAnswer, arenaWords}
 use Rattle.valid.proofs.AcceptedLaws.{AcceptedTypes, array-row, runtime-array-row}
 use Rattle.valid.proofs.ArenaLaws.{accepted-types}
@@ -41,56 +43,56 @@ place-found c ts ms rows t steps byte leaf e = go (arenaAnswer c ts ms rows) (pl
     go Accepted NoPlace q r = let s : placeAnswer NoPlace ≡ Found byte leaf = rw q at r in let z : _≡_ {A = ℕ} 0 1 = cc in absurd (omega arith)
     go (Refused number ty member detail) p q r = let z : _≡_ {A = ℕ} 0 1 = cc in absurd (omega arith)
 
-module _ (c : ℕ) (ts ms rows : List ℕ) (left : arenaAnswer c ts ms rows ≡ Accepted) where
+module _ (rule : UniformRule) (c : ℕ) (ts ms rows : List ℕ) (left : arenaAnswer c ts ms rows ≡ Accepted) where
   -- the types of the arena are accepted ones
   types-left : AcceptedTypes c (decoded ts ms) (typeCount ts)
   types-left = accepted-types c ts ms (answer-accepted c ts ms rows left)
 
   -- the words have the rows' sizes and flags
-  size-left : (k : ℕ) → k < typeCount ts → rowWord (arenaWords c ts ms rows) k 0 ≡ rowIn c ts ms k .size
+  size-left : (k : ℕ) → k < typeCount ts → rowWord (arenaWords rule c ts ms rows) k 0 ≡ rowIn rule c ts ms k .size
   unfolding wordsOf
-  size-left k h = word-left c ts ms rows left k 0 h (omega arith)
+  size-left k h = word-left rule c ts ms rows left k 0 h (omega arith)
 
-  flags-left : (k : ℕ) → k < typeCount ts → rowWord (arenaWords c ts ms rows) k 2 ≡ rowIn c ts ms k .flags
+  flags-left : (k : ℕ) → k < typeCount ts → rowWord (arenaWords rule c ts ms rows) k 2 ≡ rowIn rule c ts ms k .flags
   unfolding wordsOf
-  flags-left k h = word-left c ts ms rows left k 2 h (omega arith)
+  flags-left k h = word-left rule c ts ms rows left k 2 h (omega arith)
 
   -- so strides cover by the rows where they do by the words
-  covers-left : (t : ℕ) → t < typeCount ts → StridesCover (rowsIn (arenaWords c ts ms rows)) (decoded ts ms) t → StridesCover (rowIn c ts ms) (decoded ts ms) t
+  covers-left : (t : ℕ) → t < typeCount ts → StridesCover (rowsIn (arenaWords rule c ts ms rows)) (decoded ts ms) t → StridesCover (rowIn rule c ts ms) (decoded ts ms) t
   unfolding rowsIn
   covers-left t h covers a r = go (decoded ts ms a .inner) refl (covers a r)
     where
       below : a < typeCount ts
       below = reached-within c (decoded ts ms) (typeCount ts) types-left r h
 
-      go : (inner : TypeInner) → decoded ts ms a .inner ≡ inner → strideCovers (rowsIn (arenaWords c ts ms rows)) inner → strideCovers (rowIn c ts ms) inner
+      go : (inner : TypeInner) → decoded ts ms a .inner ≡ inner → strideCovers (rowsIn (arenaWords rule c ts ms rows)) inner → strideCovers (rowIn rule c ts ms) inner
       go (Plain leaf) e w = tt
       go (Array base count stride) e w =
-          let b = array-row c (decoded ts ms) (typeCount ts) types-left a below base count stride e .0 in
+          let b = array-row (leastFor rule) c (decoded ts ms) (typeCount ts) types-left a below base count stride e .0 in
           subst (λ (x : ℕ). x ≤ stride) (size-left base (omega (arith, below))) w
       go (RuntimeArray base stride) e w =
-          let b = runtime-array-row c (decoded ts ms) (typeCount ts) types-left a below base stride e .0 in
+          let b = runtime-array-row (leastFor rule) c (decoded ts ms) (typeCount ts) types-left a below base stride e .0 in
           subst (λ (x : ℕ). x ≤ stride) (size-left base (omega (arith, below))) w
       go (Struct count span) e w = tt
       go (Other o) e w = tt
 
   -- and a leaf is as long by the words as by its row
   length-left : (t : ℕ) → t < typeCount ts → (steps : List ℕ) (byte leaf : ℕ) → placeOf ts ms t steps ≡ At byte leaf
-      → leafMeasure c ts ms leaf ≡ leafLeft ts ms (arenaWords c ts ms rows) leaf
+      → leafMeasure rule c ts ms leaf ≡ leafLeft ts ms (arenaWords rule c ts ms rows) leaf
   length-left t h steps byte leaf e =
-      let l = leaf-within c (decoded ts ms) (typeCount ts) types-left (way-to ts ms t steps byte leaf e) h in
+      let l = leaf-within rule c (decoded ts ms) (typeCount ts) types-left (way-to ts ms t steps byte leaf e) h in
       ap (λ (x : ℕ). lengthIn (decoded ts ms leaf .inner) x) (sym (size-left leaf l))
 
 pub calls-spare : CallsSpare
-calls-spare c ts ms rows t s covers lent lent′ steps steps′ byte leaf byte′ leaf′ e e′ ne buffer bytes k lo hi =
+calls-spare rule c ts ms rows t s covers lent lent′ steps steps′ byte leaf byte′ leaf′ e e′ ne buffer bytes k lo hi =
     let left = s .accepted in
     let h = s .within in
     let p = place-found c ts ms lent t steps byte leaf e in
     let p′ = place-found c ts ms lent′ t steps′ byte′ leaf′ e′ in
-    let m = length-left c ts ms rows left t h steps byte leaf p in
-    let m′ = length-left c ts ms rows left t h steps′ byte′ leaf′ p′ in
-    let flags = flags-left c ts ms rows left t h in
-    let shareable : HostShareableData c ts ms t =
+    let m = length-left rule c ts ms rows left t h steps byte leaf p in
+    let m′ = length-left rule c ts ms rows left t h steps′ byte′ leaf′ p′ in
+    let flags = flags-left rule c ts ms rows left t h in
+    let shareable : HostShareableData rule c ts ms t =
     record {
       accepted = answer-accepted c ts ms rows left;
       within = h;
@@ -98,5 +100,5 @@ calls-spare c ts ms rows t s covers lent lent′ steps steps′ byte leaf byte�
       hostShareable = rw flags at (s .hostShareable);
     } in
     rw (← m)
-    (term3 .others c ts ms t shareable (covers-left c ts ms rows left t h covers) steps steps′ byte leaf byte′ leaf′ p p′ ne buffer bytes k lo
+    (term3 .others rule c ts ms t shareable (covers-left rule c ts ms rows left t h covers) steps steps′ byte leaf byte′ leaf′ p p′ ne buffer bytes k lo
     (subst (λ (x : ℕ). k < byte′ + x) (sym m′) hi))

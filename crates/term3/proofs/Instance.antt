@@ -1,5 +1,5 @@
 -- The hypotheses of term 3 can be met: a struct with an array of structs, a struct and a runtime array, and a struct with a matrix, their
--- places computed.
+-- places computed, by either uniform rule.
 -- Assumes nothing.
 use mathlib.Core.Path.{_≡_, refl}
 use mathlib.Core.Logic.{_≢_}
@@ -18,12 +18,13 @@ use Rattle.type_layout.specs.TypeLayout.{layoutOf}
 use Rattle.layouter.specs.Layouter.{layoutOutcome}
 use Rattle.width.specs.Width.{integerWidth, floatWidth, checkWidth}
 use Rattle.type_flags.specs.TypeFlags.{leafFlags}
+use Rattle.type_info.specs.declared.UniformRule.{UniformRule}
 use Rattle.type_info.specs.Verdict.{alignmentIn, arrayVerdict, shareVerdict, memberVerdict, distanceVerdict, distanceOk, unsizedVerdict, spanVerdict}
 use Rattle.type_info.specs.Verdict.{previousOf}
 use Rattle.member_bounds.specs.MemberBounds.{memberBounds}
 use Rattle.valid_blend.specs.Blend.{sourceAt, sourceResult, blendedAfter, otherLocation, structBlend}
 use Rattle.member_rules.specs.MemberRules.{uniformAfter, storageAfter, immediatesAfter}
-use Rattle.validate_type.specs.ValidateType.{flagsOf, uniformOf, storageOf, immediatesOf, rowOf, judge}
+use Rattle.validate_type.specs.ValidateType.{flagsOf, uniformOf, storageOf, immediatesOf, rowOf, judge, judgeCommon}
 use Rattle.valid.specs.Arena.{row, judgeOutcome, arenaOutcome, arena}
 use Rattle.valid.proofs.ArenaLaws.{accepted-types}
 use Rattle.descent.specs.declared.Place.the-variants.{At, NoPlace}
@@ -53,66 +54,66 @@ members = 1 ∷ 0 ∷ 0 ∷ 0 ∷ 0 ∷ 12 ∷ 0 ∷ 0 ∷ 3 ∷ 0 ∷ 0 ∷ 0 �
 
 -- it is accepted with no capability
 pub accepted : arena 0 types members ≡ Accepted
-unfolding arena arenaOutcome layoutOutcome judgeOutcome tablesFit recordAt locatedTo fieldsOk typeInner innerOf structMembers resultAt valueAt trySize membersAlignment alignmentOf layoutOf integerWidth floatWidth checkWidth arrayVerdict shareVerdict memberVerdict distanceVerdict distanceOk unsizedVerdict spanVerdict previousOf memberBounds blendedAfter sourceResult sourceAt otherLocation structBlend uniformAfter storageAfter immediatesAfter leafFlags flagsOf uniformOf storageOf immediatesOf rowOf judge
+unfolding arena arenaOutcome layoutOutcome judgeOutcome tablesFit recordAt locatedTo fieldsOk typeInner innerOf structMembers resultAt valueAt trySize membersAlignment alignmentOf layoutOf integerWidth floatWidth checkWidth arrayVerdict shareVerdict memberVerdict distanceVerdict distanceOk unsizedVerdict spanVerdict previousOf memberBounds blendedAfter sourceResult sourceAt otherLocation structBlend uniformAfter storageAfter immediatesAfter leafFlags flagsOf uniformOf storageOf immediatesOf rowOf judge judgeCommon
 accepted = refl
 
 -- the sizes of types 0, 1, 2 and 5
-pub sizes : (rowIn 0 types members 0 .size ≡ 4) × (rowIn 0 types members 1 .size ≡ 12) × (rowIn 0 types members 2 .size ≡ 16) × (rowIn 0 types members 5 .size ≡ 64)
+pub sizes : (rule : UniformRule) → (rowIn rule 0 types members 0 .size ≡ 4) × (rowIn rule 0 types members 1 .size ≡ 12) × (rowIn rule 0 types members 2 .size ≡ 16) × (rowIn rule 0 types members 5 .size ≡ 64)
 unfolding typeInner innerOf structMembers resultAt valueAt trySize membersAlignment alignmentOf layoutOf integerWidth floatWidth checkWidth arrayVerdict shareVerdict memberVerdict distanceVerdict distanceOk unsizedVerdict spanVerdict previousOf memberBounds blendedAfter sourceResult sourceAt otherLocation structBlend uniformAfter storageAfter immediatesAfter leafFlags flagsOf uniformOf storageOf immediatesOf rowOf judge
-sizes = (refl, refl, refl, refl)
+sizes rule = (refl, refl, refl, refl)
 
 -- the flags of the struct: DATA, COPY, HOST_SHAREABLE and CREATION_RESOLVED
-pub flags : rowIn 0 types members 5 .flags ≡ 149
+pub flags : (rule : UniformRule) → rowIn rule 0 types members 5 .flags ≡ 149
 unfolding typeInner innerOf structMembers resultAt valueAt trySize membersAlignment alignmentOf layoutOf integerWidth floatWidth checkWidth arrayVerdict shareVerdict memberVerdict distanceVerdict distanceOk unsizedVerdict spanVerdict previousOf memberBounds blendedAfter sourceResult sourceAt otherLocation structBlend uniformAfter storageAfter immediatesAfter leafFlags flagsOf uniformOf storageOf immediatesOf rowOf judge
-flags = refl
+flags rule = refl
 
-pub flags-7 : rowIn 0 types members 7 .flags ≡ 247
+pub flags-7 : (rule : UniformRule) → rowIn rule 0 types members 7 .flags ≡ 247
 unfolding typeInner innerOf structMembers resultAt valueAt trySize membersAlignment alignmentOf layoutOf integerWidth floatWidth checkWidth arrayVerdict shareVerdict memberVerdict distanceVerdict distanceOk unsizedVerdict spanVerdict previousOf memberBounds blendedAfter sourceResult sourceAt otherLocation structBlend uniformAfter storageAfter immediatesAfter leafFlags flagsOf uniformOf storageOf immediatesOf rowOf judge
-flags-7 = refl
+flags-7 rule = refl
 
 -- its storage verdict: Ok with alignment 16
-pub storage : (rowIn 0 types members 5 .storage .code ≡ 0) × (rowIn 0 types members 5 .storage .ty ≡ 16)
+pub storage : (rule : UniformRule) → (rowIn rule 0 types members 5 .storage .code ≡ 0) × (rowIn rule 0 types members 5 .storage .ty ≡ 16)
 unfolding typeInner innerOf structMembers resultAt valueAt trySize membersAlignment alignmentOf layoutOf integerWidth floatWidth checkWidth arrayVerdict shareVerdict memberVerdict distanceVerdict distanceOk unsizedVerdict spanVerdict previousOf memberBounds blendedAfter sourceResult sourceAt otherLocation structBlend uniformAfter storageAfter immediatesAfter leafFlags flagsOf uniformOf storageOf immediatesOf rowOf judge
-storage = (refl, refl)
+storage rule = (refl, refl)
 
 -- the struct is a host-shareable data type of an accepted arena
-pub shareable : HostShareableData 0 types members 5
-shareable =
+pub shareable : (rule : UniformRule) → HostShareableData rule 0 types members 5
+shareable rule =
     record {
       accepted = accepted;
       within = omega arith;
-      isData = rw flags tt;
-      hostShareable = rw flags tt;
+      isData = rw (flags rule) tt;
+      hostShareable = rw (flags rule) tt;
     }
 
-pub shareable-7 : HostShareableData 0 types members 7
-shareable-7 =
+pub shareable-7 : (rule : UniformRule) → HostShareableData rule 0 types members 7
+shareable-7 rule =
     record {
       accepted = accepted;
       within = omega arith;
-      isData = rw flags-7 tt;
-      hostShareable = rw flags-7 tt;
+      isData = rw (flags-7 rule) tt;
+      hostShareable = rw (flags-7 rule) tt;
     }
 
 -- each array of the arena has a stride of at least its element's size
-each-covers : (a : ℕ) → a < 8 → strideCovers (rowIn 0 types members) (decoded types members a .inner)
+each-covers : (rule : UniformRule) (a : ℕ) → a < 8 → strideCovers (rowIn rule 0 types members) (decoded types members a .inner)
 unfolding typeInner innerOf
-each-covers zero h = tt
-each-covers (suc zero) h = tt
-each-covers (suc (suc zero)) h = tt
-each-covers (suc (suc (suc zero))) h = rw (sizes .2) (le-refl 16)
-each-covers (suc (suc (suc (suc zero)))) h = rw (sizes .0) (le-refl 4)
-each-covers (suc (suc (suc (suc (suc zero))))) h = tt
-each-covers (suc (suc (suc (suc (suc (suc zero)))))) h = tt
-each-covers (suc (suc (suc (suc (suc (suc (suc zero))))))) h = tt
-each-covers (suc (suc (suc (suc (suc (suc (suc (suc a)))))))) h = absurd (omega arith)
+each-covers rule zero h = tt
+each-covers rule (suc zero) h = tt
+each-covers rule (suc (suc zero)) h = tt
+each-covers rule (suc (suc (suc zero))) h = rw (sizes rule .2) (le-refl 16)
+each-covers rule (suc (suc (suc (suc zero)))) h = rw (sizes rule .0) (le-refl 4)
+each-covers rule (suc (suc (suc (suc (suc zero))))) h = tt
+each-covers rule (suc (suc (suc (suc (suc (suc zero)))))) h = tt
+each-covers rule (suc (suc (suc (suc (suc (suc (suc zero))))))) h = tt
+each-covers rule (suc (suc (suc (suc (suc (suc (suc (suc a)))))))) h = absurd (omega arith)
 
 -- so has each array that is reached from the structs
-pub covers : StridesCover (rowIn 0 types members) (decoded types members) 5
-covers = strides-cover 0 (decoded types members) 8 (accepted-types 0 types members accepted) each-covers 5 (omega arith)
+pub covers : (rule : UniformRule) → StridesCover (rowIn rule 0 types members) (decoded types members) 5
+covers rule = strides-cover rule 0 (decoded types members) 8 (accepted-types 0 types members accepted) (each-covers rule) 5 (omega arith)
 
-pub covers-7 : StridesCover (rowIn 0 types members) (decoded types members) 7
-covers-7 = strides-cover 0 (decoded types members) 8 (accepted-types 0 types members accepted) each-covers 7 (omega arith)
+pub covers-7 : (rule : UniformRule) → StridesCover (rowIn rule 0 types members) (decoded types members) 7
+covers-7 rule = strides-cover rule 0 (decoded types members) 8 (accepted-types 0 types members accepted) (each-covers rule) 7 (omega arith)
 
 -- ---- places
 -- the f32 of the second struct of the array; the vec3<f32> of the struct after it; the fourth element of the runtime array
@@ -151,34 +152,34 @@ different-columns e = let z : _≡_ {A = ℕ} 1 2 = cc in omega arith
 
 -- ---- what term 3 says of them
 -- whatever is written to the f32, the twelve bytes of the vec3<f32> stay
-pub stays : (buffer bytes : List ℕ) (k : ℕ) → 32 ≤ k → k < 44 → getElem? (rewrite buffer 28 4 bytes) k ≡ getElem? buffer k
+pub stays : (rule : UniformRule) (buffer bytes : List ℕ) (k : ℕ) → 32 ≤ k → k < 44 → getElem? (rewrite buffer 28 4 bytes) k ≡ getElem? buffer k
 unfolding typeInner innerOf
-stays buffer bytes k low high =
-    rw (sizes .0) at
-    (term3 .others 0 types members 5 shareable covers (0 ∷ 1 ∷ 1 ∷ []) (1 ∷ 0 ∷ []) 28 0 32 1 in-array in-struct different buffer bytes k low (rw (sizes .1) high))
+stays rule buffer bytes k low high =
+    rw (sizes rule .0) at
+    (term3 .others rule 0 types members 5 (shareable rule) (covers rule) (0 ∷ 1 ∷ 1 ∷ []) (1 ∷ 0 ∷ []) 28 0 32 1 in-array in-struct different buffer bytes k low (rw (sizes rule .1) high))
 
 -- the vec3<f32> lies within the struct's size, and at a multiple of its own storage alignment
-pub inside : 32 + rowIn 0 types members 1 .size ≤ rowIn 0 types members 5 .size
+pub inside : (rule : UniformRule) → 32 + rowIn rule 0 types members 1 .size ≤ rowIn rule 0 types members 5 .size
 unfolding stepOf typeInner innerOf structMembers
-inside = term3 .within 0 types members 5 shareable covers (1 ∷ 0 ∷ []) 32 1 in-struct (tt, (tt, tt))
+inside rule = term3 .within rule 0 types members 5 (shareable rule) (covers rule) (1 ∷ 0 ∷ []) 32 1 in-struct (tt, (tt, tt))
 
-pub multiple : alignmentIn (rowIn 0 types members 1 .storage) ∣ 32
-multiple = term3 .aligned 0 types members 5 shareable (rw (storage .0) tt) (1 ∷ 0 ∷ []) 32 1 in-struct .1
+pub multiple : (rule : UniformRule) → alignmentIn (rowIn rule 0 types members 1 .storage) ∣ 32
+multiple rule = term3 .aligned rule 0 types members 5 (shareable rule) (rw (storage rule .0) tt) (1 ∷ 0 ∷ []) 32 1 in-struct .1
 
 -- a column has 12 bytes: whatever is written to those of the second, those of the third stay
-pub column-stays : (buffer bytes : List ℕ) (k : ℕ) → 48 ≤ k → k < 60 → getElem? (rewrite buffer 32 12 bytes) k ≡ getElem? buffer k
+pub column-stays : (rule : UniformRule) (buffer bytes : List ℕ) (k : ℕ) → 48 ≤ k → k < 60 → getElem? (rewrite buffer 32 12 bytes) k ≡ getElem? buffer k
 unfolding typeInner innerOf
-column-stays buffer bytes k low high =
-    term3 .others 0 types members 7 shareable-7 covers-7 (1 ∷ 1 ∷ []) (1 ∷ 2 ∷ []) 32 6 48 6 second-column third-column different-columns buffer bytes k low high
+column-stays rule buffer bytes k low high =
+    term3 .others rule 0 types members 7 (shareable-7 rule) (covers-7 rule) (1 ∷ 1 ∷ []) (1 ∷ 2 ∷ []) 32 6 48 6 second-column third-column different-columns buffer bytes k low high
 
 -- the four bytes between the two are in no leaf of the struct
-pub gap : (k : ℕ) → 44 ≤ k → k < 48 → ¬ InLeaf 0 types members 7 k
+pub gap : (rule : UniformRule) (k : ℕ) → 44 ≤ k → k < 48 → ¬ InLeaf rule 0 types members 7 k
 unfolding typeInner innerOf
-gap k low high =
-    term3 .gaps 0 types members 7 k .1 shareable-7 covers-7
+gap rule k low high =
+    term3 .gaps rule 0 types members 7 k .1 (shareable-7 rule) (covers-7 rule)
     (record { steps = 1 ∷ 1 ∷ []; byte = 32; leaf = 6; place = second-column; columns = 3; rows = 3; kind = 2; width = 4; matrix = refl; past = low; below = high })
 
 -- so they stay too
-pub gap-stays : (buffer bytes : List ℕ) (k : ℕ) → 44 ≤ k → k < 48 → getElem? (rewrite buffer 32 12 bytes) k ≡ getElem? buffer k
+pub gap-stays : (rule : UniformRule) (buffer bytes : List ℕ) (k : ℕ) → 44 ≤ k → k < 48 → getElem? (rewrite buffer 32 12 bytes) k ≡ getElem? buffer k
 unfolding typeInner innerOf
-gap-stays buffer bytes k low high = term3 .gaps 0 types members 7 k .0 (gap k low high) (1 ∷ 1 ∷ []) 32 6 second-column buffer bytes
+gap-stays rule buffer bytes k low high = term3 .gaps rule 0 types members 7 k .0 (gap rule k low high) (1 ∷ 1 ∷ []) 32 6 second-column buffer bytes

@@ -16,12 +16,13 @@ use Rattle.type_layout.specs.TypeLayout.{layoutOf}
 use Rattle.layouter.specs.Layouter.{layoutOutcome}
 use Rattle.width.specs.Width.{integerWidth, floatWidth, checkWidth}
 use Rattle.type_flags.specs.TypeFlags.{leafFlags}
+use Rattle.type_info.specs.declared.UniformRule.the-variants.{Older, Newer}
 use Rattle.type_info.specs.Verdict.{alignmentIn, arrayVerdict, shareVerdict, memberVerdict, distanceVerdict, distanceOk, unsizedVerdict, spanVerdict}
 use Rattle.type_info.specs.Verdict.{previousOf}
 use Rattle.member_bounds.specs.MemberBounds.{memberBounds}
 use Rattle.valid_blend.specs.Blend.{sourceAt, sourceResult, blendedAfter, otherLocation, structBlend}
 use Rattle.member_rules.specs.MemberRules.{uniformAfter, storageAfter, immediatesAfter}
-use Rattle.validate_type.specs.ValidateType.{flagsOf, uniformOf, storageOf, immediatesOf, rowOf, judge}
+use Rattle.validate_type.specs.ValidateType.{flagsOf, uniformOf, storageOf, immediatesOf, rowOf, judge, judgeCommon}
 use Rattle.valid.specs.Arena.{row, judgeOutcome, arenaOutcome, arena}
 use Rattle.flags.proofs.BitLaws.{bit-or-left}
 use Rattle.steps.specs.Steps.{stepOf}
@@ -39,7 +40,7 @@ members = 0 ∷ 0 ∷ 0 ∷ 0 ∷ 0 ∷ 2 ∷ 0 ∷ 0 ∷ []
 
 -- unfolding this name unfolds all that the check computes with
 unfoldable check : (c : ℕ) (ts ms : List ℕ) → Type 0
-unfolding arena arenaOutcome layoutOutcome judgeOutcome tablesFit recordAt locatedTo fieldsOk typeInner innerOf structMembers resultAt valueAt trySize membersAlignment alignmentOf layoutOf integerWidth floatWidth checkWidth arrayVerdict shareVerdict memberVerdict distanceVerdict distanceOk unsizedVerdict spanVerdict previousOf memberBounds blendedAfter sourceResult sourceAt otherLocation structBlend uniformAfter storageAfter immediatesAfter leafFlags flagsOf uniformOf storageOf immediatesOf rowOf judge
+unfolding arena arenaOutcome layoutOutcome judgeOutcome tablesFit recordAt locatedTo fieldsOk typeInner innerOf structMembers resultAt valueAt trySize membersAlignment alignmentOf layoutOf integerWidth floatWidth checkWidth arrayVerdict shareVerdict memberVerdict distanceVerdict distanceOk unsizedVerdict spanVerdict previousOf memberBounds blendedAfter sourceResult sourceAt otherLocation structBlend uniformAfter storageAfter immediatesAfter leafFlags flagsOf uniformOf storageOf immediatesOf rowOf judge judgeCommon
 check c ts ms = arena c ts ms ≡ Accepted
 
 without : arena 0 types members ≡ Refused 8 0 0 1
@@ -68,10 +69,10 @@ longer-accepted : arena 3 (types ++ moreTypes) (members ++ moreMembers) ≡ Acce
 unfolding check
 longer-accepted = refl
 
--- size, flags, storage verdict and places of the struct stay
-kept-size : rowIn 2 types members 1 .size ≡ rowIn 3 (types ++ moreTypes) (members ++ moreMembers) 1 .size
-kept-size = term3 .kept 2 3 adds types members moreTypes moreMembers accepted longer-accepted 1 (omega arith) .0
+-- size, flags, storage verdict and places of the struct stay, and so they do where the rule is another one afterwards
+kept-size : rowIn Older 2 types members 1 .size ≡ rowIn Newer 3 (types ++ moreTypes) (members ++ moreMembers) 1 .size
+kept-size = term3 .kept Older Newer 2 3 adds types members moreTypes moreMembers accepted longer-accepted 1 (omega arith) .0
 
 kept-place : placeOf (types ++ moreTypes) (members ++ moreMembers) 1 (1 ∷ []) ≡ At 2 0
 unfolding placeOf stepOf typeInner innerOf structMembers
-kept-place = sym (term3 .kept 2 3 adds types members moreTypes moreMembers accepted longer-accepted 1 (omega arith) .3 (1 ∷ [])) ∙ refl
+kept-place = sym (term3 .kept Older Newer 2 3 adds types members moreTypes moreMembers accepted longer-accepted 1 (omega arith) .3 (1 ∷ [])) ∙ refl

@@ -6,6 +6,7 @@ use Prim.Native.Nat.{ℕ, _+_, _<_}
 use native.Mathlib.Omega.{arith}
 use Rattle.records.specs.Result.{pick}
 use Rattle.records.specs.Record.{Decoded}
+use Rattle.type_info.specs.Verdict.{minStorage}
 use Rattle.valid.proofs.AcceptedLaws.{AcceptedTypes}
 use Rattle.steps.specs.declared.Step.{Step}
 use Rattle.steps.specs.declared.Step.the-variants.{To, Column, NoStep}
@@ -29,4 +30,4 @@ module _ (c : ℕ) (types types′ : ℕ → Decoded) (n : ℕ) (acc : AcceptedT
           → placeIn types t p (s ∷ steps) ≡ placeIn types′ t p (s ∷ steps)
       go NoStep e ih = rw (← same-step t s h, e) refl
       go (Column bytes) e ih = rw (← same-step t s h, e) refl
-      go (To ty bytes) e ih = let d = descent c types n acc t h s ty bytes e in rw (← same-step t s h, e) (ih ty (p + bytes) (omega (arith, d .earlier)))
+      go (To ty bytes) e ih = let d = descent minStorage c types n acc t h s ty bytes e in rw (← same-step t s h, e) (ih ty (p + bytes) (omega (arith, d .earlier)))

@@ -18,12 +18,14 @@ use Rattle.type_layout.specs.TypeLayout.{layoutOf}
 use Rattle.layouter.specs.Layouter.{layoutOutcome}
 use Rattle.width.specs.Width.{integerWidth, floatWidth, checkWidth}
 use Rattle.type_flags.specs.TypeFlags.{leafFlags}
+use Rattle.type_info.specs.declared.UniformRule.{UniformRule}
+use Rattle.type_info.specs.declared.UniformRule.the-variants.{Older}
 use Rattle.type_info.specs.Verdict.{alignmentIn, arrayVerdict, shareVerdict, memberVerdict, distanceVerdict, distanceOk, unsizedVerdict, spanVerdict}
 use Rattle.type_info.specs.Verdict.{previousOf}
 use Rattle.member_bounds.specs.MemberBounds.{memberBounds}
 use Rattle.valid_blend.specs.Blend.{sourceAt, sourceResult, blendedAfter, otherLocation, structBlend}
 use Rattle.member_rules.specs.MemberRules.{uniformAfter, storageAfter, immediatesAfter}
-use Rattle.validate_type.specs.ValidateType.{flagsOf, uniformOf, storageOf, immediatesOf, rowOf, judge}
+use Rattle.validate_type.specs.ValidateType.{flagsOf, uniformOf, storageOf, immediatesOf, rowOf, judge, judgeCommon}
 use Rattle.valid.specs.Arena.{row, judgeOutcome, arenaOutcome, arena}
 use Rattle.descent.specs.declared.Place.the-variants.{At}
 use Rattle.steps.specs.Steps.{stepOf}
@@ -34,18 +36,18 @@ abbrev types : List ℕ
 types = 1 ∷ 3 ∷ 2 ∷ 4 ∷ 0 ∷ 0 ∷ 7 ∷ 0 ∷ 0 ∷ 2 ∷ 4 ∷ 0 ∷ []
 
 accepted : arena 0 types [] ≡ Accepted
-unfolding arena arenaOutcome layoutOutcome judgeOutcome tablesFit recordAt locatedTo fieldsOk typeInner innerOf structMembers resultAt valueAt trySize membersAlignment alignmentOf layoutOf integerWidth floatWidth checkWidth arrayVerdict shareVerdict memberVerdict distanceVerdict distanceOk unsizedVerdict spanVerdict previousOf memberBounds blendedAfter sourceResult sourceAt otherLocation structBlend uniformAfter storageAfter immediatesAfter leafFlags flagsOf uniformOf storageOf immediatesOf rowOf judge
+unfolding arena arenaOutcome layoutOutcome judgeOutcome tablesFit recordAt locatedTo fieldsOk typeInner innerOf structMembers resultAt valueAt trySize membersAlignment alignmentOf layoutOf integerWidth floatWidth checkWidth arrayVerdict shareVerdict memberVerdict distanceVerdict distanceOk unsizedVerdict spanVerdict previousOf memberBounds blendedAfter sourceResult sourceAt otherLocation structBlend uniformAfter storageAfter immediatesAfter leafFlags flagsOf uniformOf storageOf immediatesOf rowOf judge judgeCommon
 accepted = refl
 
-size : rowIn 0 types [] 0 .size ≡ 12
+size : rowIn Older 0 types [] 0 .size ≡ 12
 unfolding typeInner innerOf structMembers resultAt valueAt trySize membersAlignment alignmentOf layoutOf integerWidth floatWidth checkWidth arrayVerdict shareVerdict memberVerdict distanceVerdict distanceOk unsizedVerdict spanVerdict previousOf memberBounds blendedAfter sourceResult sourceAt otherLocation structBlend uniformAfter storageAfter immediatesAfter leafFlags flagsOf uniformOf storageOf immediatesOf rowOf judge
 size = refl
 
-flags : rowIn 0 types [] 1 .flags ≡ 247
+flags : rowIn Older 0 types [] 1 .flags ≡ 247
 unfolding typeInner innerOf structMembers resultAt valueAt trySize membersAlignment alignmentOf layoutOf integerWidth floatWidth checkWidth arrayVerdict shareVerdict memberVerdict distanceVerdict distanceOk unsizedVerdict spanVerdict previousOf memberBounds blendedAfter sourceResult sourceAt otherLocation structBlend uniformAfter storageAfter immediatesAfter leafFlags flagsOf uniformOf storageOf immediatesOf rowOf judge
 flags = refl
 
-shareable : HostShareableData 0 types [] 1
+shareable : HostShareableData Older 0 types [] 1
 shareable = record { accepted = accepted; within = omega arith; isData = rw flags tt; hostShareable = rw flags tt }
 
 first : placeOf types [] 1 (0 ∷ []) ≡ At 0 0
@@ -60,15 +62,15 @@ different : _≢_ {A = List ℕ} (0 ∷ []) (1 ∷ [])
 different e = let z : _≡_ {A = ℕ} 0 1 = cc in omega arith
 
 Others : Type 0
-Others = (c : ℕ) (ts ms : List ℕ) (t : ℕ) → HostShareableData c ts ms t
+Others = (rule : UniformRule) (c : ℕ) (ts ms : List ℕ) (t : ℕ) → HostShareableData rule c ts ms t
     → (steps steps′ : List ℕ) (byte leaf byte′ leaf′ : ℕ)
     → placeOf ts ms t steps ≡ At byte leaf → placeOf ts ms t steps′ ≡ At byte′ leaf′ → steps ≢ steps′
-    → (buffer bytes : List ℕ) (k : ℕ) → byte′ ≤ k → k < byte′ + leafMeasure c ts ms leaf′
-    → getElem? (rewrite buffer byte (leafMeasure c ts ms leaf) bytes) k ≡ getElem? buffer k
+    → (buffer bytes : List ℕ) (k : ℕ) → byte′ ≤ k → k < byte′ + leafMeasure rule c ts ms leaf′
+    → getElem? (rewrite buffer byte (leafMeasure rule c ts ms leaf) bytes) k ≡ getElem? buffer k
 
 false-without : Others → ⊥
 unfolding Others typeInner innerOf
 false-without f =
-    let h = f 0 types [] 1 shareable (0 ∷ []) (1 ∷ []) 0 0 4 0 first second different (7 ∷ 7 ∷ 7 ∷ 7 ∷ 7 ∷ []) (8 ∷ 8 ∷ 8 ∷ 8 ∷ 8 ∷ []) 4 (omega arith) (rw size (omega arith)) in
+    let h = f Older 0 types [] 1 shareable (0 ∷ []) (1 ∷ []) 0 0 4 0 first second different (7 ∷ 7 ∷ 7 ∷ 7 ∷ 7 ∷ []) (8 ∷ 8 ∷ 8 ∷ 8 ∷ 8 ∷ []) 4 (omega arith) (rw size (omega arith)) in
     let g = rw size at h in
     let z : _≡_ {A = ℕ} 8 7 = cc in omega arith

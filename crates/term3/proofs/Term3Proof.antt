@@ -8,8 +8,12 @@ use native.Mathlib.Decide.{decLe, decLt}
 use native.Mathlib.Omega.{arith}
 use Rattle.records.specs.Record.{decoded, typeCount}
 use Rattle.type_info.specs.declared.Row.{Row}
+use Rattle.type_info.specs.declared.UniformRule.{UniformRule}
+use Rattle.type_info.specs.TypeInfo.{withoutUniform}
+use Rattle.type_info.specs.Verdict.{leastFor}
 use Rattle.valid.proofs.AppendLaws.{types-append}
 use Rattle.valid.proofs.ArenaLaws.{accepted-types, arena-more, decoded-same, arena-row-append}
+use Rattle.valid.proofs.CommonLaws.{row-common}
 use Rattle.term3.specs.Term3.{rowIn, leafMeasure, InLeaf, BetweenColumns, HostShareableData, StridesCover, Term3}
 use Rattle.descent.specs.declared.Place.the-variants.{At}
 use Rattle.descent.specs.Place.{stepIn, leafIn, placeOf}
@@ -51,54 +55,57 @@ same-place-of ts ms t {steps} {steps′} {byte} {leaf} {byte′} {leaf′} s e e
     (cc, cc)
 
 -- no byte between columns is in a leaf
-not-in-leaf : (c : ℕ) (ts ms : List ℕ) (t k : ℕ) → HostShareableData c ts ms t → StridesCover (rowIn c ts ms) (decoded ts ms) t
-    → BetweenColumns ts ms t k → ¬ InLeaf c ts ms t k
-not-in-leaf c ts ms t k s v b f =
+not-in-leaf : (rule : UniformRule) (c : ℕ) (ts ms : List ℕ) (t k : ℕ) → HostShareableData rule c ts ms t → StridesCover (rowIn rule c ts ms) (decoded ts ms) t
+    → BetweenColumns ts ms t k → ¬ InLeaf rule c ts ms t k
+not-in-leaf rule c ts ms t k s v b f =
     let acc = accepted-types c ts ms (s .accepted) in
     let w = way-to ts ms t (b .steps) (b .byte) (b .leaf) (b .place) in
     let w′ = way-to ts ms t (f .steps) (f .byte) (f .leaf) (f .place) in
-    let m′ = leaf-reaches c (decoded ts ms) (typeCount ts) acc w′ (s .within) in
-    let r = matrix-column (decoded ts ms (b .leaf) .inner) (b .columns) (b .rows) (b .kind) (b .width) (b .matrix) (rowIn c ts ms (b .leaf) .size) in
+    let m′ = leaf-reaches rule c (decoded ts ms) (typeCount ts) acc w′ (s .within) in
+    let r = matrix-column (decoded ts ms (b .leaf) .inner) (b .columns) (b .rows) (b .kind) (b .width) (b .matrix) (rowIn rule c ts ms (b .leaf) .size) in
     ⊎-elim
     (λ same.
     let z = same-place-of ts ms t same (b .place) (f .place) in
-    let m = ap (leafMeasure c ts ms) (z .1) in
+    let m = ap (leafMeasure rule c ts ms) (z .1) in
     omega (arith, z .0, r .0, b .past, f .below))
     (λ apart. ⊎-elim (λ h. omega (arith, r .1, b .below, f .from)) (λ h. omega (arith, b .past, f .below)) apart)
-    (disjoint c (decoded ts ms) (typeCount ts) acc w w′ (s .within) (s .hostShareable) v)
+    (disjoint rule c (decoded ts ms) (typeCount ts) acc w w′ (s .within) (s .hostShareable) v)
 
 -- term 3
 pub term3 : Term3
 term3 =
     record {
-      others = λ c ts ms t s v steps steps′ byte leaf byte′ leaf′ e e′ ne buffer bytes k lo hi.
+      others = λ rule c ts ms t s v steps steps′ byte leaf byte′ leaf′ e e′ ne buffer bytes k lo hi.
           let acc = accepted-types c ts ms (s .accepted) in
           let w = way-to ts ms t steps byte leaf e in
           let w′ = way-to ts ms t steps′ byte′ leaf′ e′ in
-          let m = leaf-reaches c (decoded ts ms) (typeCount ts) acc w (s .within) in
-          let m′ = leaf-reaches c (decoded ts ms) (typeCount ts) acc w′ (s .within) in
-          rewrite-other buffer bytes byte (leafMeasure c ts ms leaf) k
+          let m = leaf-reaches rule c (decoded ts ms) (typeCount ts) acc w (s .within) in
+          let m′ = leaf-reaches rule c (decoded ts ms) (typeCount ts) acc w′ (s .within) in
+          rewrite-other buffer bytes byte (leafMeasure rule c ts ms leaf) k
           (⊎-elim (λ same. absurd (ne same))
-          (λ apart. outside byte (leafMeasure c ts ms leaf) byte′ (leafMeasure c ts ms leaf′) k (closer byte _ _ byte′ _ _ m m′ apart) lo hi)
-          (disjoint c (decoded ts ms) (typeCount ts) acc w w′ (s .within) (s .hostShareable) v));
-      gaps = λ c ts ms t k. (
+          (λ apart. outside byte (leafMeasure rule c ts ms leaf) byte′ (leafMeasure rule c ts ms leaf′) k (closer byte _ _ byte′ _ _ m m′ apart) lo hi)
+          (disjoint rule c (decoded ts ms) (typeCount ts) acc w w′ (s .within) (s .hostShareable) v));
+      gaps = λ rule c ts ms t k. (
         λ f steps byte leaf e buffer bytes.
-            rewrite-other buffer bytes byte (leafMeasure c ts ms leaf) k
-            (none-of byte (leafMeasure c ts ms leaf) k
+            rewrite-other buffer bytes byte (leafMeasure rule c ts ms leaf) k
+            (none-of byte (leafMeasure rule c ts ms leaf) k
             (λ h. f (record { steps = steps; byte = byte; leaf = leaf; place = e; from = h .0; below = h .1 }))),
-        not-in-leaf c ts ms t k,
+        not-in-leaf rule c ts ms t k,
       );
-      within = λ c ts ms t s v steps byte leaf e f.
+      within = λ rule c ts ms t s v steps byte leaf e f.
           let acc = accepted-types c ts ms (s .accepted) in
           let w = way-to ts ms t steps byte leaf e in
-          let k = contained c (decoded ts ms) (typeCount ts) acc w (s .within) v f in
-          let m = leaf-reaches c (decoded ts ms) (typeCount ts) acc w (s .within) in
+          let k = contained rule c (decoded ts ms) (typeCount ts) acc w (s .within) v f in
+          let m = leaf-reaches rule c (decoded ts ms) (typeCount ts) acc w (s .within) in
           omega arith;
-      aligned = λ c ts ms t s k steps byte leaf e.
-          place-aligned c (decoded ts ms) (typeCount ts) (accepted-types c ts ms (s .accepted)) (s .within) k (way-to ts ms t steps byte leaf e);
+      aligned = λ rule c ts ms t s k steps byte leaf e.
+          place-aligned rule c (decoded ts ms) (typeCount ts) (accepted-types c ts ms (s .accepted)) (s .within) k (way-to ts ms t steps byte leaf e);
       accepted = arena-more;
-      kept = λ c d adds ts ms ts′ ms′ a a′ t h.
-          let r = arena-row-append c d ts ms ts′ ms′ a a′ t h in
+      kept = λ rule rule′ c d adds ts ms ts′ ms′ a a′ t h.
+          let r : withoutUniform (rowIn rule c ts ms t) ≡ withoutUniform (rowIn rule′ d (ts ++ ts′) (ms ++ ms′) t) =
+          ap withoutUniform (arena-row-append (leastFor rule) c d ts ms ts′ ms′ a a′ t h)
+          ∙ row-common (leastFor rule) d (decoded (ts ++ ts′) (ms ++ ms′)) t
+          ∙ sym (row-common (leastFor rule′) d (decoded (ts ++ ts′) (ms ++ ms′)) t) in
           let l : t < typeCount (ts ++ ts′) = let m = types-append ts ms ts′ ms′ in omega arith in (
             ap (λ (x : Row). x .size) r,
             ap (λ (x : Row). x .flags) r,

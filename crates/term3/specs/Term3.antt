@@ -1,4 +1,4 @@
--- Term 3 of the terms of acceptance, with E6 of 02: the statement, of the arena's and the place's definitions.
+-- Term 3 of the terms of acceptance, with E6 and E8 of 02: the statement, of the arena's and the place's definitions.
 -- Assumes nothing.
 use mathlib.Core.Path.{_≡_}
 use mathlib.Core.Bool.{Bool, true, false}
@@ -17,7 +17,8 @@ use Rattle.records.specs.declared.TypeInner.the-variants.{Plain, Array, Runtime
 use Rattle.type_methods.specs.TypeMethods.{columnStep}
 use Rattle.flags.specs.Flags.{bit, dataBit, hostShareableBit}
 use Rattle.type_info.specs.declared.Row.{Row}
-use Rattle.type_info.specs.Verdict.{isOk, alignmentIn}
+use Rattle.type_info.specs.declared.UniformRule.{UniformRule}
+use Rattle.type_info.specs.Verdict.{leastFor, isOk, alignmentIn}
 use Rattle.valid.specs.Arena.{arena, row}
 use Rattle.steps.specs.declared.Step.{Step}
 use Rattle.steps.specs.declared.Step.the-variants.{To, Column, NoStep}
@@ -25,9 +26,9 @@ use Rattle.steps.specs.Columns.{leafLength}
 use Rattle.descent.specs.declared.Place.the-variants.{At}
 use Rattle.descent.specs.Place.{stepIn, placeOf}
 
--- flags, sizes and storage verdicts are what the arena check's definitions make of the records
-abbrev pub rowIn : (c : ℕ) (ts ms : List ℕ) → ℕ → Row
-rowIn c ts ms t = row c (decoded ts ms) t
+-- flags, sizes and storage verdicts are what the arena check's definitions make of the records, by either uniform rule
+abbrev pub rowIn : (rule : UniformRule) (c : ℕ) (ts ms : List ℕ) → ℕ → Row
+rowIn rule c ts ms t = row (leastFor rule) c (decoded ts ms) t
 
 -- a leaf's bytes are those from its place on, as many as it measures: its type's size, or rows times width for a column
 abbrev pub lengthIn : TypeInner → (size : ℕ) → ℕ
@@ -37,17 +38,17 @@ lengthIn (RuntimeArray base stride) size = size
 lengthIn (Struct count span) size = size
 lengthIn (Other o) size = size
 
-abbrev pub leafMeasure : (c : ℕ) (ts ms : List ℕ) → (leaf : ℕ) → ℕ
-leafMeasure c ts ms leaf = lengthIn (decoded ts ms leaf .inner) (rowIn c ts ms leaf .size)
+abbrev pub leafMeasure : (rule : UniformRule) (c : ℕ) (ts ms : List ℕ) → (leaf : ℕ) → ℕ
+leafMeasure rule c ts ms leaf = lengthIn (decoded ts ms leaf .inner) (rowIn rule c ts ms leaf .size)
 
 -- byte k of type t lies in a leaf
-pub record InLeaf (c : ℕ) (ts ms : List ℕ) (t k : ℕ) : Type 0 where
+pub record InLeaf (rule : UniformRule) (c : ℕ) (ts ms : List ℕ) (t k : ℕ) : Type 0 where
   pub steps : List ℕ
   pub byte : ℕ
   pub leaf : ℕ
   pub place : placeOf ts ms t steps ≡ At byte leaf
   pub from : byte ≤ k
-  pub below : k < byte + leafMeasure c ts ms leaf
+  pub below : k < byte + leafMeasure rule c ts ms leaf
 
 -- byte k of type t lies between columns: past the end of a column, and within a column step of its start
 pub record BetweenColumns (ts ms : List ℕ) (t k : ℕ) : Type 0 where
@@ -64,11 +65,11 @@ pub record BetweenColumns (ts ms : List ℕ) (t k : ℕ) : Type 0 where
   pub below : k < byte + columnStep rows width
 
 -- a host-shareable data type of an accepted arena: flags DATA and HOST_SHAREABLE
-pub record HostShareableData (c : ℕ) (ts ms : List ℕ) (t : ℕ) : Type 0 where
+pub record HostShareableData (rule : UniformRule) (c : ℕ) (ts ms : List ℕ) (t : ℕ) : Type 0 where
   pub accepted : arena c ts ms ≡ Accepted
   pub within : t < typeCount ts
-  pub isData : T (bit (rowIn c ts ms t .flags) dataBit)
-  pub hostShareable : T (bit (rowIn c ts ms t .flags) hostShareableBit)
+  pub isData : T (bit (rowIn rule c ts ms t .flags) dataBit)
+  pub hostShareable : T (bit (rowIn rule c ts ms t .flags) hostShareableBit)
 
 -- reached: the type itself, or got to by array bases and member types
 pub data Reached (types : ℕ → Decoded) : ℕ → ℕ → Type 0 where
@@ -116,33 +117,33 @@ Adds c d = (b : ℕ) → T (bit c b) → T (bit d b)
 
 pub record Term3 : Type 0 where
   -- whichever leaf is rewritten, with whatever bytes and in whatever buffer, no byte of any other leaf changes
-  pub others : (c : ℕ) (ts ms : List ℕ) (t : ℕ) → HostShareableData c ts ms t → StridesCover (rowIn c ts ms) (decoded ts ms) t
+  pub others : (rule : UniformRule) (c : ℕ) (ts ms : List ℕ) (t : ℕ) → HostShareableData rule c ts ms t → StridesCover (rowIn rule c ts ms) (decoded ts ms) t
       → (steps steps′ : List ℕ) (byte leaf byte′ leaf′ : ℕ)
       → placeOf ts ms t steps ≡ At byte leaf → placeOf ts ms t steps′ ≡ At byte′ leaf′ → steps ≢ steps′
-      → (buffer bytes : List ℕ) (k : ℕ) → byte′ ≤ k → k < byte′ + leafMeasure c ts ms leaf′
-      → getElem? (rewrite buffer byte (leafMeasure c ts ms leaf) bytes) k ≡ getElem? buffer k
+      → (buffer bytes : List ℕ) (k : ℕ) → byte′ ≤ k → k < byte′ + leafMeasure rule c ts ms leaf′
+      → getElem? (rewrite buffer byte (leafMeasure rule c ts ms leaf) bytes) k ≡ getElem? buffer k
   -- E6 of 02: a write to one column spares the others and the gaps. A byte in no leaf is changed by no rewriting, whatever the flags and
   -- strides, and a byte between columns is in no leaf
-  pub gaps : (c : ℕ) (ts ms : List ℕ) (t k : ℕ)
-      → (¬ InLeaf c ts ms t k
+  pub gaps : (rule : UniformRule) (c : ℕ) (ts ms : List ℕ) (t k : ℕ)
+      → (¬ InLeaf rule c ts ms t k
       → (steps : List ℕ) (byte leaf : ℕ) → placeOf ts ms t steps ≡ At byte leaf
-      → (buffer bytes : List ℕ) → getElem? (rewrite buffer byte (leafMeasure c ts ms leaf) bytes) k ≡ getElem? buffer k)
-      × (HostShareableData c ts ms t → StridesCover (rowIn c ts ms) (decoded ts ms) t → BetweenColumns ts ms t k → ¬ InLeaf c ts ms t k)
+      → (buffer bytes : List ℕ) → getElem? (rewrite buffer byte (leafMeasure rule c ts ms leaf) bytes) k ≡ getElem? buffer k)
+      × (HostShareableData rule c ts ms t → StridesCover (rowIn rule c ts ms) (decoded ts ms) t → BetweenColumns ts ms t k → ¬ InLeaf rule c ts ms t k)
   -- every leaf lies within the type's size, those in runtime elements past the first aside
-  pub within : (c : ℕ) (ts ms : List ℕ) (t : ℕ) → HostShareableData c ts ms t → StridesCover (rowIn c ts ms) (decoded ts ms) t
+  pub within : (rule : UniformRule) (c : ℕ) (ts ms : List ℕ) (t : ℕ) → HostShareableData rule c ts ms t → StridesCover (rowIn rule c ts ms) (decoded ts ms) t
       → (steps : List ℕ) (byte leaf : ℕ) → placeOf ts ms t steps ≡ At byte leaf → FirstElements (decoded ts ms) t steps
-      → byte + leafMeasure c ts ms leaf ≤ rowIn c ts ms t .size
+      → byte + leafMeasure rule c ts ms leaf ≤ rowIn rule c ts ms t .size
   -- whatever the strides, if the storage verdict is Ok, every leaf stands at a multiple of the leaf's own storage alignment
-  pub aligned : (c : ℕ) (ts ms : List ℕ) (t : ℕ) → HostShareableData c ts ms t → T (isOk (rowIn c ts ms t .storage))
+  pub aligned : (rule : UniformRule) (c : ℕ) (ts ms : List ℕ) (t : ℕ) → HostShareableData rule c ts ms t → T (isOk (rowIn rule c ts ms t .storage))
       → (steps : List ℕ) (byte leaf : ℕ) → placeOf ts ms t steps ≡ At byte leaf
-      → T (isOk (rowIn c ts ms leaf .storage)) × (alignmentIn (rowIn c ts ms leaf .storage) ∣ byte)
+      → T (isOk (rowIn rule c ts ms leaf .storage)) × (alignmentIn (rowIn rule c ts ms leaf .storage) ∣ byte)
   -- an accepted arena stays accepted whichever of 01's capabilities are added
   pub accepted : (c d : ℕ) → Adds c d → T (capabilitiesKnown d) → (ts ms : List ℕ) → arena c ts ms ≡ Accepted → arena d ts ms ≡ Accepted
   -- capabilities added, types appended with further member records or both, accepted before and after: each type it had keeps its
-  -- size, flags and storage verdict, and each list of steps from it gets the same answer
-  pub kept : (c d : ℕ) → Adds c d → (ts ms ts′ ms′ : List ℕ) → arena c ts ms ≡ Accepted → arena d (ts ++ ts′) (ms ++ ms′) ≡ Accepted
+  -- size, flags and storage verdict, and each list of steps from it gets the same answer, whichever rule is chosen before and after
+  pub kept : (rule rule′ : UniformRule) (c d : ℕ) → Adds c d → (ts ms ts′ ms′ : List ℕ) → arena c ts ms ≡ Accepted → arena d (ts ++ ts′) (ms ++ ms′) ≡ Accepted
       → (t : ℕ) → t < typeCount ts
-      → (rowIn c ts ms t .size ≡ rowIn d (ts ++ ts′) (ms ++ ms′) t .size)
-      × (rowIn c ts ms t .flags ≡ rowIn d (ts ++ ts′) (ms ++ ms′) t .flags)
-      × (rowIn c ts ms t .storage ≡ rowIn d (ts ++ ts′) (ms ++ ms′) t .storage)
+      → (rowIn rule c ts ms t .size ≡ rowIn rule′ d (ts ++ ts′) (ms ++ ms′) t .size)
+      × (rowIn rule c ts ms t .flags ≡ rowIn rule′ d (ts ++ ts′) (ms ++ ms′) t .flags)
+      × (rowIn rule c ts ms t .storage ≡ rowIn rule′ d (ts ++ ts′) (ms ++ ms′) t .storage)
       × ((steps : List ℕ) → placeOf ts ms t steps ≡ placeOf (ts ++ ts′) (ms ++ ms′) t steps)

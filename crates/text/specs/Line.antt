@@ -53,17 +53,19 @@ laterCommandOf w =
     (pick (same w (115 ∷ 108 ∷ 111 ∷ 116 ∷ 115 ∷ [])) command.Slots
     (answerCommandOf w)))))
 
--- caps, type, member, and those above
+-- caps, rule, type, member, and those above
 unfoldable pub commandOf : List ℕ → Command
 commandOf w =
     pick (same w (99 ∷ 97 ∷ 112 ∷ 115 ∷ [])) command.Capabilities
+    (pick (same w (114 ∷ 117 ∷ 108 ∷ 101 ∷ [])) command.Rule
     (pick (same w (116 ∷ 121 ∷ 112 ∷ 101 ∷ [])) command.TypeRecord
     (pick (same w (109 ∷ 101 ∷ 109 ∷ 98 ∷ 101 ∷ 114 ∷ [])) command.MemberRecord
-    (laterCommandOf w)))
+    (laterCommandOf w))))
 
 -- the fewest and the most numbers after a command; no count is right after a word that is none
 abbrev pub leastOf : Command → ℕ
 leastOf command.Capabilities = 1
+leastOf command.Rule = 1
 leastOf command.TypeRecord = 1
 leastOf command.MemberRecord = 2
 leastOf command.Layout = 0
@@ -84,6 +86,7 @@ leastOf command.Unknown = 1
 
 abbrev pub mostOf : Command → ℕ
 mostOf command.Capabilities = 1
+mostOf command.Rule = 1
 mostOf command.TypeRecord = 6
 mostOf command.MemberRecord = 4
 mostOf command.Layout = 0
@@ -117,6 +120,7 @@ listOf (wrong r) = []
 -- ---- the line. Words left off are 0; the steps of a place are the numbers after the first
 abbrev pub lineBy : Command → List ℕ → Line
 lineBy command.Capabilities ns = line.Capabilities (getD ns 0 0)
+lineBy command.Rule ns = line.Rule (getD ns 0 0)
 lineBy command.TypeRecord ns = line.TypeRecord (getD ns 0 0) (getD ns 1 0) (getD ns 2 0) (getD ns 3 0) (getD ns 4 0) (getD ns 5 0)
 lineBy command.MemberRecord ns = line.MemberRecord (getD ns 0 0) (getD ns 1 0) (getD ns 2 0) (getD ns 3 0)
 lineBy command.Layout ns = line.Layout

@@ -13,6 +13,7 @@ ghost use Rattle.text.specs.Line.{nameOf, commandOf, leastOf, mostOf, ar
 pub enum Line {
     Nothing,
     Capabilities(u32),
+    Rule(u32),
     TypeRecord {
         kind: u32,
         a: u32,
@@ -82,6 +83,8 @@ pub fn command_of(word: &[u8]) -> Command
     match name_of(word) {
         // caps
         0x173706163 => Command::Capabilities,
+        // rule
+        0x1656c7572 => Command::Rule,
         // type
         0x165707974 => Command::TypeRecord,
         // member
@@ -129,6 +132,7 @@ fn usage_of(command: Command) -> Usage
 {
     match command {
         Command::Capabilities => Usage { least: 1, most: 1 },
+        Command::Rule => Usage { least: 1, most: 1 },
         Command::TypeRecord => Usage { least: 1, most: 6 },
         Command::MemberRecord => Usage { least: 2, most: 4 },
         Command::Layout => Usage { least: 0, most: 0 },
@@ -161,6 +165,7 @@ fn line_by(command: Command, numbers: &[u32]) -> Line
     let b = records::word_at(numbers, 1);
     match command {
         Command::Capabilities => Line::Capabilities(a),
+        Command::Rule => Line::Rule(a),
         Command::TypeRecord => Line::TypeRecord {
             kind: a,
             a: b,

@@ -1,7 +1,7 @@
 -- Laws of verdicts: what a verdict that is Ok was made of. The alignment in a verdict that is Ok stays a power of two.
 -- Assumes nothing.
 use mathlib.Core.Path.{_≡_, refl, sym, _∙_, ap, subst}
-use mathlib.Core.Bool.{Bool, true, false}
+use mathlib.Core.Bool.{Bool, true, false, _||_}
 use mathlib.Core.List.{List}
 use Prim.Native.Nat.{ℕ, zero, suc, _-_, _<_, _∣_, max}
 use native.Mathlib.Nat.{le-refl}
@@ -90,7 +90,7 @@ pub distance-ok : (least i j offset : ℕ) (previous : Previous) (v : Verdict)
     → T (isOk (distanceVerdict least i j offset previous v)) → distanceVerdict least i j offset previous v ≡ v
 unfolding distanceVerdict
 distance-ok least i j offset NoStruct v t = refl
-distance-ok least i j offset (StructBefore span at) v t = pick-ok (leb (roundUp least span) (offset - at)) v _ (λ (n : ⊥). n) t .1
+distance-ok least i j offset (StructBefore span at) v t = pick-ok (leb least 1 || leb (roundUp least span) (offset - at)) v _ (λ (n : ⊥). n) t .1
 
 -- the rule on unsized members; the member is SIZED
 pub unsized-ok : (sized : Bool) (i j : ℕ) (v : Verdict) → T (isOk (unsizedVerdict sized i j v)) → T sized × (unsizedVerdict sized i j v ≡ v)

@@ -59,3 +59,19 @@ emptyRow =
       storage = record { code = 0; ty = 0; index = 0; value = 0; bound = 0 };
       immediates = 0;
     }
+
+-- in the place of a uniform verdict that is not made
+abbrev pub noVerdict : Verdict
+noVerdict = record { code = 0; ty = 0; index = 0; value = 0; bound = 0 }
+
+-- what a row has besides its uniform verdict
+abbrev pub withoutUniform : Row → Row
+withoutUniform r =
+    record {
+      size = r .size;
+      alignment = r .alignment;
+      flags = r .flags;
+      uniform = noVerdict;
+      storage = r .storage;
+      immediates = r .immediates;
+    }

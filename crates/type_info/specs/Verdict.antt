@@ -1,5 +1,5 @@
 -- 01, 'The result row': verdicts (naga's LayoutCompatibility), and the rules that make them.
--- i is the type that is judged; `least` is the minimum alignment of the address space: 16 for uniform, 1 for storage.
+-- i is the type that is judged; `least` is the minimum alignment: 1 for storage verdicts, for uniform ones by the rule that the caller chose.
 -- Assumes nothing.
 use mathlib.Core.Bool.{Bool, true, false, _&&_, _||_}
 use mathlib.Core.List.{List}
@@ -11,6 +11,8 @@ use Rattle.records.specs.declared.TypeInner.{TypeInner}
 use Rattle.records.specs.declared.TypeInner.the-variants.{Plain, Array, RuntimeArray, Struct, Other}
 use Rattle.alignment.specs.Alignment.{isAligned, roundUp, most}
 use Rattle.type_info.specs.declared.Verdict.{Verdict}
+use Rattle.type_info.specs.declared.UniformRule.{UniformRule}
+use Rattle.type_info.specs.declared.UniformRule.the-variants.{Older, Newer}
 use Rattle.type_info.specs.declared.Distance.{Distance}
 use Rattle.type_info.specs.declared.Distance.the-variants.{Enough, Short, Overflow}
 use Rattle.type_info.specs.declared.Previous.{Previous}
@@ -21,6 +23,12 @@ minUniform = 16
 
 abbrev pub minStorage : ℕ
 minStorage = 1
+
+-- 02, E8: the minimum alignment of uniform verdicts by the older rule, which is naga 30.0.1's, and by the newer, WGSL's
+-- uniform_buffer_standard_layout, under which a uniform verdict is worked out by the storage rules
+abbrev pub leastFor : UniformRule → ℕ
+leastFor Older = minUniform
+leastFor Newer = minStorage
 
 -- ---- the codes. Code 0 Ok puts the alignment in the second word
 abbrev pub okVerdict : (alignment : ℕ) → Verdict
@@ -89,11 +97,12 @@ unfoldable pub previousOf : (inner : ℕ → TypeInner) (members : List ℕ) →
 previousOf inner members zero = NoStruct
 previousOf inner members (suc j) = structAt (inner (memberType members j)) (memberOffset members j)
 
--- the distance rule: from the start of a struct to the start of the member right after it at least its span rounded up; it overwrites
+-- the distance rule: from the start of a struct to the start of the member right after it at least its span rounded up; it overwrites.
+-- By the minimum alignment of storage no distance is asked: the storage rules have none
 unfoldable pub distanceVerdict : (least i j offset : ℕ) → Previous → Verdict → Verdict
 distanceVerdict least i j offset NoStruct so-far = so-far
 distanceVerdict least i j offset (StructBefore span at) so-far =
-    pick (leb (roundUp least span) (offset - at)) so-far (memberOffsetAfterStruct i j offset (at + roundUp least span))
+    pick (leb least minStorage || leb (roundUp least span) (offset - at)) so-far (memberOffsetAfterStruct i j offset (at + roundUp least span))
 
 -- number 21: the sums and the difference of the distance rule that the Rust makes stay within 32 bits
 unfoldable pub distanceOk : Previous → (offset : ℕ) → Bool
@@ -109,10 +118,10 @@ isWithin Enough = true
 isWithin (Short expected) = true
 isWithin Overflow = false
 
-abbrev pub afterDistance : Distance → (i j offset : ℕ) → Verdict → Verdict
-afterDistance Enough i j offset so-far = so-far
-afterDistance (Short expected) i j offset so-far = memberOffsetAfterStruct i j offset expected
-afterDistance Overflow i j offset so-far = so-far
+abbrev pub afterDistance : (least : ℕ) → Distance → (i j offset : ℕ) → Verdict → Verdict
+afterDistance least Enough i j offset so-far = so-far
+afterDistance least (Short expected) i j offset so-far = pick (leb least minStorage) so-far (memberOffsetAfterStruct i j offset expected)
+afterDistance least Overflow i j offset so-far = so-far
 
 -- a member that is not sized has no place in a uniform buffer; an earlier error stays
 unfoldable pub unsizedVerdict : (sized : Bool) (i j : ℕ) → Verdict → Verdict

@@ -3,7 +3,8 @@ ghost use mathlib.Core.Path.{_≡_};
 ghost use mathlib.Core.Bool.{Bool, true};
 ghost use Prim.Native.Nat.{ℕ};
 ghost use Rattle.type_info.specs.declared.Verdict as verdict;
-ghost use Rattle.type_info.specs.Verdict.{minUniform, okVerdict, arrayVerdict, shareVerdict, offsetVerdict, memberVerdict, distanceVerdict, distanceOk, afterDistance, isWithin, unsizedVerdict, spanVerdict};
+ghost use Rattle.type_info.specs.declared.UniformRule as rule;
+ghost use Rattle.type_info.specs.Verdict.{minUniform, leastFor, okVerdict, arrayVerdict, shareVerdict, offsetVerdict, memberVerdict, distanceVerdict, distanceOk, afterDistance, isWithin, unsizedVerdict, spanVerdict};
 
 // naga's LayoutCompatibility: code 0 is Ok, with the alignment in ty.
 pub struct Verdict {
@@ -22,6 +23,12 @@ pub struct Row {
     pub uniform: Verdict,
     pub storage: Verdict,
     pub immediates: u32,
+}
+
+// The rule by which uniform verdicts are worked out: naga 30.0.1's, or the storage rules.
+pub enum UniformRule {
+    Older,
+    Newer,
 }
 
 // The struct that the member right before is, with its offset.
@@ -135,7 +142,7 @@ pub fn member_verdict(i: u32, j: u32, offset: u32, so_far: Verdict, member: Verd
 // The distance rule; Overflow where a sum or the difference of the Rust leaves 32 bits.
 pub fn distance_to(previous: Previous, offset: u32) -> Distance
     ensures within { λ r. ⌜ isWithin r ≡ distanceOk previous offset ⌝ }
-    ensures verdict { λ r. ⌜ ((i j : ℕ) (v : verdict.Verdict) → isWithin r ≡ true → afterDistance r i j offset v ≡ distanceVerdict minUniform i j offset previous v) ⌝ }
+    ensures verdict { λ r. ⌜ ((rule : rule.UniformRule) (i j : ℕ) (v : verdict.Verdict) → isWithin r ≡ true → afterDistance (leastFor rule) r i j offset v ≡ distanceVerdict (leastFor rule) i j offset previous v) ⌝ }
 {
     match previous {
         Previous::NoStruct => Distance::Enough,
@@ -162,19 +169,41 @@ pub fn distance_to(previous: Previous, offset: u32) -> Distance
     }
 }
 
-// The distance rule overwrites an earlier verdict.
-pub fn after_distance(d: Distance, i: u32, j: u32, offset: u32, so_far: Verdict) -> Verdict
-    ensures { λ r. ⌜ r ≡ afterDistance d i j offset «so_far» ⌝ }
+// The minimum alignment of a rule.
+pub fn least_for(rule: UniformRule) -> u32
+    ensures { λ r. ⌜ r ≡ leastFor rule ⌝ }
+{
+    match rule {
+        UniformRule::Older => MIN_UNIFORM,
+        UniformRule::Newer => MIN_STORAGE,
+    }
+}
+
+// The distance rule overwrites an earlier verdict; by the minimum alignment of storage there is none.
+pub fn after_distance(
+    least: u32,
+    d: Distance,
+    i: u32,
+    j: u32,
+    offset: u32,
+    so_far: Verdict,
+) -> Verdict
+    ensures { λ r. ⌜ r ≡ afterDistance least d i j offset «so_far» ⌝ }
 {
     match d {
         Distance::Enough => so_far,
-        Distance::Short(expected) => Verdict {
-            code: 4,
-            ty: i,
-            index: j,
-            value: offset,
-            bound: expected,
-        },
+        Distance::Short(expected) => {
+            if least <= MIN_STORAGE {
+                return so_far;
+            }
+            Verdict {
+                code: 4,
+                ty: i,
+                index: j,
+                value: offset,
+                bound: expected,
+            }
+        }
         Distance::Overflow => so_far,
     }
 }

@@ -36,7 +36,7 @@ use Rattle.flags.proofs.BitLaws.{bit-or-left, bit-or-right}
 use Rattle.type_flags.specs.TypeFlags.{leafFlags}
 use Rattle.type_info.specs.declared.Row.{Row}
 use Rattle.type_info.specs.TypeInfo.{emptyRow}
-use Rattle.type_info.specs.Verdict.{minUniform, minStorage, okVerdict, arrayVerdict, spanVerdict}
+use Rattle.type_info.specs.Verdict.{minStorage, okVerdict, arrayVerdict, spanVerdict}
 use Rattle.type_info.proofs.VerdictLaws.{OkPower, ok-power, array-power, span-ok, same-power}
 use Rattle.member_bounds.specs.declared.Bounds.{Bounds}
 use Rattle.member_bounds.specs.MemberBounds.{isArray, boundsAfter}
@@ -53,11 +53,11 @@ use Rattle.validate_type.proofs.CapabilityLaws.{HasAll, judge-more}
 use Rattle.validate_type.proofs.JudgeLaws.{Judged, judged-parts, isDataInner, flags-data}
 use Rattle.valid.proofs.DependLaws.{innerIn, rowsBefore, layout-at-depends, row-depends, judged-depends}
 
--- the first n types are accepted: fields within their bounds, layouts, rows
+-- the first n types are accepted: fields within their bounds, layouts, and rows by any minimum alignment of uniform verdicts
 pub record AcceptedTypes (c : ℕ) (types : ℕ → Decoded) (n : ℕ) : Type 0 where
   pub bounds : (i : ℕ) → i < n → InnerBounds (types i .inner)
   pub layouts : firstRefusal (layoutAt types) n ≡ Accepted
-  pub rows : firstRefusal (judgedAt c types) n ≡ Accepted
+  pub rows : (least : ℕ) → firstRefusal (judgedAt least c types) n ≡ Accepted
 
 -- ---- rows by kind
 -- the row r of a leaf
@@ -69,35 +69,35 @@ pub record PlainRow (c : ℕ) (leaf : Leaf) (r : Row) : Type 0 where
   pub immediates : r .immediates ≡ leafImmediates leaf
 
 -- the row r of array i whose base has the row `base`
-pub record ArrayRow (i bytes stride mask : ℕ) (base r : Row) : Type 0 where
+pub record ArrayRow (least i bytes stride mask : ℕ) (base r : Row) : Type 0 where
   pub isBase : T (isSizedData (base .flags))
   pub flags : r .flags ≡ bitAnd (base .flags) mask
   pub size : r .size ≡ bytes
-  pub uniform : r .uniform ≡ arrayVerdict minUniform i stride (base .alignment) (base .uniform)
+  pub uniform : r .uniform ≡ arrayVerdict least i stride (base .alignment) (base .uniform)
   pub storage : r .storage ≡ arrayVerdict minStorage i stride (base .alignment) (base .storage)
   pub immediates : r .immediates ≡ base .immediates
 
 -- an array's base is DATA
-pub base-data : {i bytes stride mask : ℕ} {base r : Row} → ArrayRow i bytes stride mask base r → T (bit (base .flags) dataBit)
+pub base-data : {least i bytes stride mask : ℕ} {base r : Row} → ArrayRow least i bytes stride mask base r → T (bit (base .flags) dataBit)
 base-data {base = base} a =
     and-left (bit (base .flags) dataBit) (bit (base .flags) sizedBit)
     (and-left (bit (base .flags) dataBit && bit (base .flags) sizedBit) (bit (base .flags) creationResolvedBit) (a .isBase))
 
 -- an array's base is SIZED
-pub base-sized : {i bytes stride mask : ℕ} {base r : Row} → ArrayRow i bytes stride mask base r → T (bit (base .flags) sizedBit)
+pub base-sized : {least i bytes stride mask : ℕ} {base r : Row} → ArrayRow least i bytes stride mask base r → T (bit (base .flags) sizedBit)
 base-sized {base = base} a =
     and-right (bit (base .flags) dataBit) (bit (base .flags) sizedBit)
     (and-left (bit (base .flags) dataBit && bit (base .flags) sizedBit) (bit (base .flags) creationResolvedBit) (a .isBase))
 
 -- the row r of struct i
-pub record StructRow (inner : ℕ → TypeInner) (rows : ℕ → Row) (i alignment count span : ℕ) (members : List ℕ) (r : Row) : Type 0 where
+pub record StructRow (least : ℕ) (inner : ℕ → TypeInner) (rows : ℕ → Row) (i alignment count span : ℕ) (members : List ℕ) (r : Row) : Type 0 where
   pub nonempty : 0 < count
   pub after : Bounds
   pub accepted : boundsAfter inner rows count span members count ≡ ok after
   -- blend sources may add IO_SHAREABLE, and nothing else
   pub flags : (k : ℕ) → ioShareableFlag / 2 ^ k % 2 ≡ 0 → bit (r .flags) k ≡ bit (after .flags) k
   pub size : r .size ≡ span
-  pub uniform : r .uniform ≡ spanVerdict i span alignment (uniformAfter minUniform inner rows i members count)
+  pub uniform : r .uniform ≡ spanVerdict i span alignment (uniformAfter least inner rows i members count)
   pub storage : r .storage ≡ spanVerdict i span alignment (storageAfter rows i members count)
   pub immediates : r .immediates ≡ immediatesAfter rows members count
 
@@ -115,42 +115,42 @@ leaf-verdict-power (CooperativeMatrix cs rs k w o) p = p
 leaf-verdict-power (Atomic k w) p = p
 leaf-verdict-power (RayQuery v) p = power-one
 
-module _ (c : ℕ) (types : ℕ → Decoded) (n : ℕ) (acc : AcceptedTypes c types n) where
+module _ (least c : ℕ) (types : ℕ → Decoded) (n : ℕ) (acc : AcceptedTypes c types n) where
   -- the row of an accepted type is what its judgement gives
   pub row-judged : (i : ℕ) → i < n
-      → judge c (innerIn types) (rowsBefore c types i) i (layout types i) (types i .inner) (types i .members) ≡ ok (row c types i)
+      → judge least c (innerIn types) (rowsBefore least c types i) i (layout types i) (types i .inner) (types i .members) ≡ ok (row least c types i)
   unfolding resultAt
   row-judged i h =
-      let a = all-ok (judgedAt c types) n (acc .rows) i h in
-      a .1 ∙ ap ok (sym (value-ok emptyRow (judgeStep c types) i (a .0) (a .1)))
+      let a = all-ok (judgedAt least c types) n (acc .rows least) i h in
+      a .1 ∙ ap ok (sym (value-ok emptyRow (judgeStep least c types) i (a .0) (a .1)))
 
   -- the rows before i are the arena's
-  pub row-before : (i k : ℕ) → k < i → rowsBefore c types i k ≡ row c types k
-  row-before i k h = table-value emptyRow (judgeStep c types) i k h
+  pub row-before : (i k : ℕ) → k < i → rowsBefore least c types i k ≡ row least c types k
+  row-before i k h = table-value emptyRow (judgeStep least c types) i k h
 
   -- the parts of that judgement, by what the record says
   row-parts : (i : ℕ) → i < n → (this : TypeInner) → types i .inner ≡ this
-      → Judged c (innerIn types) (rowsBefore c types i) i (layout types i) this (types i .members) (row c types i)
+      → Judged least c (innerIn types) (rowsBefore least c types i) i (layout types i) this (types i .members) (row least c types i)
   row-parts i h this e =
-      subst (λ (x : TypeInner). Judged c (innerIn types) (rowsBefore c types i) i (layout types i) x (types i .members) (row c types i)) e
-      (judged-parts c (innerIn types) (rowsBefore c types i) i (layout types i) (types i .inner) (types i .members) (row c types i) (row-judged i h))
+      subst (λ (x : TypeInner). Judged least c (innerIn types) (rowsBefore least c types i) i (layout types i) x (types i .members) (row least c types i)) e
+      (judged-parts least c (innerIn types) (rowsBefore least c types i) i (layout types i) (types i .inner) (types i .members) (row least c types i) (row-judged i h))
 
   -- the size in a row is the layout's
-  pub row-size : (i : ℕ) → i < n → row c types i .size ≡ layout types i .size
+  pub row-size : (i : ℕ) → i < n → row least c types i .size ≡ layout types i .size
   unfolding rowOf
   row-size i h = ap (λ (r : Row). r .size) (row-parts i h (types i .inner) refl .is)
 
   -- and so is the alignment
-  pub row-alignment : (i : ℕ) → i < n → row c types i .alignment ≡ layout types i .alignment
+  pub row-alignment : (i : ℕ) → i < n → row least c types i .alignment ≡ layout types i .alignment
   unfolding rowOf
   row-alignment i h = ap (λ (r : Row). r .alignment) (row-parts i h (types i .inner) refl .is)
 
   -- the layout alignment is a power of two
-  pub row-alignment-power : (i : ℕ) → i < n → Power (row c types i .alignment)
+  pub row-alignment-power : (i : ℕ) → i < n → Power (row least c types i .alignment)
   row-alignment-power i h = rw (row-alignment i h) (layout-power types n (acc .bounds) (acc .layouts) i h)
 
   -- the row of a leaf
-  pub plain-row : (i : ℕ) → i < n → (leaf : Leaf) → types i .inner ≡ Plain leaf → PlainRow c leaf (row c types i)
+  pub plain-row : (i : ℕ) → i < n → (leaf : Leaf) → types i .inner ≡ Plain leaf → PlainRow c leaf (row least c types i)
   unfolding flagsOf uniformOf storageOf immediatesOf rowOf
   plain-row i h leaf e =
       let p = row-parts i h (Plain leaf) e in
@@ -164,14 +164,14 @@ module _ (c : ℕ) (types : ℕ → Decoded) (n : ℕ) (acc : AcceptedTypes c ty
 
   -- the base of an array is an earlier type; the array's row is made from the base's
   pub array-row : (i : ℕ) → i < n → (base count stride : ℕ) → types i .inner ≡ Array base count stride
-      → (base < i) × ArrayRow i (count * stride) stride 247 (row c types base) (row c types i)
+      → (base < i) × ArrayRow least i (count * stride) stride 247 (row least c types base) (row least c types i)
   unfolding flagsOf uniformOf storageOf immediatesOf rowOf
   array-row i h base count stride e =
       let p = row-parts i h (Array base count stride) e in
       let l = array-layout types n (acc .layouts) i h base count stride e in
-      let a = required (isSizedData (rowsBefore c types i base .flags)) 15 0 0 _ (row c types i .flags) (p .flags) in (
+      let a = required (isSizedData (rowsBefore least c types i base .flags)) 15 0 0 _ (row least c types i .flags) (p .flags) in (
         l .1,
-        subst (λ (b : Row). ArrayRow i (count * stride) stride 247 b (row c types i)) (row-before i base (l .1))
+        subst (λ (b : Row). ArrayRow least i (count * stride) stride 247 b (row least c types i)) (row-before i base (l .1))
             (record {
               isBase = a .0;
               flags = sym (ok-inj (a .1));
@@ -184,14 +184,14 @@ module _ (c : ℕ) (types : ℕ → Decoded) (n : ℕ) (acc : AcceptedTypes c ty
 
   -- the base of a runtime array is an earlier type; the array's row is made from the base's
   pub runtime-array-row : (i : ℕ) → i < n → (base stride : ℕ) → types i .inner ≡ RuntimeArray base stride
-      → (base < i) × ArrayRow i stride stride 149 (row c types base) (row c types i)
+      → (base < i) × ArrayRow least i stride stride 149 (row least c types base) (row least c types i)
   unfolding flagsOf uniformOf storageOf immediatesOf rowOf
   runtime-array-row i h base stride e =
       let p = row-parts i h (RuntimeArray base stride) e in
       let l = runtime-array-layout types n (acc .layouts) i h base stride e in
-      let a = required (isSizedData (rowsBefore c types i base .flags)) 15 0 0 _ (row c types i .flags) (p .flags) in (
+      let a = required (isSizedData (rowsBefore least c types i base .flags)) 15 0 0 _ (row least c types i .flags) (p .flags) in (
         l .1,
-        subst (λ (b : Row). ArrayRow i stride stride 149 b (row c types i)) (row-before i base (l .1))
+        subst (λ (b : Row). ArrayRow least i stride stride 149 b (row least c types i)) (row-before i base (l .1))
             (record {
               isBase = a .0;
               flags = sym (ok-inj (a .1));
@@ -210,115 +210,118 @@ module _ (c : ℕ) (types : ℕ → Decoded) (n : ℕ) (acc : AcceptedTypes c ty
 
   -- the row of a struct is made from those of its members' types
   pub struct-row : (i : ℕ) → i < n → (count span : ℕ) → types i .inner ≡ Struct count span
-      → StructRow (innerIn types) (row c types) i (layout types i .alignment) count span (types i .members) (row c types i)
+      → StructRow least (innerIn types) (row least c types) i (layout types i .alignment) count span (types i .members) (row least c types i)
   unfolding flagsOf uniformOf storageOf immediatesOf rowOf
   struct-row i h count span e =
       let p = row-parts i h (Struct count span) e in
       let members = types i .members in
-      let before = rowsBefore c types i in
-      let same : (j : ℕ) → j < count → before (memberType members j) ≡ row c types (memberType members j) =
+      let before = rowsBefore least c types i in
+      let same : (j : ℕ) → j < count → before (memberType members j) ≡ row least c types (memberType members j) =
       λ j l. row-before i (memberType members j) (member-earlier i h count span e j l) in
-      let s = struct-flags c (innerIn types) before count span members (row c types i .flags) (p .flags) in
+      let s = struct-flags c (innerIn types) before count span members (row least c types i .flags) (p .flags) in
       record {
         nonempty = ltb→lt 0 count (s .nonempty);
         after = s .after;
-        accepted = sym (bounds-rows before (row c types) members count same (innerIn types) count span count (le-refl count)) ∙ s .accepted;
-        flags = blend-bit (innerIn types) before members count (s .after .flags) (row c types i .flags) (s .blend);
+        accepted = sym (bounds-rows before (row least c types) members count same (innerIn types) count span count (le-refl count)) ∙ s .accepted;
+        flags = blend-bit (innerIn types) before members count (s .after .flags) (row least c types i .flags) (s .blend);
         size = row-size i h ∙ struct-layout types n (acc .layouts) i h count span e .0;
         uniform =
             ap (λ (r : Row). r .uniform) (p .is)
-            ∙ ap (spanVerdict i span (layout types i .alignment)) (uniform-rows before (row c types) members count same minUniform (innerIn types) i count (le-refl count));
+            ∙ ap (spanVerdict i span (layout types i .alignment)) (uniform-rows before (row least c types) members count same least (innerIn types) i count (le-refl count));
         storage =
             ap (λ (r : Row). r .storage) (p .is)
-            ∙ ap (spanVerdict i span (layout types i .alignment)) (storage-rows before (row c types) members count same i count (le-refl count));
-        immediates = ap (λ (r : Row). r .immediates) (p .is) ∙ immediates-rows before (row c types) members count same count (le-refl count);
+            ∙ ap (spanVerdict i span (layout types i .alignment)) (storage-rows before (row least c types) members count same i count (le-refl count));
+        immediates = ap (λ (r : Row). r .immediates) (p .is) ∙ immediates-rows before (row least c types) members count same count (le-refl count);
       }
 
   -- what an accepted struct says of its member j
   pub struct-member : (i : ℕ) (h : i < n) (count span : ℕ) (e : types i .inner ≡ Struct count span) (j : ℕ) → j < count
-      → MemberIn (innerIn types) (row c types) count span (types i .members) j (struct-row i h count span e .after)
+      → MemberIn (innerIn types) (row least c types) count span (types i .members) j (struct-row i h count span e .after)
   struct-member i h count span e j l =
       let s = struct-row i h count span e in
-      members-in (innerIn types) (row c types) count span (types i .members) count (s .after) (s .accepted) j l
+      members-in (innerIn types) (row least c types) count span (types i .members) count (s .after) (s .accepted) j l
 
   -- what is no data has Ok verdicts of alignment 1
   pub other-verdicts : (i : ℕ) → i < n → (o : NonData) → types i .inner ≡ Other o
-      → (row c types i .uniform ≡ okVerdict 1) × (row c types i .storage ≡ okVerdict 1)
+      → (row least c types i .uniform ≡ okVerdict 1) × (row least c types i .storage ≡ okVerdict 1)
   unfolding uniformOf storageOf rowOf
   other-verdicts i h o e =
       let p = row-parts i h (Other o) e in
       (ap (λ (r : Row). r .uniform) (p .is), ap (λ (r : Row). r .storage) (p .is))
 
   -- ---- DATA: just leaves, arrays and structs
-  pub data-kind : (i : ℕ) → i < n → bit (row c types i .flags) dataBit ≡ isDataInner (types i .inner)
+  pub data-kind : (i : ℕ) → i < n → bit (row least c types i .flags) dataBit ≡ isDataInner (types i .inner)
   data-kind i h =
-      flags-data c (innerIn types) (rowsBefore c types i) (types i .inner) (types i .members) (row c types i .flags) (row-parts i h (types i .inner) refl .flags)
+      flags-data c (innerIn types) (rowsBefore least c types i) (types i .inner) (types i .members) (row least c types i .flags) (row-parts i h (types i .inner) refl .flags)
 
-  -- ---- verdict alignments are powers of two
-  -- those of an array are, where the base's are
-  array-row-power : (i bytes stride mask : ℕ) (base r : Row) → ArrayRow i bytes stride mask base r → Power (base .alignment) → RowPower base → RowPower r
-  array-row-power i bytes stride mask base r a l p =
-      record {
-        uniform = rw (a .uniform) (array-power minUniform i stride (base .alignment) (base .uniform) (record { exponent = 4; is = refl }) l (p .uniform));
-        storage = rw (a .storage) (array-power minStorage i stride (base .alignment) (base .storage) power-one l (p .storage));
-      }
+  -- ---- verdict alignments are powers of two, where the minimum alignment is
+  module _ (least-is : Power least) where
+    -- those of an array are, where the base's are
+    array-row-power : (i bytes stride mask : ℕ) (base r : Row) → ArrayRow least i bytes stride mask base r → Power (base .alignment) → RowPower base → RowPower r
+    array-row-power i bytes stride mask base r a l p =
+        record {
+          uniform = rw (a .uniform) (array-power least i stride (base .alignment) (base .uniform) least-is l (p .uniform));
+          storage = rw (a .storage) (array-power minStorage i stride (base .alignment) (base .storage) power-one l (p .storage));
+        }
 
-  -- those of type i are, where the earlier types' are
-  power-step : (i : ℕ) → i < n → (this : TypeInner) → types i .inner ≡ this → ((k : ℕ) → k < i → RowPower (row c types k)) → RowPower (row c types i)
-  power-step i h (Plain leaf) e ih =
-      let p = plain-row i h leaf e in
-      let w = leaf-verdict-power leaf (power-of-width (leafWidth leaf) (plain-width types n (acc .layouts) i h leaf e)) in
-      record {
-        uniform = rw (p .uniform) (ok-power (leafVerdictAlignment leaf) w);
-        storage = rw (p .storage) (ok-power (leafVerdictAlignment leaf) w);
-      }
-  power-step i h (Array base count stride) e ih =
-      let a = array-row i h base count stride e in
-      array-row-power i (count * stride) stride 247 (row c types base) (row c types i) (a .1) (row-alignment-power base (omega (arith, a .0))) (ih base (a .0))
-  power-step i h (RuntimeArray base stride) e ih =
-      let a = runtime-array-row i h base stride e in
-      array-row-power i stride stride 149 (row c types base) (row c types i) (a .1) (row-alignment-power base (omega (arith, a .0))) (ih base (a .0))
-  power-step i h (Struct count span) e ih =
-      let s = struct-row i h count span e in
-      let members = types i .members in
-      let u = uniformAfter minUniform (innerIn types) (row c types) i members count in
-      let t = storageAfter (row c types) i members count in
-      let a = layout types i .alignment in
-      record {
-        uniform =
-            rw (s .uniform)
-            (same-power u (spanVerdict i span a u) (span-ok i span a u)
-            (uniform-power-after minUniform (innerIn types) (row c types) i members (record { exponent = 4; is = refl }) count
-            (λ m l. ih (memberType members m) (member-earlier i h count span e m l) .uniform)));
-        storage =
-            rw (s .storage)
-            (same-power t (spanVerdict i span a t) (span-ok i span a t)
-            (storage-power-after (row c types) i members count
-            (λ m l. ih (memberType members m) (member-earlier i h count span e m l) .storage)));
-      }
-  power-step i h (Other o) e ih =
-      let v = other-verdicts i h o e in
-      record { uniform = rw (v .0) (ok-power 1 power-one); storage = rw (v .1) (ok-power 1 power-one) }
+    -- those of type i are, where the earlier types' are
+    power-step : (i : ℕ) → i < n → (this : TypeInner) → types i .inner ≡ this → ((k : ℕ) → k < i → RowPower (row least c types k)) → RowPower (row least c types i)
+    power-step i h (Plain leaf) e ih =
+        let p = plain-row i h leaf e in
+        let w = leaf-verdict-power leaf (power-of-width (leafWidth leaf) (plain-width types n (acc .layouts) i h leaf e)) in
+        record {
+          uniform = rw (p .uniform) (ok-power (leafVerdictAlignment leaf) w);
+          storage = rw (p .storage) (ok-power (leafVerdictAlignment leaf) w);
+        }
+    power-step i h (Array base count stride) e ih =
+        let a = array-row i h base count stride e in
+        array-row-power i (count * stride) stride 247 (row least c types base) (row least c types i) (a .1) (row-alignment-power base (omega (arith, a .0))) (ih base (a .0))
+    power-step i h (RuntimeArray base stride) e ih =
+        let a = runtime-array-row i h base stride e in
+        array-row-power i stride stride 149 (row least c types base) (row least c types i) (a .1) (row-alignment-power base (omega (arith, a .0))) (ih base (a .0))
+    power-step i h (Struct count span) e ih =
+        let s = struct-row i h count span e in
+        let members = types i .members in
+        let u = uniformAfter least (innerIn types) (row least c types) i members count in
+        let t = storageAfter (row least c types) i members count in
+        let a = layout types i .alignment in
+        record {
+          uniform =
+              rw (s .uniform)
+              (same-power u (spanVerdict i span a u) (span-ok i span a u)
+              (uniform-power-after least (innerIn types) (row least c types) i members least-is count
+              (λ m l. ih (memberType members m) (member-earlier i h count span e m l) .uniform)));
+          storage =
+              rw (s .storage)
+              (same-power t (spanVerdict i span a t) (span-ok i span a t)
+              (storage-power-after (row least c types) i members count
+              (λ m l. ih (memberType members m) (member-earlier i h count span e m l) .storage)));
+        }
+    power-step i h (Other o) e ih =
+        let v = other-verdicts i h o e in
+        record { uniform = rw (v .0) (ok-power 1 power-one); storage = rw (v .1) (ok-power 1 power-one) }
 
-  -- those of the first m types are
-  powers-below : (m : ℕ) → m ≤ n → (i : ℕ) → i < m → RowPower (row c types i)
-  powers-below zero l i h = absurd (not-suc-le-zero h)
-  powers-below (suc m) l i h = go (powers-below m (omega arith)) (ℕ-discrete i m)
-    where
-      go : ((k : ℕ) → k < m → RowPower (row c types k)) → Dec (i ≡ m) → RowPower (row c types i)
-      go ih (yes q) = rw q (power-step m l (types m .inner) refl ih)
-      go ih (no q) = ih i (omega arith)
+    -- those of the first m types are
+    powers-below : (m : ℕ) → m ≤ n → (i : ℕ) → i < m → RowPower (row least c types i)
+    powers-below zero l i h = absurd (not-suc-le-zero h)
+    powers-below (suc m) l i h = go (powers-below m (omega arith)) (ℕ-discrete i m)
+      where
+        go : ((k : ℕ) → k < m → RowPower (row least c types k)) → Dec (i ≡ m) → RowPower (row least c types i)
+        go ih (yes q) = rw q (power-step m l (types m .inner) refl ih)
+        go ih (no q) = ih i (omega arith)
 
-  -- those of each type are
-  pub row-power : (i : ℕ) → i < n → RowPower (row c types i)
-  row-power = powers-below n (le-refl n)
+    -- those of each type are
+    pub row-power : (i : ℕ) → i < n → RowPower (row least c types i)
+    row-power = powers-below n (le-refl n)
 
   -- ---- unsized types: only the last member of a struct, and only an array
   pub member-sized : (i : ℕ) → i < n → (count span : ℕ) → types i .inner ≡ Struct count span → (j : ℕ) → j < count
-      → T (bit (row c types (memberType (types i .members) j) .flags) sizedBit)
+      → T (bit (row least c types (memberType (types i .members) j) .flags) sizedBit)
       ⊎ (T (isArray (types (memberType (types i .members) j) .inner)) × (suc j ≡ count))
   member-sized i h count span e j l = struct-member i h count span e j l .sizedOrTail
 
+-- ---- acceptance asks for no minimum alignment
+module _ (c : ℕ) (types : ℕ → Decoded) (n : ℕ) (acc : AcceptedTypes c types n) where
   -- ---- the same records below n
   module _ (types′ : ℕ → Decoded) (same : (k : ℕ) → k < n → types k ≡ types′ k) where
     -- the types are accepted in the other arena too
@@ -329,20 +332,20 @@ module _ (c : ℕ) (types : ℕ → Decoded) (n : ℕ) (acc : AcceptedTypes c ty
           layouts = accepted-all (layoutAt types′) n (λ i h.
               let a = all-ok (layoutAt types) n (acc .layouts) i h in
               (a .0, sym (layout-at-depends types types′ n same i h) ∙ a .1));
-          rows = accepted-all (judgedAt c types′) n (λ i h.
-              let a = all-ok (judgedAt c types) n (acc .rows) i h in
-              (a .0, judged-depends types types′ n same c i h (a .0) (a .1)));
+          rows = λ least. accepted-all (judgedAt least c types′) n (λ i h.
+              let a = all-ok (judgedAt least c types) n (acc .rows least) i h in
+              (a .0, judged-depends types types′ n same least c i h (a .0) (a .1)));
         }
 
   -- ---- capabilities added
   module _ (d : ℕ) (adds : HasAll c d) where
     -- what is judged with c is judged the same with d
-    more : (i : ℕ) → i < n → (r : Row) → judgeStep c types (rowsBefore c types i) i ≡ ok r → judgeStep d types (rowsBefore c types i) i ≡ ok r
-    more i h r e = judge-more c d adds (innerIn types) (rowsBefore c types i) i (layout types i) (types i .inner) (types i .members) r e
+    more : (least i : ℕ) → i < n → (r : Row) → judgeStep least c types (rowsBefore least c types i) i ≡ ok r → judgeStep least d types (rowsBefore least c types i) i ≡ ok r
+    more least i h r e = judge-more c d adds least (innerIn types) (rowsBefore least c types i) i (layout types i) (types i .inner) (types i .members) r e
 
     -- the rows stay
-    pub row-more : (i : ℕ) → i < n → row c types i ≡ row d types i
-    row-more = same-value emptyRow (judgeStep c types) (judgeStep d types) n (all-ok (judgedAt c types) n (acc .rows)) more
+    pub row-more : (least i : ℕ) → i < n → row least c types i ≡ row least d types i
+    row-more least = same-value emptyRow (judgeStep least c types) (judgeStep least d types) n (all-ok (judgedAt least c types) n (acc .rows least)) (more least)
 
     -- the types stay accepted
     pub accepted-more : AcceptedTypes d types n
@@ -350,7 +353,8 @@ module _ (c : ℕ) (types : ℕ → Decoded) (n : ℕ) (acc : AcceptedTypes c ty
         record {
           bounds = acc .bounds;
           layouts = acc .layouts;
-          rows = accepted-all (judgedAt d types) n (same-good emptyRow (judgeStep c types) (judgeStep d types) n (all-ok (judgedAt c types) n (acc .rows)) more);
+          rows = λ least. accepted-all (judgedAt least d types) n
+              (same-good emptyRow (judgeStep least c types) (judgeStep least d types) n (all-ok (judgedAt least c types) n (acc .rows least)) (more least));
         }
 
 -- fewer of the types are accepted too
@@ -359,13 +363,13 @@ fewer-types c types m n l acc =
     record {
       bounds = λ i h. acc .bounds i (omega arith);
       layouts = accepted-all (layoutAt types) m (λ i h. all-ok (layoutAt types) n (acc .layouts) i (omega arith));
-      rows = accepted-all (judgedAt c types) m (λ i h. all-ok (judgedAt c types) n (acc .rows) i (omega arith));
+      rows = λ least. accepted-all (judgedAt least c types) m (λ i h. all-ok (judgedAt least c types) n (acc .rows least) i (omega arith));
     }
 
 -- the rows of accepted types depend on their records alone, not on the capability word nor on later types
-pub row-capability : (c d : ℕ) (types types′ : ℕ → Decoded) (n : ℕ) → AcceptedTypes c types n → AcceptedTypes d types′ n
-    → ((k : ℕ) → k < n → types k ≡ types′ k) → (i : ℕ) → i < n → row c types i ≡ row d types′ i
-row-capability c d types types′ n acc acc′ same i h =
-    row-more c types n acc (bitOr c d) (bit-or-left c d) i h
-    ∙ row-depends types types′ n same (bitOr c d) i h
-    ∙ sym (row-more d types′ n acc′ (bitOr c d) (bit-or-right c d) i h)
+pub row-capability : (least c d : ℕ) (types types′ : ℕ → Decoded) (n : ℕ) → AcceptedTypes c types n → AcceptedTypes d types′ n
+    → ((k : ℕ) → k < n → types k ≡ types′ k) → (i : ℕ) → i < n → row least c types i ≡ row least d types′ i
+row-capability least c d types types′ n acc acc′ same i h =
+    row-more c types n acc (bitOr c d) (bit-or-left c d) least i h
+    ∙ row-depends types types′ n same least (bitOr c d) i h
+    ∙ sym (row-more d types′ n acc′ (bitOr c d) (bit-or-right c d) least i h)

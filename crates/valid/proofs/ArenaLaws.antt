@@ -1,6 +1,6 @@
 -- Laws of an accepted arena: its parts, and what it says of the rows of its types.
 -- Assumes nothing.
-use mathlib.Core.Path.{_≡_, refl, _∙_}
+use mathlib.Core.Path.{_≡_, refl, sym, _∙_}
 use mathlib.Core.Bool.{Bool, true, false, _&&_, _||_}
 use mathlib.Core.Logic.{_⊎_}
 use mathlib.Core.List.{List, _++_}
@@ -22,11 +22,14 @@ use Rattle.records.proofs.RecordLaws.{record-bounds}
 use Rattle.alignment.specs.Alignment.{Power}
 use Rattle.layouter.specs.Layouter.{layoutAt, layoutOutcome}
 use Rattle.flags.specs.Flags.{bit, dataBit, sizedBit}
-use Rattle.type_info.specs.Verdict.{isOk, alignmentIn}
+use Rattle.type_info.specs.declared.UniformRule.{UniformRule}
+use Rattle.type_info.specs.Verdict.{minStorage, leastFor, isOk, alignmentIn}
+use Rattle.type_info.proofs.DistanceLaws.{least-power}
 use Rattle.member_bounds.specs.MemberBounds.{isArray}
 use Rattle.valid.specs.Arena.{judgedAt, row, judgeOutcome, arenaOutcome, arena}
 use Rattle.validate_type.proofs.CapabilityLaws.{HasAll}
 use Rattle.validate_type.proofs.JudgeLaws.{isDataInner}
+use Rattle.valid.proofs.CommonLaws.{refused-common}
 use Rattle.valid.proofs.AcceptedLaws.{AcceptedTypes, array-row, runtime-array-row, base-sized, member-earlier, member-sized, data-kind, row-power, row-alignment-power, accepted-more, fewer-types, row-capability}
 use Rattle.valid.proofs.AppendLaws.{types-append, decoded-append}
 
@@ -36,7 +39,7 @@ pub record ArenaParts (c : ℕ) (ts ms : List ℕ) : Type 0 where
   pub fits : T (tablesFit (length ts) (length ms) (typeCount ts * rowWords))
   pub records : firstRefusal (recordAt ts ms) (typeCount ts) ≡ Accepted
   pub layouts : firstRefusal (layoutAt (decoded ts ms)) (typeCount ts) ≡ Accepted
-  pub rows : firstRefusal (judgedAt c (decoded ts ms)) (typeCount ts) ≡ Accepted
+  pub rows : (least : ℕ) → firstRefusal (judgedAt least c (decoded ts ms)) (typeCount ts) ≡ Accepted
 
 -- where the outcome behind a test is Accepted, the test holds
 pick-accepted : (b : Bool) (o : Outcome) → pick b o (Refused 1 0 0 0) ≡ Accepted → T b × (o ≡ Accepted)
@@ -62,7 +65,7 @@ arena-parts c ts ms e =
     let a = pick-accepted (known && fit) (arenaOutcome c ts ms) e in
     let b = also-accepted (layoutOutcome ts ms) (judgeOutcome c ts ms) (a .1) in
     let d = also-accepted (firstRefusal (recordAt ts ms) (typeCount ts)) (firstRefusal (layoutAt (decoded ts ms)) (typeCount ts)) (b .0) in
-    record { capabilities = and-left known fit (a .0); fits = and-right known fit (a .0); records = d .0; layouts = d .1; rows = b .1 }
+    record { capabilities = and-left known fit (a .0); fits = and-right known fit (a .0); records = d .0; layouts = d .1; rows = λ least. refused-common least c (decoded ts ms) (typeCount ts) ∙ b .1 }
 
 -- an arena that passes every check is accepted
 pub arena-whole : (c : ℕ) (ts ms : List ℕ) → ArenaParts c ts ms → arena c ts ms ≡ Accepted
@@ -70,7 +73,7 @@ unfolding arena arenaOutcome layoutOutcome judgeOutcome
 arena-whole c ts ms p =
     let known = capabilitiesKnown c in
     let fit = tablesFit (length ts) (length ms) (typeCount ts * rowWords) in
-    accepted-pick (known && fit) (arenaOutcome c ts ms) (and-both known fit (p .capabilities) (p .fits)) (rw (p .records, p .layouts) (p .rows))
+    accepted-pick (known && fit) (arenaOutcome c ts ms) (and-both known fit (p .capabilities) (p .fits)) (rw (p .records, p .layouts) (sym (refused-common minStorage c (decoded ts ms) (typeCount ts)) ∙ p .rows minStorage))
 
 -- each record is in order
 pub record-accepted : (c : ℕ) (ts ms : List ℕ) → arena c ts ms ≡ Accepted → (i : ℕ) → i < typeCount ts → recordAt ts ms i ≡ ok tt
@@ -96,10 +99,10 @@ arena-more c d adds known ts ms e =
     })
 
 -- ---- the row of a type depends on records up to it alone: on no capability, and on no appended record
-pub arena-row-capability : (c d : ℕ) (ts ms : List ℕ) → arena c ts ms ≡ Accepted → arena d ts ms ≡ Accepted
-    → (t : ℕ) → t < typeCount ts → row c (decoded ts ms) t ≡ row d (decoded ts ms) t
-arena-row-capability c d ts ms e e′ =
-    row-capability c d (decoded ts ms) (decoded ts ms) (typeCount ts) (accepted-types c ts ms e) (accepted-types d ts ms e′) (λ k h. refl)
+pub arena-row-capability : (least c d : ℕ) (ts ms : List ℕ) → arena c ts ms ≡ Accepted → arena d ts ms ≡ Accepted
+    → (t : ℕ) → t < typeCount ts → row least c (decoded ts ms) t ≡ row least d (decoded ts ms) t
+arena-row-capability least c d ts ms e e′ =
+    row-capability least c d (decoded ts ms) (decoded ts ms) (typeCount ts) (accepted-types c ts ms e) (accepted-types d ts ms e′) (λ k h. refl)
 
 -- accepted records decode alike in a longer table
 pub decoded-same : (c : ℕ) (ts ms ts′ ms′ : List ℕ) → arena c ts ms ≡ Accepted
@@ -107,15 +110,15 @@ pub decoded-same : (c : ℕ) (ts ms ts′ ms′ : List ℕ) → arena c ts ms �
 decoded-same c ts ms ts′ ms′ e k h = decoded-append ts ms ts′ ms′ k h (record-accepted c ts ms e k h)
 
 -- types appended with further member records, any capabilities
-pub arena-row-append : (c d : ℕ) (ts ms ts′ ms′ : List ℕ) → arena c ts ms ≡ Accepted → arena d (ts ++ ts′) (ms ++ ms′) ≡ Accepted
-    → (t : ℕ) → t < typeCount ts → row c (decoded ts ms) t ≡ row d (decoded (ts ++ ts′) (ms ++ ms′)) t
-arena-row-append c d ts ms ts′ ms′ e e′ =
-    row-capability c d (decoded ts ms) (decoded (ts ++ ts′) (ms ++ ms′)) (typeCount ts) (accepted-types c ts ms e)
+pub arena-row-append : (least c d : ℕ) (ts ms ts′ ms′ : List ℕ) → arena c ts ms ≡ Accepted → arena d (ts ++ ts′) (ms ++ ms′) ≡ Accepted
+    → (t : ℕ) → t < typeCount ts → row least c (decoded ts ms) t ≡ row least d (decoded (ts ++ ts′) (ms ++ ms′)) t
+arena-row-append least c d ts ms ts′ ms′ e e′ =
+    row-capability least c d (decoded ts ms) (decoded (ts ++ ts′) (ms ++ ms′)) (typeCount ts) (accepted-types c ts ms e)
     (fewer-types d (decoded (ts ++ ts′) (ms ++ ms′)) (typeCount ts) (typeCount (ts ++ ts′)) (types-append ts ms ts′ ms′)
     (accepted-types d (ts ++ ts′) (ms ++ ms′) e′))
     (decoded-same c ts ms ts′ ms′ e)
 
--- ---- what an accepted arena says of type i
+-- ---- what an accepted arena says of type i, by either uniform rule
 -- the kinds of data: 0 to 4 and 12 are leaves, 7 is arrays, 8 is structs
 abbrev pub isDataKind : ℕ → Bool
 isDataKind kind =
@@ -160,49 +163,49 @@ inner-data kind a b c d e =
     (data-unless (eqb kind 11) _ _ _ (λ t. rw (eqb→eq kind 11 t) refl)
     (data-only (eqb kind 12) _ _ refl refl))))))))))))
 
-module _ (c : ℕ) (ts ms : List ℕ) (accepted : arena c ts ms ≡ Accepted) (i : ℕ) (within : i < typeCount ts) where
+module _ (rule : UniformRule) (c : ℕ) (ts ms : List ℕ) (accepted : arena c ts ms ≡ Accepted) (i : ℕ) (within : i < typeCount ts) where
   -- DATA is a matter of what the record says
-  pub arena-data : bit (row c (decoded ts ms) i .flags) dataBit ≡ isDataInner (typeInner ts i)
-  arena-data = data-kind c (decoded ts ms) (typeCount ts) (accepted-types c ts ms accepted) i within
+  pub arena-data : bit (row (leastFor rule) c (decoded ts ms) i .flags) dataBit ≡ isDataInner (typeInner ts i)
+  arena-data = data-kind (leastFor rule) c (decoded ts ms) (typeCount ts) (accepted-types c ts ms accepted) i within
 
   -- DATA by the kind: true for 0 to 4, 7, 8 and 12, false for the others
-  pub arena-data-kind : bit (row c (decoded ts ms) i .flags) dataBit ≡ isDataKind (typeWord ts i 0)
+  pub arena-data-kind : bit (row (leastFor rule) c (decoded ts ms) i .flags) dataBit ≡ isDataKind (typeWord ts i 0)
   unfolding typeInner
   arena-data-kind = arena-data ∙ inner-data (typeWord ts i 0) (typeWord ts i 1) (typeWord ts i 2) (typeWord ts i 3) (typeWord ts i 4) (typeWord ts i 5)
 
   -- the layout alignment is a power of two
-  pub arena-alignment-power : Power (row c (decoded ts ms) i .alignment)
-  arena-alignment-power = row-alignment-power c (decoded ts ms) (typeCount ts) (accepted-types c ts ms accepted) i within
+  pub arena-alignment-power : Power (row (leastFor rule) c (decoded ts ms) i .alignment)
+  arena-alignment-power = row-alignment-power (leastFor rule) c (decoded ts ms) (typeCount ts) (accepted-types c ts ms accepted) i within
 
   -- so is the alignment in a storage verdict that is Ok
-  pub arena-storage-power : T (isOk (row c (decoded ts ms) i .storage)) → Power (alignmentIn (row c (decoded ts ms) i .storage))
-  arena-storage-power = row-power c (decoded ts ms) (typeCount ts) (accepted-types c ts ms accepted) i within .storage
+  pub arena-storage-power : T (isOk (row (leastFor rule) c (decoded ts ms) i .storage)) → Power (alignmentIn (row (leastFor rule) c (decoded ts ms) i .storage))
+  arena-storage-power = row-power (leastFor rule) c (decoded ts ms) (typeCount ts) (accepted-types c ts ms accepted) (least-power rule) i within .storage
 
   -- so is the alignment in a uniform verdict that is Ok
-  pub arena-uniform-power : T (isOk (row c (decoded ts ms) i .uniform)) → Power (alignmentIn (row c (decoded ts ms) i .uniform))
-  arena-uniform-power = row-power c (decoded ts ms) (typeCount ts) (accepted-types c ts ms accepted) i within .uniform
+  pub arena-uniform-power : T (isOk (row (leastFor rule) c (decoded ts ms) i .uniform)) → Power (alignmentIn (row (leastFor rule) c (decoded ts ms) i .uniform))
+  arena-uniform-power = row-power (leastFor rule) c (decoded ts ms) (typeCount ts) (accepted-types c ts ms accepted) (least-power rule) i within .uniform
 
   -- an array's base is an earlier type, and SIZED
   pub arena-array-base : (base count stride : ℕ) → typeInner ts i ≡ Array base count stride
-      → (base < i) × T (bit (row c (decoded ts ms) base .flags) sizedBit)
+      → (base < i) × T (bit (row (leastFor rule) c (decoded ts ms) base .flags) sizedBit)
   arena-array-base base count stride e =
-      let a = array-row c (decoded ts ms) (typeCount ts) (accepted-types c ts ms accepted) i within base count stride e in
+      let a = array-row (leastFor rule) c (decoded ts ms) (typeCount ts) (accepted-types c ts ms accepted) i within base count stride e in
       (a .0, base-sized (a .1))
 
   -- a runtime array's base is an earlier type, and SIZED
   pub arena-runtime-array-base : (base stride : ℕ) → typeInner ts i ≡ RuntimeArray base stride
-      → (base < i) × T (bit (row c (decoded ts ms) base .flags) sizedBit)
+      → (base < i) × T (bit (row (leastFor rule) c (decoded ts ms) base .flags) sizedBit)
   arena-runtime-array-base base stride e =
-      let a = runtime-array-row c (decoded ts ms) (typeCount ts) (accepted-types c ts ms accepted) i within base stride e in
+      let a = runtime-array-row (leastFor rule) c (decoded ts ms) (typeCount ts) (accepted-types c ts ms accepted) i within base stride e in
       (a .0, base-sized (a .1))
 
   -- a struct's member is of an earlier type, and SIZED unless it is the last member and an array
   pub arena-member : (count span : ℕ) → typeInner ts i ≡ Struct count span → (j : ℕ) → j < count
       → (memberType (structMembers ts ms i) j < i)
-      × (T (bit (row c (decoded ts ms) (memberType (structMembers ts ms i) j) .flags) sizedBit)
+      × (T (bit (row (leastFor rule) c (decoded ts ms) (memberType (structMembers ts ms i) j) .flags) sizedBit)
       ⊎ (T (isArray (typeInner ts (memberType (structMembers ts ms i) j))) × (suc j ≡ count)))
   arena-member count span e j l =
       let acc = accepted-types c ts ms accepted in (
-        member-earlier c (decoded ts ms) (typeCount ts) acc i within count span e j l,
-        member-sized c (decoded ts ms) (typeCount ts) acc i within count span e j l,
+        member-earlier (leastFor rule) c (decoded ts ms) (typeCount ts) acc i within count span e j l,
+        member-sized (leastFor rule) c (decoded ts ms) (typeCount ts) acc i within count span e j l,
       )

@@ -17,7 +17,10 @@ use Rattle.records.proofs.TableLaws.{also-accepted, outcome-accepted, flat-leng
 use Rattle.records.proofs.RecordLaws.{Fitting, tables-fitting}
 use Rattle.rows.specs.Rows.{cleared}
 use Rattle.layouter.specs.Layouter.{layoutAt, layoutRowAt, layoutRows, layoutOutcome, layoutAnswer, layoutWords, rowsAfter}
-use Rattle.valid.specs.Arena.{judgedAt, row, rowAt, laidThenJudged, judgeOutcome, arenaOutcome, arenaFits, arenaAnswer, arenaRows, arenaWords, afterBoth}
+use Rattle.type_info.specs.declared.UniformRule.{UniformRule}
+use Rattle.type_info.specs.Verdict.{leastFor}
+use Rattle.valid.specs.Arena.{judgedAt, commonAt, row, rowAt, laidThenJudged, judgeOutcome, arenaOutcome, arenaFits, arenaAnswer, arenaRows, arenaWords, afterBoth}
+use Rattle.valid.proofs.CommonLaws.{refused-common}
 use Rattle.valid.proofs.JudgeRows.{row-length, passed-records, passed-layouts, passed-rows}
 
 -- the rows of n laid-out types are n rows long
@@ -60,14 +63,14 @@ unfolding layoutAnswer layoutWords
 layout-refused ts ms rows fits e = let q = rw fits at e in (q, rw (fits, q) refl)
 
 -- ---- judging type by type, against 2 to 7 of all types and then the rows
-module _ (c : ℕ) (ts ms : List ℕ) where
-  pub all-passed : firstRefusal (laidThenJudged c ts ms) (typeCount ts) ≡ Accepted → arenaOutcome c ts ms ≡ Accepted
+module _ (least c : ℕ) (ts ms : List ℕ) where
+  pub all-passed : firstRefusal (laidThenJudged least c ts ms) (typeCount ts) ≡ Accepted → arenaOutcome c ts ms ≡ Accepted
   unfolding arenaOutcome layoutOutcome judgeOutcome
-  all-passed e = rw (passed-records c ts ms (typeCount ts) e, passed-layouts c ts ms (typeCount ts) e) (passed-rows c ts ms (typeCount ts) e)
+  all-passed e = rw (passed-records least c ts ms (typeCount ts) e, passed-layouts least c ts ms (typeCount ts) e) (sym (refused-common least c (decoded ts ms) (typeCount ts)) ∙ passed-rows least c ts ms (typeCount ts) e)
 
   -- where the first n types pass 2 to 7, the first refusal is that of the rows
   rows-alone : (n : ℕ) → firstRefusal (recordAt ts ms) n ≡ Accepted → firstRefusal (layoutAt (decoded ts ms)) n ≡ Accepted
-      → firstRefusal (laidThenJudged c ts ms) n ≡ firstRefusal (judgedAt c (decoded ts ms)) n
+      → firstRefusal (laidThenJudged least c ts ms) n ≡ firstRefusal (judgedAt least c (decoded ts ms)) n
   rows-alone zero e f = refl
   rows-alone (suc n) e f =
       let p = also-accepted (firstRefusal (recordAt ts ms) n) (outcomeAt n (recordAt ts ms n)) e in
@@ -77,26 +80,26 @@ module _ (c : ℕ) (ts ms : List ℕ) where
       rw (rows-alone n (p .0) (q .0), r .1, s .1) refl
 
   -- the first refusal type by type serves for the rows, behind that of 2 to 7
-  pub also-judged : also (layoutOutcome ts ms) (firstRefusal (laidThenJudged c ts ms) (typeCount ts)) ≡ arenaOutcome c ts ms
+  pub also-judged : also (layoutOutcome ts ms) (firstRefusal (laidThenJudged least c ts ms) (typeCount ts)) ≡ arenaOutcome c ts ms
   unfolding arenaOutcome layoutOutcome judgeOutcome
   also-judged = go (layoutOutcome ts ms) refl
     where
       go : (o : Outcome) → layoutOutcome ts ms ≡ o
-          → also o (firstRefusal (laidThenJudged c ts ms) (typeCount ts)) ≡ also o (firstRefusal (judgedAt c (decoded ts ms)) (typeCount ts))
+          → also o (firstRefusal (laidThenJudged least c ts ms) (typeCount ts)) ≡ also o (firstRefusal (commonAt c (decoded ts ms)) (typeCount ts))
       go Accepted e =
           let p = also-accepted (firstRefusal (recordAt ts ms) (typeCount ts)) (firstRefusal (layoutAt (decoded ts ms)) (typeCount ts)) e in
-          rows-alone (typeCount ts) (p .0) (p .1)
+          rows-alone (typeCount ts) (p .0) (p .1) ∙ refused-common least c (decoded ts ms) (typeCount ts)
       go (Refused number ty member detail) e = refl
 
 -- a refusal of the layouts is the check's
-module _ (c : ℕ) (ts ms rows : List ℕ) (known : capabilitiesKnown c ≡ true) (number ty member detail : ℕ)
+module _ (rule : UniformRule) (c : ℕ) (ts ms rows : List ℕ) (known : capabilitiesKnown c ≡ true) (number ty member detail : ℕ)
     (e : layoutAnswer ts ms rows ≡ Refused number ty member detail) where
-  pub refused-same : (arenaAnswer c ts ms rows ≡ Refused number ty member detail) × (arenaWords c ts ms rows ≡ layoutWords ts ms rows)
+  pub refused-same : (arenaAnswer c ts ms rows ≡ Refused number ty member detail) × (arenaWords rule c ts ms rows ≡ layoutWords ts ms rows)
   unfolding layoutAnswer layoutWords arenaAnswer arenaOutcome arenaWords
   refused-same = go (tablesFit (length ts) (length ms) (length rows)) refl e
     where
       go : (b : Bool) → tablesFit (length ts) (length ms) (length rows) ≡ b → pick b (layoutOutcome ts ms) (Refused 1 0 0 0) ≡ Refused number ty member detail
-          → (arenaAnswer c ts ms rows ≡ Refused number ty member detail) × (arenaWords c ts ms rows ≡ layoutWords ts ms rows)
+          → (arenaAnswer c ts ms rows ≡ Refused number ty member detail) × (arenaWords rule c ts ms rows ≡ layoutWords ts ms rows)
       go true p q = (rw (known, p, q) refl, rw (known, p, q) refl)
       go false p q = (rw (known, p) q, rw (known, p) refl)
 
@@ -113,25 +116,25 @@ rows-alike (Refused number ty member detail) made n e rows rows′ =
 
 -- two lent stretches of one length: the same answer, and the same words for the types unless it is number 1 by the lengths or the capability
 -- word, which touches nothing
-pub alike : (c : ℕ) (ts ms rows rows′ : List ℕ) → length rows ≡ length rows′
+pub alike : (rule : UniformRule) (c : ℕ) (ts ms rows rows′ : List ℕ) → length rows ≡ length rows′
     → (arenaAnswer c ts ms rows ≡ arenaAnswer c ts ms rows′)
     × (arenaFits c ts ms rows ≡ true
-    → take (typeCount ts * rowWords) (arenaWords c ts ms rows) ≡ take (typeCount ts * rowWords) (arenaWords c ts ms rows′))
+    → take (typeCount ts * rowWords) (arenaWords rule c ts ms rows) ≡ take (typeCount ts * rowWords) (arenaWords rule c ts ms rows′))
 unfolding arenaAnswer arenaWords arenaRows
-alike c ts ms rows rows′ e = (
+alike rule c ts ms rows rows′ e = (
   rw e refl,
   λ fits.
       let fits′ : arenaFits c ts ms rows′ ≡ true = rw e at fits in
       rw (fits, fits′)
-      (rows-alike (arenaOutcome c ts ms) (arenaRows c ts ms (typeCount ts)) (typeCount ts)
-      (flat-length (rowAt c ts ms) rowWords (λ i. row-length (row c (decoded ts ms) i)) (typeCount ts)) rows rows′),
+      (rows-alike (arenaOutcome c ts ms) (arenaRows rule c ts ms (typeCount ts)) (typeCount ts)
+      (flat-length (rowAt (leastFor rule) c ts ms) rowWords (λ i. row-length (row (leastFor rule) c (decoded ts ms) i)) (typeCount ts)) rows rows′),
 )
 
 -- a capability bit that is not known is number 1, before anything is touched
-pub unknown-untouched : (c : ℕ) (ts ms rows : List ℕ) → capabilitiesKnown c ≡ false
-    → (arenaAnswer c ts ms rows ≡ Refused 1 0 0 0) × (arenaWords c ts ms rows ≡ rows)
+pub unknown-untouched : (rule : UniformRule) (c : ℕ) (ts ms rows : List ℕ) → capabilitiesKnown c ≡ false
+    → (arenaAnswer c ts ms rows ≡ Refused 1 0 0 0) × (arenaWords rule c ts ms rows ≡ rows)
 unfolding arenaAnswer arenaWords
-unknown-untouched c ts ms rows unknown = (rw unknown refl, rw unknown refl)
+unknown-untouched rule c ts ms rows unknown = (rw unknown refl, rw unknown refl)
 
 -- ---- the pair: laying out, then judging what it left
 -- laying out leaves as many words as there were
@@ -141,25 +144,25 @@ layout-length-kept ts ms rows l =
     rw (l .words, length-append, layout-length ts ms (typeCount ts), length-drop) (omega (arith, f .rows))
 
 -- where laying out accepts: judging then answers as for the rows before, and leaves the same words
-module _ (c : ℕ) (known : capabilitiesKnown c ≡ true) (ts ms rows : List ℕ) (l : LaidOut ts ms rows) where
+module _ (rule : UniformRule) (c : ℕ) (known : capabilitiesKnown c ≡ true) (ts ms rows : List ℕ) (l : LaidOut ts ms rows) where
   pub pair-answer : arenaAnswer c ts ms (layoutWords ts ms rows) ≡ arenaAnswer c ts ms rows
-  pair-answer = alike c ts ms (layoutWords ts ms rows) rows (layout-length-kept ts ms rows l) .0
+  pair-answer = alike rule c ts ms (layoutWords ts ms rows) rows (layout-length-kept ts ms rows l) .0
 
-  pub pair-words : arenaWords c ts ms (layoutWords ts ms rows) ≡ arenaWords c ts ms rows
+  pub pair-words : arenaWords rule c ts ms (layoutWords ts ms rows) ≡ arenaWords rule c ts ms rows
   unfolding arenaWords
   pair-words =
-      rw (layout-length-kept ts ms rows l, known, l .fits) (same-rest ts ms rows l (arenaOutcome c ts ms) (arenaRows c ts ms (typeCount ts)))
+      rw (layout-length-kept ts ms rows l, known, l .fits) (same-rest ts ms rows l (arenaOutcome c ts ms) (arenaRows rule c ts ms (typeCount ts)))
 
 -- with a capability word in order, laying out and then judging, where that was accepted, answers and leaves what the single check does
-pub pair : (c : ℕ) → capabilitiesKnown c ≡ true → (ts ms rows : List ℕ)
+pub pair : (rule : UniformRule) (c : ℕ) → capabilitiesKnown c ≡ true → (ts ms rows : List ℕ)
     → (also (layoutAnswer ts ms rows) (arenaAnswer c ts ms (layoutWords ts ms rows)) ≡ arenaAnswer c ts ms rows)
-    × (afterBoth (layoutAnswer ts ms rows) (arenaWords c ts ms (layoutWords ts ms rows)) (layoutWords ts ms rows) ≡ arenaWords c ts ms rows)
-pair c known ts ms rows = go (layoutAnswer ts ms rows) refl
+    × (afterBoth (layoutAnswer ts ms rows) (arenaWords rule c ts ms (layoutWords ts ms rows)) (layoutWords ts ms rows) ≡ arenaWords rule c ts ms rows)
+pair rule c known ts ms rows = go (layoutAnswer ts ms rows) refl
   where
     go : (o : Outcome) → layoutAnswer ts ms rows ≡ o
         → (also o (arenaAnswer c ts ms (layoutWords ts ms rows)) ≡ arenaAnswer c ts ms rows)
-        × (afterBoth o (arenaWords c ts ms (layoutWords ts ms rows)) (layoutWords ts ms rows) ≡ arenaWords c ts ms rows)
-    go Accepted e = let l = laid-out ts ms rows e in (pair-answer c known ts ms rows l, pair-words c known ts ms rows l)
+        × (afterBoth o (arenaWords rule c ts ms (layoutWords ts ms rows)) (layoutWords ts ms rows) ≡ arenaWords rule c ts ms rows)
+    go Accepted e = let l = laid-out ts ms rows e in (pair-answer rule c known ts ms rows l, pair-words rule c known ts ms rows l)
     go (Refused number ty member detail) e =
-        let same = refused-same c ts ms rows known number ty member detail e in
+        let same = refused-same rule c ts ms rows known number ty member detail e in
         (sym (same .0), sym (same .1))

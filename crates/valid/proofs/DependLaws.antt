@@ -26,16 +26,16 @@ abbrev pub innerIn : (ℕ → Decoded) → ℕ → TypeInner
 innerIn types k = types k .inner
 
 -- the rows that type i is judged by: of the types before it, and empty ones from i on
-abbrev pub rowsBefore : (c : ℕ) (types : ℕ → Decoded) → ℕ → ℕ → Row
-rowsBefore c types = table emptyRow (judgeStep c types)
+abbrev pub rowsBefore : (least c : ℕ) (types : ℕ → Decoded) → ℕ → ℕ → Row
+rowsBefore least c types = table emptyRow (judgeStep least c types)
 
 -- a type whose row is CREATION_RESOLVED where i is judged is an earlier type
-pub resolved-earlier : (c : ℕ) (types : ℕ → Decoded) (i k : ℕ) → T (bit (rowsBefore c types i k .flags) creationResolvedBit) → k < i
-resolved-earlier c types i k t = go (decLt k i)
+pub resolved-earlier : (least c : ℕ) (types : ℕ → Decoded) (i k : ℕ) → T (bit (rowsBefore least c types i k .flags) creationResolvedBit) → k < i
+resolved-earlier least c types i k t = go (decLt k i)
   where
     go : Dec (k < i) → k < i
     go (yes h) = h
-    go (no h) = absurd (rw (table-above emptyRow (judgeStep c types) i k (omega arith)) at t)
+    go (no h) = absurd (rw (table-above emptyRow (judgeStep least c types) i k (omega arith)) at t)
 
 -- ---- two arenas whose records below n are the same
 module _ (types types′ : ℕ → Decoded) (n : ℕ) (same : (k : ℕ) → k < n → types k ≡ types′ k) where
@@ -60,41 +60,41 @@ module _ (types types′ : ℕ → Decoded) (n : ℕ) (same : (k : ℕ) → k < 
       ∙ ap (λ (t : ℕ → TypeLayout). layoutStep types′ t i)
       (tables-agree noLayout (layoutStep types) (layoutStep types′) i (λ k l. layout-value-same k (omega arith)))
 
-  module _ (c : ℕ) where
+  module _ (least c : ℕ) where
     -- the judgement of type i, with the second arena's record and layout put for the first's
     record-same : (inner : ℕ → TypeInner) (rows : ℕ → Row) (i : ℕ) → i < n
-        → judge c inner rows i (layout types i) (types i .inner) (types i .members) ≡ judge c inner rows i (layout types′ i) (types′ i .inner) (types′ i .members)
+        → judge least c inner rows i (layout types i) (types i .inner) (types i .members) ≡ judge least c inner rows i (layout types′ i) (types′ i .inner) (types′ i .members)
     record-same inner rows i h =
-        ap (λ (l : TypeLayout). judge c inner rows i l (types i .inner) (types i .members)) (layout-depends i h)
-        ∙ ap (λ (d : Decoded). judge c inner rows i (layout types′ i) (d .inner) (d .members)) (same i h)
+        ap (λ (l : TypeLayout). judge least c inner rows i l (types i .inner) (types i .members)) (layout-depends i h)
+        ∙ ap (λ (d : Decoded). judge least c inner rows i (layout types′ i) (d .inner) (d .members)) (same i h)
 
     -- what the first arena accepts the second accepts, over the same rows
-    forth : (i : ℕ) → i < n → (r : Row) → judgeStep c types (rowsBefore c types i) i ≡ ok r → judgeStep c types′ (rowsBefore c types i) i ≡ ok r
+    forth : (i : ℕ) → i < n → (r : Row) → judgeStep least c types (rowsBefore least c types i) i ≡ ok r → judgeStep least c types′ (rowsBefore least c types i) i ≡ ok r
     forth i h r e =
-        sym (record-same (innerIn types′) (rowsBefore c types i) i h)
-        ∙ judge-inner c (innerIn types) (innerIn types′) (rowsBefore c types i)
-        (λ k t. let l = resolved-earlier c types i k t in ap (λ (d : Decoded). d .inner) (same k (omega arith)))
-        i (layout types i) (types i .inner) (types i .members) r e
+        sym (record-same (innerIn types′) (rowsBefore least c types i) i h)
+        ∙ judge-inner c (innerIn types) (innerIn types′) (rowsBefore least c types i)
+        (λ k t. let l = resolved-earlier least c types i k t in ap (λ (d : Decoded). d .inner) (same k (omega arith)))
+        least i (layout types i) (types i .inner) (types i .members) r e
 
     -- and the other way round
-    back : (i : ℕ) → i < n → (r : Row) → judgeStep c types′ (rowsBefore c types i) i ≡ ok r → judgeStep c types (rowsBefore c types i) i ≡ ok r
+    back : (i : ℕ) → i < n → (r : Row) → judgeStep least c types′ (rowsBefore least c types i) i ≡ ok r → judgeStep least c types (rowsBefore least c types i) i ≡ ok r
     back i h r e =
-        judge-inner c (innerIn types′) (innerIn types) (rowsBefore c types i)
-        (λ k t. let l = resolved-earlier c types i k t in ap (λ (d : Decoded). d .inner) (sym (same k (omega arith))))
-        i (layout types i) (types i .inner) (types i .members) r (record-same (innerIn types′) (rowsBefore c types i) i h ∙ e)
+        judge-inner c (innerIn types′) (innerIn types) (rowsBefore least c types i)
+        (λ k t. let l = resolved-earlier least c types i k t in ap (λ (d : Decoded). d .inner) (sym (same k (omega arith))))
+        least i (layout types i) (types i .inner) (types i .members) r (record-same (innerIn types′) (rowsBefore least c types i) i h ∙ e)
 
     -- so the rows made are the same
     value-step-same : (i : ℕ) → i < n
-        → valueOr emptyRow (judgeStep c types (rowsBefore c types i) i) ≡ valueOr emptyRow (judgeStep c types′ (rowsBefore c types i) i)
+        → valueOr emptyRow (judgeStep least c types (rowsBefore least c types i) i) ≡ valueOr emptyRow (judgeStep least c types′ (rowsBefore least c types i) i)
     value-step-same i h =
-        value-same emptyRow (judgeStep c types (rowsBefore c types i) i) (judgeStep c types′ (rowsBefore c types i) i) (forth i h) (back i h)
+        value-same emptyRow (judgeStep least c types (rowsBefore least c types i) i) (judgeStep least c types′ (rowsBefore least c types i) i) (forth i h) (back i h)
 
     -- the rows of types below n are the same
-    pub row-depends : (i : ℕ) → i < n → row c types i ≡ row c types′ i
-    row-depends i h = values-agree emptyRow (judgeStep c types) (judgeStep c types′) i (λ k l. value-step-same k (omega arith))
+    pub row-depends : (i : ℕ) → i < n → row least c types i ≡ row least c types′ i
+    row-depends i h = values-agree emptyRow (judgeStep least c types) (judgeStep least c types′) i (λ k l. value-step-same k (omega arith))
 
     -- and a type that is accepted in the one is accepted in the other
-    pub judged-depends : (i : ℕ) → i < n → (r : Row) → judgedAt c types i ≡ ok r → judgedAt c types′ i ≡ ok r
+    pub judged-depends : (i : ℕ) → i < n → (r : Row) → judgedAt least c types i ≡ ok r → judgedAt least c types′ i ≡ ok r
     unfolding resultAt
     judged-depends i h r e =
-        results-agree emptyRow (judgeStep c types) (judgeStep c types′) i (λ k l. value-step-same k (omega arith)) r (forth i h r e)
+        results-agree emptyRow (judgeStep least c types) (judgeStep least c types′) i (λ k l. value-step-same k (omega arith)) r (forth i h r e)

@@ -5,3 +5,6 @@ pub mod AcceptedLaws
 pub mod AppendLaws
 pub mod ArenaLaws
 pub mod WordLaws
+pub mod CommonLaws
+pub mod NewerLaws
+pub mod UniformRulesProof

@@ -15,20 +15,22 @@ use Rattle.records.specs.declared.Outcome.the-variants.{Accepted, Refused}
 use Rattle.records.proofs.TableLaws.{flat-length, flat-word}
 use Rattle.rows.specs.Rows.{rowWord}
 use Rattle.layouter.specs.Layouter.{rowsAfter}
+use Rattle.type_info.specs.declared.UniformRule.{UniformRule}
+use Rattle.type_info.specs.Verdict.{leastFor}
 use Rattle.valid.specs.Arena.{row, rowAt, arenaRows, arenaOutcome, arenaFits, arenaAnswer, arenaWords}
 use Rattle.valid.proofs.JudgeRows.{row-length}
 
-module _ (c : ℕ) (ts ms rows : List ℕ) (accepted : arenaAnswer c ts ms rows ≡ Accepted) (k j : ℕ) (h : k < typeCount ts) (l : j < rowWords) where
+module _ (rule : UniformRule) (c : ℕ) (ts ms rows : List ℕ) (accepted : arenaAnswer c ts ms rows ≡ Accepted) (k j : ℕ) (h : k < typeCount ts) (l : j < rowWords) where
   -- word j of the row of type k
-  pub word-left : rowWord (arenaWords c ts ms rows) k j ≡ getD (rowAt c ts ms k) j 0
+  pub word-left : rowWord (arenaWords rule c ts ms rows) k j ≡ getD (rowAt (leastFor rule) c ts ms k) j 0
   unfolding arenaAnswer arenaWords arenaRows
   word-left = go (arenaFits c ts ms rows) (arenaOutcome c ts ms) accepted
     where
       go : (b : Bool) (o : Outcome) → pick b o (Refused 1 0 0 0) ≡ Accepted
-          → rowWord (pick b (rowsAfter o (flat (rowAt c ts ms) (typeCount ts)) (typeCount ts) rows) rows) k j ≡ getD (rowAt c ts ms k) j 0
+          → rowWord (pick b (rowsAfter o (flat (rowAt (leastFor rule) c ts ms) (typeCount ts)) (typeCount ts) rows) rows) k j ≡ getD (rowAt (leastFor rule) c ts ms k) j 0
       go true Accepted q =
-          let all = flat-length (rowAt c ts ms) rowWords (λ i. row-length (row c (decoded ts ms) i)) (typeCount ts) in
-          List·getD-append (flat (rowAt c ts ms) (typeCount ts)) (drop (typeCount ts * rowWords) rows) 0 (k * rowWords + j) (omega (arith, all))
-          ∙ flat-word (rowAt c ts ms) rowWords (λ i. row-length (row c (decoded ts ms) i)) (typeCount ts) k j h l
+          let all = flat-length (rowAt (leastFor rule) c ts ms) rowWords (λ i. row-length (row (leastFor rule) c (decoded ts ms) i)) (typeCount ts) in
+          List·getD-append (flat (rowAt (leastFor rule) c ts ms) (typeCount ts)) (drop (typeCount ts * rowWords) rows) 0 (k * rowWords + j) (omega (arith, all))
+          ∙ flat-word (rowAt (leastFor rule) c ts ms) rowWords (λ i. row-length (row (leastFor rule) c (decoded ts ms) i)) (typeCount ts) k j h l
       go true (Refused number ty member detail) q = let z : _≡_ {A = ℕ} 0 1 = cc in absurd (omega arith)
       go false o q = let z : _≡_ {A = ℕ} 0 1 = cc in absurd (omega arith)

@@ -1,5 +1,6 @@
 -- 01, 'The refusal' and 'The result row': the arena check, its answer and what it leaves in the lent rows. By 02, E4, these are also what judging
--- answers and leaves, whatever the rows hold: no word of them is read here.
+-- answers and leaves, whatever the rows hold: no word of them is read here. By 02, E8, the answer is the same for either uniform rule: it is
+-- made of what their rows have in common.
 -- Assumes nothing.
 use mathlib.Core.Bool.{Bool, _&&_}
 use mathlib.Core.List.{List}
@@ -13,25 +14,37 @@ use Rattle.records.specs.declared.Outcome.{Outcome}
 use Rattle.records.specs.declared.Outcome.the-variants.{Accepted, Refused}
 use Rattle.layouter.specs.Layouter.{layout, layoutOutcome, recordThenLayout, rowsAfter}
 use Rattle.type_info.specs.declared.Row.{Row}
+use Rattle.type_info.specs.declared.UniformRule.{UniformRule}
+use Rattle.type_info.specs.Verdict.{leastFor}
 use Rattle.type_info.specs.TypeInfo.{emptyRow, wordsOf}
 use Rattle.validate_type.specs.declared.Judged.{Judged}
 use Rattle.validate_type.specs.declared.Judged.the-variants as judged
 use Rattle.validate_type.specs.declared.Judged.the-variants.{Made}
-use Rattle.validate_type.specs.ValidateType.{judge}
+use Rattle.validate_type.specs.ValidateType.{judge, judgeCommon}
 
--- ---- types in ascending order
-abbrev pub judgeStep : (c : ℕ) (types : ℕ → Decoded) → (ℕ → Row) → ℕ → Result Row
-judgeStep c types rows i = judge c (λ k. types k .inner) rows i (layout types i) (types i .inner) (types i .members)
+-- ---- types in ascending order; `least` is the minimum alignment of uniform verdicts
+abbrev pub judgeStep : (least c : ℕ) (types : ℕ → Decoded) → (ℕ → Row) → ℕ → Result Row
+judgeStep least c types rows i = judge least c (λ k. types k .inner) rows i (layout types i) (types i .inner) (types i .members)
 
-abbrev pub judgedAt : (c : ℕ) (types : ℕ → Decoded) → ℕ → Result Row
-judgedAt c types = resultAt emptyRow (judgeStep c types)
+abbrev pub judgedAt : (least c : ℕ) (types : ℕ → Decoded) → ℕ → Result Row
+judgedAt least c types = resultAt emptyRow (judgeStep least c types)
 
-abbrev pub row : (c : ℕ) (types : ℕ → Decoded) → ℕ → Row
-row c types = valueAt emptyRow (judgeStep c types)
+abbrev pub row : (least c : ℕ) (types : ℕ → Decoded) → ℕ → Row
+row least c types = valueAt emptyRow (judgeStep least c types)
+
+-- ---- what rows by either uniform rule have in common: size, alignment, flags, storage verdict and immediates word, or the refusal
+abbrev pub commonStep : (c : ℕ) (types : ℕ → Decoded) → (ℕ → Row) → ℕ → Result Row
+commonStep c types rows i = judgeCommon c (λ k. types k .inner) rows i (layout types i) (types i .inner) (types i .members)
+
+abbrev pub commonAt : (c : ℕ) (types : ℕ → Decoded) → ℕ → Result Row
+commonAt c types = resultAt emptyRow (commonStep c types)
+
+abbrev pub common : (c : ℕ) (types : ℕ → Decoded) → ℕ → Row
+common c types = valueAt emptyRow (commonStep c types)
 
 -- ---- the answer: 1; then 2 and 3; then 4 to 7 over the arena; then types in order
 unfoldable pub judgeOutcome : (c : ℕ) (ts ms : List ℕ) → Outcome
-judgeOutcome c ts ms = firstRefusal (judgedAt c (decoded ts ms)) (typeCount ts)
+judgeOutcome c ts ms = firstRefusal (commonAt c (decoded ts ms)) (typeCount ts)
 
 unfoldable pub arenaOutcome : (c : ℕ) (ts ms : List ℕ) → Outcome
 arenaOutcome c ts ms = also (layoutOutcome ts ms) (judgeOutcome c ts ms)
@@ -47,17 +60,17 @@ unfoldable pub arena : (c : ℕ) (ts ms : List ℕ) → Outcome
 arena c ts ms =
     pick (capabilitiesKnown c && tablesFit (length ts) (length ms) (typeCount ts * rowWords)) (arenaOutcome c ts ms) (Refused 1 0 0 0)
 
--- ---- the lent rows: on acceptance the fourteen words of each type, and no other word; number 1 touches nothing, every other refusal
+-- ---- the lent rows: on acceptance the fourteen words of each type by the chosen rule, and no other word; number 1 touches nothing, every other refusal
 -- zeroes fourteen words for each type
-abbrev pub rowAt : (c : ℕ) (ts ms : List ℕ) → ℕ → List ℕ
-rowAt c ts ms i = wordsOf (row c (decoded ts ms) i)
+abbrev pub rowAt : (least c : ℕ) (ts ms : List ℕ) → ℕ → List ℕ
+rowAt least c ts ms i = wordsOf (row least c (decoded ts ms) i)
 
-unfoldable pub arenaRows : (c : ℕ) (ts ms : List ℕ) → ℕ → List ℕ
-arenaRows c ts ms n = flat (rowAt c ts ms) n
+unfoldable pub arenaRows : (rule : UniformRule) (c : ℕ) (ts ms : List ℕ) → ℕ → List ℕ
+arenaRows rule c ts ms n = flat (rowAt (leastFor rule) c ts ms) n
 
-unfoldable pub arenaWords : (c : ℕ) (ts ms rows : List ℕ) → List ℕ
-arenaWords c ts ms rows =
-    pick (arenaFits c ts ms rows) (rowsAfter (arenaOutcome c ts ms) (arenaRows c ts ms (typeCount ts)) (typeCount ts) rows) rows
+unfoldable pub arenaWords : (rule : UniformRule) (c : ℕ) (ts ms rows : List ℕ) → List ℕ
+arenaWords rule c ts ms rows =
+    pick (arenaFits c ts ms rows) (rowsAfter (arenaOutcome c ts ms) (arenaRows rule c ts ms (typeCount ts)) (typeCount ts) rows) rows
 
 -- ---- two calls, the second where the first accepts: the words after both
 abbrev pub afterBoth : Outcome → (second first : List ℕ) → List ℕ
@@ -66,8 +79,8 @@ afterBoth (Refused number ty member detail) second first = first
 
 -- ---- what the code answers
 -- numbers 2 to 7 of type i and then its row, in the order of one type
-abbrev pub laidThenJudged : (c : ℕ) (ts ms : List ℕ) → ℕ → Result Row
-laidThenJudged c ts ms i = andThen (recordThenLayout ts ms i) (λ _. judgedAt c (decoded ts ms) i)
+abbrev pub laidThenJudged : (least c : ℕ) (ts ms : List ℕ) → ℕ → Result Row
+laidThenJudged least c ts ms i = andThen (recordThenLayout ts ms i) (λ _. judgedAt least c (decoded ts ms) i)
 
 -- the answer for one type as the arena's
 abbrev pub judgedOutcome : ℕ → Judged → Outcome

@@ -1,6 +1,7 @@
 // Judging an arena, the types in order, as Validator::validate of naga's valid/mod.rs has those of a module; and the arena check, which lays out
 // and then judges.
 use records::Outcome;
+use type_info::UniformRule;
 use validate_type::Judged;
 ghost use mathlib.Core.Path.{_≡_};
 ghost use mathlib.Core.Bool.{true};
@@ -12,19 +13,27 @@ ghost use Rattle.records.specs.Table.{also, firstRefusal, flat};
 ghost use Rattle.records.specs.declared.Outcome.the-variants.{Accepted};
 ghost use Rattle.rows.specs.Rows.{cleared};
 ghost use Rattle.layouter.specs.Layouter.{layoutOutcome, rowsAfter};
+ghost use Rattle.type_info.specs.Verdict.{leastFor};
 ghost use Rattle.valid.specs.Arena.{rowAt, laidThenJudged, arenaOutcome, arenaRows, arenaAnswer, arenaWords};
 
 // Numbers 2 to 7 and then the row, type by type, over n types, up to the first refusal. Each row is made from those that this loop has written.
-fn judge_all(capabilities: u32, types: &[u32], members: &[u32], rows: &mut [u32], n: u32) -> Outcome
+fn judge_all(
+    capabilities: u32,
+    rule: UniformRule,
+    types: &[u32],
+    members: &[u32],
+    rows: &mut [u32],
+    n: u32,
+) -> Outcome
     requires { ⌜ n * 14 ≤ length (now rows) ⌝ }
     requires { ⌜ n * 6 ≤ length (now types) ⌝ }
-    ensures { λ r. ⌜ r ≡ firstRefusal (laidThenJudged capabilities (now (types .entry)) (now (members .entry))) n ⌝ }
-    ensures { λ r. ⌜ (r ≡ Accepted → take (n * 14) (now (rows .exit)) ≡ flat (rowAt capabilities (now (types .entry)) (now (members .entry))) n) ⌝ }
+    ensures { λ r. ⌜ r ≡ firstRefusal (laidThenJudged (leastFor rule) capabilities (now (types .entry)) (now (members .entry))) n ⌝ }
+    ensures { λ r. ⌜ (r ≡ Accepted → take (n * 14) (now (rows .exit)) ≡ flat (rowAt (leastFor rule) capabilities (now (types .entry)) (now (members .entry))) n) ⌝ }
     ensures { λ _. ⌜ drop (n * 14) (now (rows .exit)) ≡ drop (n * 14) (now (rows .entry)) ⌝ }
 {
     let mut i: u32 = 0;
     while i < n {
-        match validate_struct::record_row(capabilities, types, members, rows, i) {
+        match validate_struct::record_row(capabilities, rule, types, members, rows, i) {
             Judged::Made => {}
             Judged::Refused {
                 number,
@@ -70,6 +79,7 @@ fn refused(types: &[u32], members: &[u32], rows: &mut [u32], n: u32, found: Outc
 // Judging, once tables and capabilities are in order.
 fn judge_tables(
     capabilities: u32,
+    rule: UniformRule,
     types: &[u32],
     members: &[u32],
     rows: &mut [u32],
@@ -78,9 +88,9 @@ fn judge_tables(
     requires { ⌜ n ≡ typeCount (now types) ⌝ }
     requires { ⌜ tablesFit (length (now types)) (length (now members)) (length (now rows)) ≡ true ⌝ }
     ensures { λ r. ⌜ r ≡ arenaOutcome capabilities (now (types .entry)) (now (members .entry)) ⌝ }
-    ensures { λ r. ⌜ now (rows .exit) ≡ rowsAfter r (arenaRows capabilities (now (types .entry)) (now (members .entry)) n) n (now (rows .entry)) ⌝ }
+    ensures { λ r. ⌜ now (rows .exit) ≡ rowsAfter r (arenaRows rule capabilities (now (types .entry)) (now (members .entry)) n) n (now (rows .entry)) ⌝ }
 {
-    let found = judge_all(capabilities, types, members, rows, n);
+    let found = judge_all(capabilities, rule, types, members, rows, n);
     match found {
         Outcome::Accepted => found,
         Outcome::Refused {
@@ -94,14 +104,20 @@ fn judge_tables(
 
 // Judging: the answer, and the rows of all types in the lent words, whatever these hold: none of them is read before it is written. Nothing is
 // asked of the caller.
-pub fn judge(types: &[u32], members: &[u32], capabilities: u32, rows: &mut [u32]) -> Outcome
+pub fn judge(
+    types: &[u32],
+    members: &[u32],
+    capabilities: u32,
+    rule: UniformRule,
+    rows: &mut [u32],
+) -> Outcome
     ensures { λ r. ⌜ r ≡ arenaAnswer capabilities (now (types .entry)) (now (members .entry)) (now (rows .entry)) ⌝ }
-    ensures { λ _. ⌜ now (rows .exit) ≡ arenaWords capabilities (now (types .entry)) (now (members .entry)) (now (rows .entry)) ⌝ }
+    ensures { λ _. ⌜ now (rows .exit) ≡ arenaWords rule capabilities (now (types .entry)) (now (members .entry)) (now (rows .entry)) ⌝ }
 {
     if records::capabilities_known(capabilities) {
         if records::tables_fit(types.len(), members.len(), rows.len()) {
             let n = (types.len() / records::TYPE_WORDS) as u32;
-            return judge_tables(capabilities, types, members, rows, n);
+            return judge_tables(capabilities, rule, types, members, rows, n);
         }
     }
     Outcome::Refused {
@@ -113,9 +129,15 @@ pub fn judge(types: &[u32], members: &[u32], capabilities: u32, rows: &mut [u32]
 }
 
 // The arena check: the capability word is tested, the arena laid out, and what that left judged. Nothing is asked of the caller.
-pub fn check(types: &[u32], members: &[u32], capabilities: u32, rows: &mut [u32]) -> Outcome
+pub fn check(
+    types: &[u32],
+    members: &[u32],
+    capabilities: u32,
+    rule: UniformRule,
+    rows: &mut [u32],
+) -> Outcome
     ensures { λ r. ⌜ r ≡ arenaAnswer capabilities (now (types .entry)) (now (members .entry)) (now (rows .entry)) ⌝ }
-    ensures { λ _. ⌜ now (rows .exit) ≡ arenaWords capabilities (now (types .entry)) (now (members .entry)) (now (rows .entry)) ⌝ }
+    ensures { λ _. ⌜ now (rows .exit) ≡ arenaWords rule capabilities (now (types .entry)) (now (members .entry)) (now (rows .entry)) ⌝ }
 {
     if !records::capabilities_known(capabilities) {
         return Outcome::Refused {
@@ -127,7 +149,7 @@ pub fn check(types: &[u32], members: &[u32], capabilities: u32, rows: &mut [u32]
     }
     let laid = layouter::layout(types, members, rows);
     match laid {
-        Outcome::Accepted => judge(types, members, capabilities, rows),
+        Outcome::Accepted => judge(types, members, capabilities, rule, rows),
         Outcome::Refused {
             number: _,
             ty: _,

@@ -16,11 +16,11 @@ use Rattle.members.specs.Members.{stateAfter}
 use Rattle.plain_members.specs.declared.PlainState.{PlainState}
 use Rattle.plain_members.specs.PlainMembers.{plainBounds, PlainAfter}
 
-module _ (inner : ℕ → TypeInner) (rows : ℕ → Row) (i count span : ℕ) (part : List ℕ) (j : ℕ) where
+module _ (least : ℕ) (inner : ℕ → TypeInner) (rows : ℕ → Row) (i count span : ℕ) (part : List ℕ) (j : ℕ) where
   -- the state after j members, part by part
   pub record Parts (s : State) : Type 0 where
     pub bounds : boundsAfter inner rows count span part j ≡ ok (s .bounds)
-    pub uniform : uniformAfter 16 inner rows i part j ≡ s .uniform
+    pub uniform : uniformAfter least inner rows i part j ≡ s .uniform
     pub storage : storageAfter rows i part j ≡ s .storage
     pub immediates : immediatesAfter rows part j ≡ s .immediates
 
@@ -28,13 +28,13 @@ module _ (inner : ℕ → TypeInner) (rows : ℕ → Row) (i count span : ℕ) (
   made b =
       record {
         bounds = b;
-        uniform = uniformAfter 16 inner rows i part j;
+        uniform = uniformAfter least inner rows i part j;
         storage = storageAfter rows i part j;
         immediates = immediatesAfter rows part j;
         previous = previousOf inner part j;
       }
 
-  pub state-parts : (s : State) → stateAfter inner rows i count span part j ≡ ok s → Parts s
+  pub state-parts : (s : State) → stateAfter least inner rows i count span part j ≡ ok s → Parts s
   unfolding stateAfter made
   state-parts s e = go (boundsAfter inner rows count span part j) refl e
     where
@@ -50,8 +50,8 @@ module _ (inner : ℕ → TypeInner) (rows : ℕ → Row) (i count span : ℕ) (
           }
 
   -- after members that broke no rule
-  pub plain-state : (s : PlainState) → PlainAfter inner rows i count span part j s
-      → stateAfter inner rows i count span part j
+  pub plain-state : (s : PlainState) → PlainAfter least inner rows i count span part j s
+      → stateAfter least inner rows i count span part j
       ≡ ok (record {
         bounds = plainBounds s;
         uniform = okVerdict (s .uniform);
@@ -62,7 +62,7 @@ module _ (inner : ℕ → TypeInner) (rows : ℕ → Row) (i count span : ℕ) (
   unfolding stateAfter
   plain-state s p = rw (p .0, p .1, p .2, p .3) refl
 
-  pub state-error : {n m d : ℕ} → stateAfter inner rows i count span part j ≡ err n m d → boundsAfter inner rows count span part j ≡ err n m d
+  pub state-error : {n m d : ℕ} → stateAfter least inner rows i count span part j ≡ err n m d → boundsAfter inner rows count span part j ≡ err n m d
   unfolding stateAfter made
   state-error {n} {m} {d} e = go (boundsAfter inner rows count span part j) refl e
     where

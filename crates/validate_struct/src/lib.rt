@@ -1,6 +1,7 @@
 // validate_type of naga's valid/type.rs: the row of a struct, and of any type by its kind, with numbers 2 to 7 of its record before it.
 use members::Members;
 use type_alignment::Located;
+use type_info::UniformRule;
 use valid_blend::Blend;
 use valid_blend::Source;
 use validate_type::Judged;
@@ -13,19 +14,28 @@ ghost use Rattle.records.specs.Result.{require};
 ghost use Rattle.records.specs.Fields.{sourcesLocated};
 ghost use Rattle.records.specs.declared.TypeInner.the-variants.{Struct};
 ghost use Rattle.type_info.specs.TypeInfo.{rowsIn};
+ghost use Rattle.type_info.specs.Verdict.{leastFor};
 ghost use Rattle.members.specs.Members.{stateAfter, membersResult};
 ghost use Rattle.validate_type.specs.ValidateType.{judge, Settled};
 ghost use Rattle.validate_type.specs.TypeRow.{wordsRow, recordRow};
 
 // All members of struct i, by the rules that do not read blend sources.
-fn members_of(types: &[u32], rows: &[u32], i: u32, part: &[u32], count: u32, span: u32) -> Members
+fn members_of(
+    rule: UniformRule,
+    types: &[u32],
+    rows: &[u32],
+    i: u32,
+    part: &[u32],
+    count: u32,
+    span: u32,
+) -> Members
     requires { ⌜ length (now rows) ≡ i * 14 ⌝ }
     requires { ⌜ i * 6 ≤ length (now types) ⌝ }
     requires { ⌜ length (now part) ≡ count * memberWords ⌝ }
     requires { ⌜ ((j : ℕ) → j < count → memberType (now part) j < i) ⌝ }
-    ensures { λ r. ⌜ membersResult r ≡ stateAfter (typeInner (now (types .entry))) (rowsIn (now (rows .entry))) i count span (now (part .entry)) count ⌝ }
+    ensures { λ r. ⌜ membersResult r ≡ stateAfter (leastFor rule) (typeInner (now (types .entry))) (rowsIn (now (rows .entry))) i count span (now (part .entry)) count ⌝ }
 {
-    let reached = plain_members::plain_members(types, rows, i, part, count, span);
+    let reached = plain_members::plain_members(rule, types, rows, i, part, count, span);
     let taken = reached.taken;
     let plain = reached.state;
     let state = members::carried(
@@ -37,12 +47,13 @@ fn members_of(types: &[u32], rows: &[u32], i: u32, part: &[u32], count: u32, spa
         plain.uniform,
         plain.storage,
     );
-    members::members_of(types, rows, i, part, count, span, taken, state)
+    members::members_of(rule, types, rows, i, part, count, span, taken, state)
 }
 
 // The row of struct i, whose fields and rows are in order and whose alignment is known. sourced: a member may have a blend source.
 fn members_row(
     capabilities: u32,
+    rule: UniformRule,
     sourced: bool,
     types: &[u32],
     part: &[u32],
@@ -57,7 +68,7 @@ fn members_row(
     requires { ⌜ length (now part) ≡ count * memberWords ⌝ }
     requires { ⌜ ((j : ℕ) → j < count → memberType (now part) j < i) ⌝ }
     requires { ⌜ (sourced ≡ false → Sourceless (now part) (memberCount (now part))) ⌝ }
-    ensures { λ r. ⌜ Settled r (i * 14) (now (rows .entry)) (now (rows .exit)) (judge capabilities (typeInner (now (types .entry))) (rowsIn (take (i * 14) (now (rows .entry)))) i (record { size = span; alignment = alignment }) (Struct count span) (now (part .entry))) ⌝ }
+    ensures { λ r. ⌜ Settled r (i * 14) (now (rows .entry)) (now (rows .exit)) (judge (leastFor rule) capabilities (typeInner (now (types .entry))) (rowsIn (take (i * 14) (now (rows .entry)))) i (record { size = span; alignment = alignment }) (Struct count span) (now (part .entry))) ⌝ }
 {
     if count == 0 {
         return Judged::Refused {
@@ -67,7 +78,7 @@ fn members_row(
         };
     }
     let at = (i as usize) * records::ROW_WORDS;
-    match members_of(types, &rows[..at], i, part, count, span) {
+    match members_of(rule, types, &rows[..at], i, part, count, span) {
         Members::Taken(state) => {
             let bounds = state.bounds;
             match valid_blend::blended_flags(
@@ -125,6 +136,7 @@ fn members_row(
 // Of struct i, a record with these words: numbers 2 to 7 and then its row, which is written where there is one.
 fn struct_row(
     capabilities: u32,
+    rule: UniformRule,
     types: &[u32],
     members: &[u32],
     rows: &mut [u32],
@@ -137,7 +149,7 @@ fn struct_row(
 ) -> Judged
     requires { ⌜ i * 14 + 14 ≤ length (now rows) ⌝ }
     requires { ⌜ i * 6 ≤ length (now types) ⌝ }
-    ensures { λ r. ⌜ ((n : ℕ) → Settled r (i * 14) (now (rows .entry)) (now (rows .exit)) (require (sourcesLocated (take (count * memberWords) (drop (first * memberWords) (now (members .entry))))) 2 0 0 (wordsRow capabilities (memberCount (now (members .entry))) n (typeInner (now (types .entry))) (take (i * 14) (now (rows .entry))) i structKind first count span d e (take (count * memberWords) (drop (first * memberWords) (now (members .entry))))))) ⌝ }
+    ensures { λ r. ⌜ ((n : ℕ) → Settled r (i * 14) (now (rows .entry)) (now (rows .exit)) (require (sourcesLocated (take (count * memberWords) (drop (first * memberWords) (now (members .entry))))) 2 0 0 (wordsRow (leastFor rule) capabilities (memberCount (now (members .entry))) n (typeInner (now (types .entry))) (take (i * 14) (now (rows .entry))) i structKind first count span d e (take (count * memberWords) (drop (first * memberWords) (now (members .entry))))))) ⌝ }
 {
     let at = (i as usize) * records::ROW_WORDS;
     if !fields::struct_fields(members.len() / records::MEMBER_WORDS, first, count, d, e) {
@@ -151,6 +163,7 @@ fn struct_row(
     match type_alignment::members_alignment(&rows[..at], i, part, count) {
         Located::To { alignment, sourced } => members_row(
             capabilities,
+            rule,
             sourced,
             types,
             part,
@@ -171,6 +184,7 @@ fn struct_row(
 // Numbers 2 to 7 of type i, and then its row, from the rows of the types before it. It is written where there is one.
 pub fn record_row(
     capabilities: u32,
+    rule: UniformRule,
     types: &[u32],
     members: &[u32],
     rows: &mut [u32],
@@ -178,13 +192,14 @@ pub fn record_row(
 ) -> Judged
     requires { ⌜ i * 14 + 14 ≤ length (now rows) ⌝ }
     requires { ⌜ i * 6 + 6 ≤ length (now types) ⌝ }
-    ensures { λ r. ⌜ Settled r (i * 14) (now (rows .entry)) (now (rows .exit)) (recordRow capabilities (now (types .entry)) (now (members .entry)) (take (i * 14) (now (rows .entry))) i) ⌝ }
+    ensures { λ r. ⌜ Settled r (i * 14) (now (rows .entry)) (now (rows .exit)) (recordRow (leastFor rule) capabilities (now (types .entry)) (now (members .entry)) (take (i * 14) (now (rows .entry))) i) ⌝ }
 {
     let w = records::own_record(types, i);
     let kind = w.kind;
     if kind == records::STRUCT_KIND {
         return struct_row(
             capabilities,
+            rule,
             types,
             members,
             rows,
@@ -197,7 +212,8 @@ pub fn record_row(
         );
     }
     if kind == records::ARRAY_KIND {
-        return validate_type::array_row(rows, i, w.a, w.b, w.c, w.d, w.e);
+        let least = type_info::least_for(rule);
+        return validate_type::array_row(least, rows, i, w.a, w.b, w.c, w.d, w.e);
     }
     validate_type::plain_row(capabilities, types, rows, i, w)
 }

@@ -157,8 +157,8 @@ module _ (c d : ℕ) (adds : HasAll c d) where
   flags-more inner rows (Other o) members f e = non-data-more inner rows o f e
 
   -- the row of a type stays
-  pub judge-more : (inner : ℕ → TypeInner) (rows : ℕ → Row) (i : ℕ) (l : TypeLayout) (this : TypeInner) (members : List ℕ) (r : Row)
-      → judge c inner rows i l this members ≡ ok r → judge d inner rows i l this members ≡ ok r
+  pub judge-more : (least : ℕ) (inner : ℕ → TypeInner) (rows : ℕ → Row) (i : ℕ) (l : TypeLayout) (this : TypeInner) (members : List ℕ) (r : Row)
+      → judge least c inner rows i l this members ≡ ok r → judge least d inner rows i l this members ≡ ok r
   unfolding judge
-  judge-more inner rows i l this members r e =
+  judge-more least inner rows i l this members r e =
       and-then-more (flagsOf c inner rows this members) (flagsOf d inner rows this members) _ r (flags-more inner rows this members) e

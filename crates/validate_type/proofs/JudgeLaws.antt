@@ -21,7 +21,7 @@ use Rattle.flags.proofs.BitLaws.{bit-and, bit-and-both}
 use Rattle.width.specs.Width.{float, cooperativeMatrix, cubeArrayTextures, textureExternal, rayQuery, rayTracingPipeline, rayHitVertexPosition, checkWidth, atomicWidth}
 use Rattle.type_flags.specs.TypeFlags.{leafFlags, isStruct, isExternalImage}
 use Rattle.type_info.specs.declared.Row.{Row}
-use Rattle.type_info.specs.Verdict.{minUniform, spanVerdict}
+use Rattle.type_info.specs.Verdict.{spanVerdict}
 use Rattle.member_bounds.proofs.BoundsLaws.{members-in, members-data}
 use Rattle.member_bounds.proofs.BoundsSame.{bounds-inner}
 use Rattle.member_rules.proofs.MemberSame.{uniform-inner}
@@ -30,25 +30,25 @@ use Rattle.validate_type.specs.ValidateType.{nonDataFlags, flagsOf, unif
 use Rattle.validate_type.proofs.StructFlags.{struct-flags, flags-struct}
 
 -- ---- parts: the flags, and the row made with them
-pub record Judged (c : ℕ) (inner : ℕ → TypeInner) (rows : ℕ → Row) (i : ℕ) (l : TypeLayout) (this : TypeInner) (members : List ℕ) (r : Row) : Type 0 where
+pub record Judged (least c : ℕ) (inner : ℕ → TypeInner) (rows : ℕ → Row) (i : ℕ) (l : TypeLayout) (this : TypeInner) (members : List ℕ) (r : Row) : Type 0 where
   pub flags : flagsOf c inner rows this members ≡ ok (r .flags)
-  pub is : r ≡ rowOf minUniform inner rows i l this members (r .flags)
+  pub is : r ≡ rowOf least inner rows i l this members (r .flags)
 
 -- a judged row has the type's flags and is made with them
-pub judged-parts : (c : ℕ) (inner : ℕ → TypeInner) (rows : ℕ → Row) (i : ℕ) (l : TypeLayout) (this : TypeInner) (members : List ℕ) (r : Row)
-    → judge c inner rows i l this members ≡ ok r → Judged c inner rows i l this members r
+pub judged-parts : (least c : ℕ) (inner : ℕ → TypeInner) (rows : ℕ → Row) (i : ℕ) (l : TypeLayout) (this : TypeInner) (members : List ℕ) (r : Row)
+    → judge least c inner rows i l this members ≡ ok r → Judged least c inner rows i l this members r
 unfolding judge rowOf
-judged-parts c inner rows i l this members r e =
+judged-parts least c inner rows i l this members r e =
     let a = and-then-ok (flagsOf c inner rows this members) _ r e in
     let q = ok-inj (a .2) in
     let f : a .0 ≡ r .flags = ap (λ (x : Row). x .flags) q in
-    record { flags = a .1 ∙ ap ok f; is = sym q ∙ ap (rowOf minUniform inner rows i l this members) f }
+    record { flags = a .1 ∙ ap ok f; is = sym q ∙ ap (rowOf least inner rows i l this members) f }
 
 -- a row that has the type's flags and is made with them is the judged one
-pub judged-whole : (c : ℕ) (inner : ℕ → TypeInner) (rows : ℕ → Row) (i : ℕ) (l : TypeLayout) (this : TypeInner) (members : List ℕ) (r : Row)
-    → Judged c inner rows i l this members r → judge c inner rows i l this members ≡ ok r
+pub judged-whole : (least c : ℕ) (inner : ℕ → TypeInner) (rows : ℕ → Row) (i : ℕ) (l : TypeLayout) (this : TypeInner) (members : List ℕ) (r : Row)
+    → Judged least c inner rows i l this members r → judge least c inner rows i l this members ≡ ok r
 unfolding judge
-judged-whole c inner rows i l this members r p = rw (p .flags) (ap ok (sym (p .is)))
+judged-whole least c inner rows i l this members r p = rw (p .flags) (ap ok (sym (p .is)))
 
 -- ---- DATA is a matter of the kind
 -- leaves, arrays and structs are data, the others are not
@@ -200,13 +200,13 @@ module _ (c : ℕ) (inner inner′ : ℕ → TypeInner) (rows : ℕ → Row)
   uniform-of-inner least i a (Other o) members f e = refl
 
   -- the row of an accepted type is the same
-  pub judge-inner : (i : ℕ) (l : TypeLayout) (this : TypeInner) (members : List ℕ) (r : Row)
-      → judge c inner rows i l this members ≡ ok r → judge c inner′ rows i l this members ≡ ok r
+  pub judge-inner : (least i : ℕ) (l : TypeLayout) (this : TypeInner) (members : List ℕ) (r : Row)
+      → judge least c inner rows i l this members ≡ ok r → judge least c inner′ rows i l this members ≡ ok r
   unfolding rowOf
-  judge-inner i l this members r e =
-      let p = judged-parts c inner rows i l this members r e in
-      let u = uniform-of-inner minUniform i (l .alignment) this members (r .flags) (p .flags) in
-      judged-whole c inner′ rows i l this members r
+  judge-inner least i l this members r e =
+      let p = judged-parts least c inner rows i l this members r e in
+      let u = uniform-of-inner least i (l .alignment) this members (r .flags) (p .flags) in
+      judged-whole least c inner′ rows i l this members r
       (record {
         flags = flags-inner this members (r .flags) (p .flags);
         is = p .is ∙ rw u refl;

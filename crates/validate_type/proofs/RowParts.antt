@@ -22,29 +22,29 @@ pub require-then {ℓ κ} : {A : Type ℓ} {B : Type κ} (b : Bool) (n m d : ℕ
 require-then true n m d a f = refl
 require-then false n m d a f = refl
 
-module _ (c : ℕ) (inner : ℕ → TypeInner) (rows : ℕ → Row) (i : ℕ) (layout : TypeLayout) (part : List ℕ) (this : TypeInner) (verdict : ℕ) where
+module _ (least c : ℕ) (inner : ℕ → TypeInner) (rows : ℕ → Row) (i : ℕ) (layout : TypeLayout) (part : List ℕ) (this : TypeInner) (verdict : ℕ) where
   -- where a record says a leaf, it is judged by the leaf's flags
   pub leaf-judged : (leaf : Leaf) → this ≡ Plain leaf → verdict ≡ leafVerdictAlignment leaf
-      → plainJudged layout verdict (leafImmediates leaf) (leafFlags c leaf) ≡ judge c inner rows i layout this part
+      → plainJudged layout verdict (leafImmediates leaf) (leafFlags c leaf) ≡ judge least c inner rows i layout this part
   unfolding judge flagsOf rowOf uniformOf storageOf immediatesOf
   leaf-judged leaf says is = rw (says, is) refl
 
   -- where it says what is no data, by the flags of that
   pub other-judged : (n : NonData) → this ≡ Other n → verdict ≡ 1
-      → plainJudged layout verdict 0 (nonDataFlags c inner rows n) ≡ judge c inner rows i layout this part
+      → plainJudged layout verdict 0 (nonDataFlags c inner rows n) ≡ judge least c inner rows i layout this part
   unfolding judge flagsOf rowOf uniformOf storageOf immediatesOf
   other-judged n says is = rw (says, is) refl
 
 -- an array is judged by its form
-pub array-judged : (c : ℕ) (inner : ℕ → TypeInner) (rows : ℕ → Row) (i : ℕ) (layout : TypeLayout) (part : List ℕ) (this : TypeInner)
+pub array-judged : (least c : ℕ) (inner : ℕ → TypeInner) (rows : ℕ → Row) (i : ℕ) (layout : TypeLayout) (part : List ℕ) (this : TypeInner)
     (base form count stride : ℕ) → this ≡ pick (eqb form 0) (Array base count stride) (RuntimeArray base stride)
-    → arrayOf form i stride (rows base) layout ≡ judge c inner rows i layout this part
+    → arrayOf least form i stride (rows base) layout ≡ judge least c inner rows i layout this part
 unfolding judge flagsOf rowOf uniformOf storageOf immediatesOf
-array-judged c inner rows i layout part this base form count stride says = rw says (go (eqb form 0))
+array-judged least c inner rows i layout part this base form count stride says = rw says (go (eqb form 0))
   where
     go : (t : Bool)
         → require (isSizedData (rows base .flags)) 15 0 0
-        (ok (arrayRow i stride (rows base) layout (pick t (arrayFlags (rows base .flags)) (runtimeArrayFlags (rows base .flags)))))
-        ≡ judge c inner rows i layout (pick t (Array base count stride) (RuntimeArray base stride)) part
-    go true = sym (require-then (isSizedData (rows base .flags)) 15 0 0 (arrayFlags (rows base .flags)) (λ f. ok (arrayRow i stride (rows base) layout f)))
-    go false = sym (require-then (isSizedData (rows base .flags)) 15 0 0 (runtimeArrayFlags (rows base .flags)) (λ f. ok (arrayRow i stride (rows base) layout f)))
+        (ok (arrayRow least i stride (rows base) layout (pick t (arrayFlags (rows base .flags)) (runtimeArrayFlags (rows base .flags)))))
+        ≡ judge least c inner rows i layout (pick t (Array base count stride) (RuntimeArray base stride)) part
+    go true = sym (require-then (isSizedData (rows base .flags)) 15 0 0 (arrayFlags (rows base .flags)) (λ f. ok (arrayRow least i stride (rows base) layout f)))
+    go false = sym (require-then (isSizedData (rows base .flags)) 15 0 0 (runtimeArrayFlags (rows base .flags)) (λ f. ok (arrayRow least i stride (rows base) layout f)))

@@ -40,47 +40,47 @@ leaf-alignment-in m n i layouts kind a b c d e members leaf says l w =
     sym (leaf-accepted leaf (l .alignment) (parts .1) .1)
 
 -- a record with these words, laid out, that is neither array nor struct
-module _ (c m n : ℕ) (inner : ℕ → TypeInner) (words : List ℕ) (i : ℕ) (members : List ℕ) (kind a b d e f : ℕ) (r : PlainRow) (o : Result TypeLayout)
+module _ (least c m n : ℕ) (inner : ℕ → TypeInner) (words : List ℕ) (i : ℕ) (members : List ℕ) (kind a b d e f : ℕ) (r : PlainRow) (o : Result TypeLayout)
     (laid : o ≡ wordsLayout m n (layoutsIn words) i kind a b d e f members) (verdict : ℕ) where
   same-row : (immediates : ℕ) (flags : Result ℕ) → plainResult r ≡ andThen o (λ l. plainJudged l verdict immediates flags)
-      → ((l : TypeLayout) → o ≡ ok l → plainJudged l verdict immediates flags ≡ judge c inner (rowsIn words) i l (innerOf kind a b d e f) members)
-      → plainResult r ≡ wordsRow c m n inner words i kind a b d e f members
+      → ((l : TypeLayout) → o ≡ ok l → plainJudged l verdict immediates flags ≡ judge least c inner (rowsIn words) i l (innerOf kind a b d e f) members)
+      → plainResult r ≡ wordsRow least c m n inner words i kind a b d e f members
   same-row immediates flags one each =
       one
-      ∙ and-then-same o (λ l. plainJudged l verdict immediates flags) (λ l. judge c inner (rowsIn words) i l (innerOf kind a b d e f) members) each
-      ∙ ap (λ (x : Result TypeLayout). andThen x (λ l. judge c inner (rowsIn words) i l (innerOf kind a b d e f) members)) laid
+      ∙ and-then-same o (λ l. plainJudged l verdict immediates flags) (λ l. judge least c inner (rowsIn words) i l (innerOf kind a b d e f) members) each
+      ∙ ap (λ (x : Result TypeLayout). andThen x (λ l. judge least c inner (rowsIn words) i l (innerOf kind a b d e f) members)) laid
 
   -- a leaf
   pub leaf-row : (leaf : Leaf) → innerOf kind a b d e f ≡ Plain leaf → ((l : TypeLayout) → o ≡ ok l → verdict ≡ leafVerdictAlignment leaf)
       → plainResult r ≡ andThen o (λ l. plainJudged l verdict (leafImmediates leaf) (leafFlags c leaf))
-      → plainResult r ≡ wordsRow c m n inner words i kind a b d e f members
+      → plainResult r ≡ wordsRow least c m n inner words i kind a b d e f members
   leaf-row leaf says is one =
       same-row (leafImmediates leaf) (leafFlags c leaf) one
-      (λ l x. leaf-judged c inner (rowsIn words) i l members (innerOf kind a b d e f) verdict leaf says (is l x))
+      (λ l x. leaf-judged least c inner (rowsIn words) i l members (innerOf kind a b d e f) verdict leaf says (is l x))
 
   -- what is no data
   pub other-row : (other : NonData) → innerOf kind a b d e f ≡ Other other → verdict ≡ 1
       → plainResult r ≡ andThen o (λ l. plainJudged l verdict 0 (nonDataFlags c inner (rowsIn words) other))
-      → plainResult r ≡ wordsRow c m n inner words i kind a b d e f members
+      → plainResult r ≡ wordsRow least c m n inner words i kind a b d e f members
   other-row other says is one =
       same-row 0 (nonDataFlags c inner (rowsIn words) other) one
-      (λ l x. other-judged c inner (rowsIn words) i l members (innerOf kind a b d e f) verdict other says is)
+      (λ l x. other-judged least c inner (rowsIn words) i l members (innerOf kind a b d e f) verdict other says is)
 
 -- no kind: number 2
-pub no-row : (c m n : ℕ) (inner : ℕ → TypeInner) (words : List ℕ) (i : ℕ) (members : List ℕ) (kind a b d e f : ℕ) → fieldsOk m kind a b d e f ≡ false
-    → err 2 0 0 ≡ wordsRow c m n inner words i kind a b d e f members
-no-row c m n inner words i members kind a b d e f none = rw none refl
+pub no-row : (least c m n : ℕ) (inner : ℕ → TypeInner) (words : List ℕ) (i : ℕ) (members : List ℕ) (kind a b d e f : ℕ) → fieldsOk m kind a b d e f ≡ false
+    → err 2 0 0 ≡ wordsRow least c m n inner words i kind a b d e f members
+no-row least c m n inner words i members kind a b d e f none = rw none refl
 
 -- an array that passes 2 to 7
-pub array-row-is : (c m n : ℕ) (inner : ℕ → TypeInner) (words : List ℕ) (i base form count stride e : ℕ) (members : List ℕ) (l : TypeLayout)
+pub array-row-is : (least c m n : ℕ) (inner : ℕ → TypeInner) (words : List ℕ) (i base form count stride e : ℕ) (members : List ℕ) (l : TypeLayout)
     → wordsLayout m n (layoutsIn words) i arrayKind base form count stride e members ≡ ok l
-    → wordsRow c m n inner words i arrayKind base form count stride e members ≡ arrayOf form i stride (rowsIn words base) l
+    → wordsRow least c m n inner words i arrayKind base form count stride e members ≡ arrayOf least form i stride (rowsIn words base) l
 unfolding innerOf
-array-row-is c m n inner words i base form count stride e members l w =
-    rw w (sym (array-judged c inner (rowsIn words) i l members (innerOf arrayKind base form count stride e) base form count stride refl))
+array-row-is least c m n inner words i base form count stride e members l w =
+    rw w (sym (array-judged least c inner (rowsIn words) i l members (innerOf arrayKind base form count stride e) base form count stride refl))
 
 -- a type that 2 to 7 refuse
-pub refused-row : (c m n : ℕ) (inner : ℕ → TypeInner) (words : List ℕ) (i kind a b d e f : ℕ) (members : List ℕ) {number member detail : ℕ}
+pub refused-row : (least c m n : ℕ) (inner : ℕ → TypeInner) (words : List ℕ) (i kind a b d e f : ℕ) (members : List ℕ) {number member detail : ℕ}
     → wordsLayout m n (layoutsIn words) i kind a b d e f members ≡ err number member detail
-    → wordsRow c m n inner words i kind a b d e f members ≡ err number member detail
-refused-row c m n inner words i kind a b d e f members w = rw w refl
+    → wordsRow least c m n inner words i kind a b d e f members ≡ err number member detail
+refused-row least c m n inner words i kind a b d e f members w = rw w refl

@@ -20,9 +20,9 @@ use Rattle.width.specs.Width.{dualSourceBlending, checkWidth, immediatesWord}
 use Rattle.type_flags.specs.TypeFlags.{withWidth, leafFlags, imageFlags, pointerTo, accelerationFlags, bindingArrayOf}
 use Rattle.type_info.specs.declared.Verdict.{Verdict}
 use Rattle.type_info.specs.declared.Row.{Row}
-use Rattle.type_info.specs.Verdict.{minUniform, minStorage, okVerdict, arrayVerdict, spanVerdict}
+use Rattle.type_info.specs.Verdict.{minStorage, okVerdict, arrayVerdict, spanVerdict}
 use Rattle.rows.specs.Rows.{withRow}
-use Rattle.type_info.specs.TypeInfo.{wordsOf}
+use Rattle.type_info.specs.TypeInfo.{wordsOf, noVerdict}
 use Rattle.validate_type.specs.declared.PlainRow.{PlainRow}
 use Rattle.validate_type.specs.declared.PlainRow.the-variants as plain
 use Rattle.validate_type.specs.declared.Judged.{Judged}
@@ -97,21 +97,31 @@ immediatesOf rows (Struct count span) members = immediatesAfter rows members cou
 immediatesOf rows (Other o) members = 0
 
 -- ---- the row
--- of an accepted type with these flags
-unfoldable pub rowOf : (least : ℕ) (inner : ℕ → TypeInner) (rows : ℕ → Row) (i : ℕ) → TypeLayout → TypeInner → (members : List ℕ) → (flags : ℕ) → Row
-rowOf least inner rows i layout this members flags =
+-- of an accepted type with this uniform verdict and these flags
+abbrev pub rowWith : (uniform : Verdict) (rows : ℕ → Row) (i : ℕ) → TypeLayout → TypeInner → (members : List ℕ) → (flags : ℕ) → Row
+rowWith uniform rows i layout this members flags =
     record {
       size = layout .size;
       alignment = layout .alignment;
       flags = flags;
-      uniform = uniformOf least inner rows i (layout .alignment) this members;
+      uniform = uniform;
       storage = storageOf rows i (layout .alignment) this members;
       immediates = immediatesOf rows this members;
     }
 
-unfoldable pub judge : (c : ℕ) (inner : ℕ → TypeInner) (rows : ℕ → Row) (i : ℕ) → TypeLayout → TypeInner → (members : List ℕ) → Result Row
-judge c inner rows i layout this members =
-    andThen (flagsOf c inner rows this members) (λ flags. ok (rowOf minUniform inner rows i layout this members flags))
+-- by the minimum alignment of uniform verdicts
+unfoldable pub rowOf : (least : ℕ) (inner : ℕ → TypeInner) (rows : ℕ → Row) (i : ℕ) → TypeLayout → TypeInner → (members : List ℕ) → (flags : ℕ) → Row
+rowOf least inner rows i layout this members flags =
+    rowWith (uniformOf least inner rows i (layout .alignment) this members) rows i layout this members flags
+
+unfoldable pub judge : (least c : ℕ) (inner : ℕ → TypeInner) (rows : ℕ → Row) (i : ℕ) → TypeLayout → TypeInner → (members : List ℕ) → Result Row
+judge least c inner rows i layout this members =
+    andThen (flagsOf c inner rows this members) (λ flags. ok (rowOf least inner rows i layout this members flags))
+
+-- what rows by either uniform rule have in common: the same without a uniform verdict. `rows` are such rows
+unfoldable pub judgeCommon : (c : ℕ) (inner : ℕ → TypeInner) (rows : ℕ → Row) (i : ℕ) → TypeLayout → TypeInner → (members : List ℕ) → Result Row
+judgeCommon c inner rows i layout this members =
+    andThen (flagsOf c inner rows this members) (λ flags. ok (rowWith noVerdict rows i layout this members flags))
 
 -- ---- what the code answers
 -- the row of a type that is neither array nor struct, with one alignment in both verdicts
@@ -135,21 +145,21 @@ plainResult (plain.Made size alignment flags verdict immediates) = ok (plainRow 
 plainResult (plain.Refused number member detail) = err number member detail
 
 -- the row of an array over a base, with the flags that its form leaves
-abbrev pub arrayRow : (i stride : ℕ) → (base : Row) → TypeLayout → (flags : ℕ) → Row
-arrayRow i stride base layout flags =
+abbrev pub arrayRow : (least i stride : ℕ) → (base : Row) → TypeLayout → (flags : ℕ) → Row
+arrayRow least i stride base layout flags =
     record {
       size = layout .size;
       alignment = layout .alignment;
       flags = flags;
-      uniform = arrayVerdict minUniform i stride (base .alignment) (base .uniform);
+      uniform = arrayVerdict least i stride (base .alignment) (base .uniform);
       storage = arrayVerdict minStorage i stride (base .alignment) (base .storage);
       immediates = base .immediates;
     }
 
 -- by the array's form: 0 for one of a count, else a runtime array
-abbrev pub arrayOf : (form i stride : ℕ) → (base : Row) → TypeLayout → Result Row
-arrayOf form i stride base layout =
-    require (isSizedData (base .flags)) 15 0 0 (ok (arrayRow i stride base layout (pick (eqb form 0) (arrayFlags (base .flags)) (runtimeArrayFlags (base .flags)))))
+abbrev pub arrayOf : (least form i stride : ℕ) → (base : Row) → TypeLayout → Result Row
+arrayOf least form i stride base layout =
+    require (isSizedData (base .flags)) 15 0 0 (ok (arrayRow least i stride base layout (pick (eqb form 0) (arrayFlags (base .flags)) (runtimeArrayFlags (base .flags)))))
 
 -- the code's answer and what it makes of the lent words, by one type's judgement, whose row is to be written from `at` on
 abbrev pub Settled : Judged → (at : ℕ) (before after : List ℕ) → Result Row → Type 0

@@ -103,7 +103,7 @@ fn numeric_flags(capabilities: u32, kind: usize, scalar_kind: u32, width: u32) -
 
 // By its kind, a record whose five other words are a to e.
 fn scalar_row(capabilities: u32, a: u32, b: u32, c: u32, d: u32, e: u32) -> PlainRow
-    ensures { λ r. ⌜ ((m n i : ℕ) (inner : ℕ → inner.TypeInner) (words members : List ℕ) → plainResult r ≡ wordsRow capabilities m n inner words i scalarKind a b c d e members) ⌝ }
+    ensures { λ r. ⌜ ((least m n i : ℕ) (inner : ℕ → inner.TypeInner) (words members : List ℕ) → plainResult r ≡ wordsRow least capabilities m n inner words i scalarKind a b c d e members) ⌝ }
 {
     let laid = type_layout::scalar_layout(a, b, c, d, e);
     let flagged = numeric_flags(capabilities, flags::SCALAR_KIND, a, b);
@@ -111,7 +111,7 @@ fn scalar_row(capabilities: u32, a: u32, b: u32, c: u32, d: u32, e: u32) -> Plai
 }
 
 fn vector_row(capabilities: u32, a: u32, b: u32, c: u32, d: u32, e: u32) -> PlainRow
-    ensures { λ r. ⌜ ((m n i : ℕ) (inner : ℕ → inner.TypeInner) (words members : List ℕ) → plainResult r ≡ wordsRow capabilities m n inner words i vectorKind a b c d e members) ⌝ }
+    ensures { λ r. ⌜ ((least m n i : ℕ) (inner : ℕ → inner.TypeInner) (words members : List ℕ) → plainResult r ≡ wordsRow least capabilities m n inner words i vectorKind a b c d e members) ⌝ }
 {
     let laid = type_layout::vector_layout(a, b, c, d, e);
     let flagged = numeric_flags(capabilities, flags::VECTOR_KIND, b, c);
@@ -124,7 +124,7 @@ fn vector_row(capabilities: u32, a: u32, b: u32, c: u32, d: u32, e: u32) -> Plai
 }
 
 fn matrix_row(capabilities: u32, a: u32, b: u32, c: u32, d: u32, e: u32) -> PlainRow
-    ensures { λ r. ⌜ ((m n i : ℕ) (inner : ℕ → inner.TypeInner) (words members : List ℕ) → plainResult r ≡ wordsRow capabilities m n inner words i matrixKind a b c d e members) ⌝ }
+    ensures { λ r. ⌜ ((least m n i : ℕ) (inner : ℕ → inner.TypeInner) (words members : List ℕ) → plainResult r ≡ wordsRow least capabilities m n inner words i matrixKind a b c d e members) ⌝ }
 {
     let laid = type_layout::matrix_layout(a, b, c, d, e);
     let flagged = type_flags::matrix_flags(capabilities, c, d);
@@ -137,7 +137,7 @@ fn matrix_row(capabilities: u32, a: u32, b: u32, c: u32, d: u32, e: u32) -> Plai
 }
 
 fn cooperative_row(capabilities: u32, a: u32, b: u32, c: u32, d: u32, e: u32) -> PlainRow
-    ensures { λ r. ⌜ ((m n i : ℕ) (inner : ℕ → inner.TypeInner) (words members : List ℕ) → plainResult r ≡ wordsRow capabilities m n inner words i cooperativeMatrixKind a b c d e members) ⌝ }
+    ensures { λ r. ⌜ ((least m n i : ℕ) (inner : ℕ → inner.TypeInner) (words members : List ℕ) → plainResult r ≡ wordsRow least capabilities m n inner words i cooperativeMatrixKind a b c d e members) ⌝ }
 {
     let laid = type_layout::cooperative_layout(a, b, c, d, e);
     let flagged = type_flags::cooperative_flags(capabilities, c, d);
@@ -145,7 +145,7 @@ fn cooperative_row(capabilities: u32, a: u32, b: u32, c: u32, d: u32, e: u32) ->
 }
 
 fn atomic_row(capabilities: u32, a: u32, b: u32, c: u32, d: u32, e: u32) -> PlainRow
-    ensures { λ r. ⌜ ((m n i : ℕ) (inner : ℕ → inner.TypeInner) (words members : List ℕ) → plainResult r ≡ wordsRow capabilities m n inner words i atomicKind a b c d e members) ⌝ }
+    ensures { λ r. ⌜ ((least m n i : ℕ) (inner : ℕ → inner.TypeInner) (words members : List ℕ) → plainResult r ≡ wordsRow least capabilities m n inner words i atomicKind a b c d e members) ⌝ }
 {
     let laid = type_layout::scalar_layout(a, b, c, d, e);
     let flagged = type_flags::atomic_flags(capabilities, a, b);
@@ -153,7 +153,7 @@ fn atomic_row(capabilities: u32, a: u32, b: u32, c: u32, d: u32, e: u32) -> Plai
 }
 
 fn pointer_row(types: &[u32], rows: &[u32], a: u32, b: u32, c: u32, d: u32, e: u32) -> PlainRow
-    ensures { λ r. ⌜ ((k m i : ℕ) (members : List ℕ) → plainResult r ≡ wordsRow k m (typeCount (now (types .entry))) (typeInner (now (types .entry))) (now (rows .entry)) i pointerKind a b c d e members) ⌝ }
+    ensures { λ r. ⌜ ((least k m i : ℕ) (members : List ℕ) → plainResult r ≡ wordsRow least k m (typeCount (now (types .entry))) (typeInner (now (types .entry))) (now (rows .entry)) i pointerKind a b c d e members) ⌝ }
 {
     let within = (a as usize) < types.len() / records::TYPE_WORDS;
     let laid = type_layout::based_layout(fields::pointer_fields(b, c, d, e), within, 4);
@@ -162,7 +162,7 @@ fn pointer_row(types: &[u32], rows: &[u32], a: u32, b: u32, c: u32, d: u32, e: u
 }
 
 fn value_pointer_row(capabilities: u32, a: u32, b: u32, c: u32, d: u32, e: u32) -> PlainRow
-    ensures { λ r. ⌜ ((m n i : ℕ) (inner : ℕ → inner.TypeInner) (words members : List ℕ) → plainResult r ≡ wordsRow capabilities m n inner words i valuePointerKind a b c d e members) ⌝ }
+    ensures { λ r. ⌜ ((least m n i : ℕ) (inner : ℕ → inner.TypeInner) (words members : List ℕ) → plainResult r ≡ wordsRow least capabilities m n inner words i valuePointerKind a b c d e members) ⌝ }
 {
     let laid = type_layout::handle_layout(fields::value_pointer_fields(a, b, c, d, e), 4);
     let flagged = type_flags::value_pointer_flags(capabilities, a, b, c);
@@ -170,7 +170,7 @@ fn value_pointer_row(capabilities: u32, a: u32, b: u32, c: u32, d: u32, e: u32) 
 }
 
 fn image_row(capabilities: u32, a: u32, b: u32, c: u32, d: u32, e: u32) -> PlainRow
-    ensures { λ r. ⌜ ((m n i : ℕ) (inner : ℕ → inner.TypeInner) (words members : List ℕ) → plainResult r ≡ wordsRow capabilities m n inner words i imageKind a b c d e members) ⌝ }
+    ensures { λ r. ⌜ ((least m n i : ℕ) (inner : ℕ → inner.TypeInner) (words members : List ℕ) → plainResult r ≡ wordsRow least capabilities m n inner words i imageKind a b c d e members) ⌝ }
 {
     let laid = type_layout::handle_layout(fields::image_fields(a, b, c, d, e), 0);
     let flagged = type_flags::image_flags(capabilities, a, b, c);
@@ -178,14 +178,14 @@ fn image_row(capabilities: u32, a: u32, b: u32, c: u32, d: u32, e: u32) -> Plain
 }
 
 fn sampler_row(a: u32, b: u32, c: u32, d: u32, e: u32) -> PlainRow
-    ensures { λ r. ⌜ ((k m n i : ℕ) (inner : ℕ → inner.TypeInner) (words members : List ℕ) → plainResult r ≡ wordsRow k m n inner words i samplerKind a b c d e members) ⌝ }
+    ensures { λ r. ⌜ ((least k m n i : ℕ) (inner : ℕ → inner.TypeInner) (words members : List ℕ) → plainResult r ≡ wordsRow least k m n inner words i samplerKind a b c d e members) ⌝ }
 {
     let laid = type_layout::handle_layout(fields::sampler_fields(a, b, c, d, e), 0);
     joined(laid, type_flags::sampler_flags(), 1, 0)
 }
 
 fn acceleration_row(capabilities: u32, a: u32, b: u32, c: u32, d: u32, e: u32) -> PlainRow
-    ensures { λ r. ⌜ ((m n i : ℕ) (inner : ℕ → inner.TypeInner) (words members : List ℕ) → plainResult r ≡ wordsRow capabilities m n inner words i accelerationStructureKind a b c d e members) ⌝ }
+    ensures { λ r. ⌜ ((least m n i : ℕ) (inner : ℕ → inner.TypeInner) (words members : List ℕ) → plainResult r ≡ wordsRow least capabilities m n inner words i accelerationStructureKind a b c d e members) ⌝ }
 {
     let laid = type_layout::handle_layout(fields::acceleration_fields(a, b, c, d, e), 0);
     let flagged = type_flags::acceleration_flags(capabilities, a);
@@ -193,7 +193,7 @@ fn acceleration_row(capabilities: u32, a: u32, b: u32, c: u32, d: u32, e: u32) -
 }
 
 fn ray_query_row(capabilities: u32, a: u32, b: u32, c: u32, d: u32, e: u32) -> PlainRow
-    ensures { λ r. ⌜ ((m n i : ℕ) (inner : ℕ → inner.TypeInner) (words members : List ℕ) → plainResult r ≡ wordsRow capabilities m n inner words i rayQueryKind a b c d e members) ⌝ }
+    ensures { λ r. ⌜ ((least m n i : ℕ) (inner : ℕ → inner.TypeInner) (words members : List ℕ) → plainResult r ≡ wordsRow least capabilities m n inner words i rayQueryKind a b c d e members) ⌝ }
 {
     let laid = type_layout::handle_layout(fields::acceleration_fields(a, b, c, d, e), 0);
     let flagged = type_flags::ray_query_flags(capabilities, a);
@@ -209,7 +209,7 @@ fn binding_array_row(
     d: u32,
     e: u32,
 ) -> PlainRow
-    ensures { λ r. ⌜ ((k m i : ℕ) (members : List ℕ) → plainResult r ≡ wordsRow k m (typeCount (now (types .entry))) (typeInner (now (types .entry))) (now (rows .entry)) i bindingArrayKind a b c d e members) ⌝ }
+    ensures { λ r. ⌜ ((least k m i : ℕ) (members : List ℕ) → plainResult r ≡ wordsRow least k m (typeCount (now (types .entry))) (typeInner (now (types .entry))) (now (rows .entry)) i bindingArrayKind a b c d e members) ⌝ }
 {
     let within = (a as usize) < types.len() / records::TYPE_WORDS;
     let laid = type_layout::based_layout(fields::binding_array_fields(b, c, d, e), within, 0);
@@ -221,7 +221,7 @@ fn binding_array_row(
 fn judge_plain(capabilities: u32, types: &[u32], rows: &[u32], w: Words) -> PlainRow
     requires { ⌜ (w .kind ≡ arrayKind → ⊥) ⌝ }
     requires { ⌜ (w .kind ≡ structKind → ⊥) ⌝ }
-    ensures { λ r. ⌜ ((m i : ℕ) (members : List ℕ) → plainResult r ≡ wordsRow capabilities m (typeCount (now (types .entry))) (typeInner (now (types .entry))) (now (rows .entry)) i (w .kind) (w .a) (w .b) (w .c) (w .d) (w .e) members) ⌝ }
+    ensures { λ r. ⌜ ((least m i : ℕ) (members : List ℕ) → plainResult r ≡ wordsRow least capabilities m (typeCount (now (types .entry))) (typeInner (now (types .entry))) (now (rows .entry)) i (w .kind) (w .a) (w .b) (w .c) (w .d) (w .e) members) ⌝ }
 {
     let kind = w.kind;
     let a = w.a;
@@ -255,7 +255,7 @@ pub fn plain_row(capabilities: u32, types: &[u32], rows: &mut [u32], i: u32, w: 
     requires { ⌜ i * 14 + 14 ≤ length (now rows) ⌝ }
     requires { ⌜ (w .kind ≡ arrayKind → ⊥) ⌝ }
     requires { ⌜ (w .kind ≡ structKind → ⊥) ⌝ }
-    ensures { λ r. ⌜ ((m : ℕ) (members : List ℕ) → Settled r (i * 14) (now (rows .entry)) (now (rows .exit)) (wordsRow capabilities m (typeCount (now (types .entry))) (typeInner (now (types .entry))) (take (i * 14) (now (rows .entry))) i (w .kind) (w .a) (w .b) (w .c) (w .d) (w .e) members)) ⌝ }
+    ensures { λ r. ⌜ ((least m : ℕ) (members : List ℕ) → Settled r (i * 14) (now (rows .entry)) (now (rows .exit)) (wordsRow least capabilities m (typeCount (now (types .entry))) (typeInner (now (types .entry))) (take (i * 14) (now (rows .entry))) i (w .kind) (w .a) (w .b) (w .c) (w .d) (w .e) members)) ⌝ }
 {
     let at = (i as usize) * records::ROW_WORDS;
     match judge_plain(capabilities, types, &rows[..at], w) {
@@ -292,8 +292,9 @@ fn flags_by_form(form: u32, base: u32) -> u32
     flags::runtime_array_flags(base)
 }
 
-// The row of array i over a base, by its layout.
+// The row of array i over a base, by its layout; `least` is the minimum alignment in its uniform verdict.
 fn array_over(
+    least: u32,
     rows: &mut [u32],
     i: u32,
     base: u32,
@@ -303,7 +304,7 @@ fn array_over(
     own: u32,
 ) -> Judged
     requires { ⌜ i * 14 + 14 ≤ length (now rows) ⌝ }
-    ensures { λ r. ⌜ Settled r (i * 14) (now (rows .entry)) (now (rows .exit)) (arrayOf form i stride (rowsIn (take (i * 14) (now (rows .entry))) base) (record { size = size; alignment = own })) ⌝ }
+    ensures { λ r. ⌜ Settled r (i * 14) (now (rows .entry)) (now (rows .exit)) (arrayOf least form i stride (rowsIn (take (i * 14) (now (rows .entry))) base) (record { size = size; alignment = own })) ⌝ }
 {
     let at = (i as usize) * records::ROW_WORDS;
     let element = type_rows::row_at(&rows[..at], base);
@@ -315,13 +316,7 @@ fn array_over(
         };
     }
     let alignment = element.alignment;
-    let uniform = type_info::array_verdict(
-        type_info::MIN_UNIFORM,
-        i,
-        stride,
-        alignment,
-        element.uniform,
-    );
+    let uniform = type_info::array_verdict(least, i, stride, alignment, element.uniform);
     let storage = type_info::array_verdict(
         type_info::MIN_STORAGE,
         i,
@@ -345,6 +340,7 @@ fn array_over(
 
 // The same of an array.
 pub fn array_row(
+    least: u32,
     rows: &mut [u32],
     i: u32,
     base: u32,
@@ -354,11 +350,11 @@ pub fn array_row(
     e: u32,
 ) -> Judged
     requires { ⌜ i * 14 + 14 ≤ length (now rows) ⌝ }
-    ensures { λ r. ⌜ ((c m n : ℕ) (inner : ℕ → inner.TypeInner) (members : List ℕ) → Settled r (i * 14) (now (rows .entry)) (now (rows .exit)) (wordsRow c m n inner (take (i * 14) (now (rows .entry))) i arrayKind base form count stride e members)) ⌝ }
+    ensures { λ r. ⌜ ((c m n : ℕ) (inner : ℕ → inner.TypeInner) (members : List ℕ) → Settled r (i * 14) (now (rows .entry)) (now (rows .exit)) (wordsRow least c m n inner (take (i * 14) (now (rows .entry))) i arrayKind base form count stride e members)) ⌝ }
 {
     let at = (i as usize) * records::ROW_WORDS;
     match type_layout::array_record(&rows[..at], i, base, form, count, stride, e) {
-        Laid::Layout(l) => array_over(rows, i, base, form, stride, l.size, l.alignment),
+        Laid::Layout(l) => array_over(least, rows, i, base, form, stride, l.size, l.alignment),
         Laid::Refused { number, member } => Judged::Refused {
             number,
             member,

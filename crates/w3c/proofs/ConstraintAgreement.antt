@@ -11,7 +11,9 @@ use Rattle.records.specs.Record.{decoded, typeCount}
 use Rattle.records.specs.declared.Outcome.the-variants.{Accepted}
 use Rattle.flags.specs.Flags.{bit, hostShareableBit}
 use Rattle.type_info.specs.declared.Verdict.{Verdict}
-use Rattle.type_info.specs.Verdict.{isOk, alignmentIn}
+use Rattle.type_info.specs.declared.UniformRule.{UniformRule}
+use Rattle.type_info.specs.declared.UniformRule.the-variants.{Older}
+use Rattle.type_info.specs.Verdict.{leastFor, isOk, alignmentIn}
 use Rattle.valid.specs.Arena.{row, arena}
 use Rattle.w3c.specs.Wgsl.{WgslType, HostShareable, WellFormed, Unaligned}
 use Rattle.w3c.specs.Placed as placed
@@ -41,26 +43,28 @@ from-placed type formed space v judged =
 -- in an accepted arena record t is a WGSL type
 module _ (c : ℕ) (ts ms : List ℕ) (accepted : arena c ts ms ≡ Accepted) (type : WgslType) (formed : WellFormed type) (t : ℕ) (h : t < typeCount ts)
     (is : IsType type (decoded ts ms) t) where
-  -- HOST_SHAREABLE is set exactly where the type is host-shareable
-  pub host-shareable-agreement : HostShareable type ↔ T (bit (row c (decoded ts ms) t .flags) hostShareableBit)
-  host-shareable-agreement =
-      let m = host-shareable-placed c ts ms accepted (placement type) t h is in
-      let s = shareable-same type in
-      (λ p. m .0 (s .0 p, apart type formed), λ u. s .1 (m .1 u .0))
+  -- ---- by either uniform rule
+  module _ (rule : UniformRule) where
+    -- HOST_SHAREABLE is set exactly where the type is host-shareable
+    pub host-shareable-agreement : HostShareable type ↔ T (bit (row (leastFor rule) c (decoded ts ms) t .flags) hostShareableBit)
+    host-shareable-agreement =
+        let m = host-shareable-placed c ts ms accepted (placement type) t h is rule in
+        let s = shareable-same type in
+        (λ p. m .0 (s .0 p, apart type formed), λ u. s .1 (m .1 u .0))
 
-  module _ (shareable : HostShareable type) where
-    -- the storage verdict
-    pub storage-agreement : Agreement type storage (row c (decoded ts ms) t .storage)
-    storage-agreement =
-        from-placed type formed storage (row c (decoded ts ms) t .storage)
-        (storage-placed c ts ms accepted (placement type) t h is (host-shareable-agreement .0 shareable))
+    module _ (shareable : HostShareable type) where
+      -- the storage verdict
+      pub storage-agreement : Agreement type storage (row (leastFor rule) c (decoded ts ms) t .storage)
+      storage-agreement =
+          from-placed type formed storage (row (leastFor rule) c (decoded ts ms) t .storage)
+          (storage-placed c ts ms accepted (placement type) t h is rule (host-shareable-agreement .0 shareable))
 
-    -- it is Ok
-    pub storage-ok : T (isOk (row c (decoded ts ms) t .storage))
-    storage-ok = storage-agreement .ok .0 (storage-always type formed)
+      -- it is Ok
+      pub storage-ok : T (isOk (row (leastFor rule) c (decoded ts ms) t .storage))
+      storage-ok = storage-agreement .ok .0 (storage-always type formed)
 
-    -- the uniform verdict
-    pub uniform-agreement : Agreement type uniform (row c (decoded ts ms) t .uniform)
-    uniform-agreement =
-        from-placed type formed uniform (row c (decoded ts ms) t .uniform)
-        (uniform-placed c ts ms accepted (placement type) t h is (host-shareable-agreement .0 shareable))
+  -- ---- by the older: the uniform verdict
+  pub uniform-agreement : HostShareable type → Agreement type uniform (row (leastFor Older) c (decoded ts ms) t .uniform)
+  uniform-agreement shareable =
+      from-placed type formed uniform (row (leastFor Older) c (decoded ts ms) t .uniform)
+      (uniform-placed c ts ms accepted (placement type) t h is (host-shareable-agreement Older .0 shareable))

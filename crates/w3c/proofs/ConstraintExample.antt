@@ -1,5 +1,5 @@
 -- Arenas to which the theorems of ConstraintAgreement apply: a type whose uniform constraints hold, and one with @align, where the arena's
--- alignments divide the standard's; that @size(k) below SizeOf cannot be allowed; and where the arena's verdicts and the standard differ.
+-- alignments divide the standard's; that @size(k) below SizeOf cannot be allowed; and where the arena's verdicts, by the older uniform rule, and the standard differ.
 -- Assumes nothing.
 use mathlib.Core.Path.{_≡_, refl, _∙_}
 use mathlib.Core.Option.{none, some}
@@ -12,7 +12,8 @@ use lib.Dec.{T, lit≤}
 use Rattle.records.specs.Record.{decoded, memberType, memberOffset}
 use Rattle.records.specs.declared.Outcome.the-variants.{Accepted}
 use Rattle.flags.specs.Flags.{bit, hostShareableBit}
-use Rattle.type_info.specs.Verdict.{okVerdict, isOk, alignmentIn}
+use Rattle.type_info.specs.declared.UniformRule.the-variants.{Older}
+use Rattle.type_info.specs.Verdict.{leastFor, okVerdict, isOk, alignmentIn}
 use Rattle.valid.specs.Arena.{row, arena}
 use Rattle.w3c.specs.Plain.{f32, float, bool, three, four, scalar, vector}
 use Rattle.w3c.specs.Wgsl.{WgslType, plain, array, struct, Members, last, member, alignOf, sizeOf, offsetOfMember, HostShareable, WellFormed, Unaligned}
@@ -115,7 +116,7 @@ unfolding requiredAlignOf measure
 scene-required = refl
 
 -- so by the theorem its uniform verdict is Ok, with alignment 16
-scene-verdict : T (isOk (row 0 (decoded sceneTypes sceneRows) 5 .uniform)) × (alignmentIn (row 0 (decoded sceneTypes sceneRows) 5 .uniform) ≡ 16)
+scene-verdict : T (isOk (row (leastFor Older) 0 (decoded sceneTypes sceneRows) 5 .uniform)) × (alignmentIn (row (leastFor Older) 0 (decoded sceneTypes sceneRows) 5 .uniform) ≡ 16)
 scene-verdict =
     let a = uniform-agreement 0 sceneTypes sceneRows scene-accepted scene scene-formed 5 (omega arith) scene-is scene-shareable in
     let ok = a .ok .0 scene-uniform in
@@ -180,8 +181,8 @@ unfolding HostShareable
 outer-shareable = (tt, tt)
 
 -- by the theorem the storage verdict is Ok
-outer-verdict : T (isOk (row 0 (decoded wideTypes wideRows) 2 .storage))
-outer-verdict = storage-ok 0 wideTypes wideRows wide-accepted outer outer-formed 2 (omega arith) outer-is outer-shareable
+outer-verdict : T (isOk (row (leastFor Older) 0 (decoded wideTypes wideRows) 2 .storage))
+outer-verdict = storage-ok 0 wideTypes wideRows wide-accepted outer outer-formed 2 (omega arith) outer-is Older outer-shareable
 
 -- the standard: AlignOf 32 and SizeOf 64, RequiredAlignOf 32 in both spaces
 outer-standard : (alignOf outer ≡ 32) × (sizeOf outer ≡ 64) × (requiredAlignOf outer storage ≡ 32) × (requiredAlignOf outer uniform ≡ 32)
@@ -189,13 +190,13 @@ unfolding measure requiredAlignOf
 outer-standard = (refl, refl, refl, refl)
 
 -- the row: alignment 4 and size 64, storage Ok with 4, uniform Ok with 16
-outer-row : (row 0 (decoded wideTypes wideRows) 2 .alignment ≡ 4) × (row 0 (decoded wideTypes wideRows) 2 .size ≡ 64)
-    × (row 0 (decoded wideTypes wideRows) 2 .storage ≡ okVerdict 4) × (row 0 (decoded wideTypes wideRows) 2 .uniform ≡ okVerdict 16)
+outer-row : (row (leastFor Older) 0 (decoded wideTypes wideRows) 2 .alignment ≡ 4) × (row (leastFor Older) 0 (decoded wideTypes wideRows) 2 .size ≡ 64)
+    × (row (leastFor Older) 0 (decoded wideTypes wideRows) 2 .storage ≡ okVerdict 4) × (row (leastFor Older) 0 (decoded wideTypes wideRows) 2 .uniform ≡ okVerdict 16)
 unfolding check
 outer-row = (refl, refl, refl, refl)
 
 -- a record has no @align: with s at 16, where the standard asks for a multiple of 32, both verdicts are Ok
-shifted-row : (row 0 (decoded wideTypes wideRows) 4 .storage ≡ okVerdict 4) × (row 0 (decoded wideTypes wideRows) 4 .uniform ≡ okVerdict 16)
+shifted-row : (row (leastFor Older) 0 (decoded wideTypes wideRows) 4 .storage ≡ okVerdict 4) × (row (leastFor Older) 0 (decoded wideTypes wideRows) 4 .uniform ≡ okVerdict 16)
 unfolding check
 shifted-row = (refl, refl)
 
@@ -238,7 +239,7 @@ low-refused : (requiredAlignOf (struct innerMembers) uniform ∣ 4) → ⊥
 unfolding measure requiredAlignOf
 low-refused d = omega (arith, mod-eq-zero-of-dvd 16 d)
 
-low-row : (arena 0 lowTypes lowRows ≡ Accepted) × (row 0 (decoded lowTypes lowRows) 2 .uniform ≡ okVerdict 16)
+low-row : (arena 0 lowTypes lowRows ≡ Accepted) × (row (leastFor Older) 0 (decoded lowTypes lowRows) 2 .uniform ≡ okVerdict 16)
 unfolding check
 low-row = (refl, refl)
 
@@ -268,7 +269,7 @@ unfolding HostShareable
 overlap-shareable = (tt, tt)
 
 -- its record is accepted without HOST_SHAREABLE
-overlap-row : (arena 0 overlapTypes overlapRows ≡ Accepted) × (bit (row 0 (decoded overlapTypes overlapRows) 1 .flags) hostShareableBit ≡ false)
+overlap-row : (arena 0 overlapTypes overlapRows ≡ Accepted) × (bit (row (leastFor Older) 0 (decoded overlapTypes overlapRows) 1 .flags) hostShareableBit ≡ false)
 unfolding check
 overlap-row = (refl, refl)
 
@@ -281,7 +282,7 @@ unfolding measure
 half-offsets = (refl, refl)
 
 half-row : (arena 0 (0 ∷ 2 ∷ 4 ∷ 0 ∷ 0 ∷ 0 ∷ 8 ∷ 0 ∷ 2 ∷ 12 ∷ 0 ∷ 0 ∷ []) (0 ∷ 0 ∷ 0 ∷ 0 ∷ 0 ∷ 6 ∷ 0 ∷ 0 ∷ []) ≡ Accepted)
-    × (isOk (row 0 (decoded (0 ∷ 2 ∷ 4 ∷ 0 ∷ 0 ∷ 0 ∷ 8 ∷ 0 ∷ 2 ∷ 12 ∷ 0 ∷ 0 ∷ []) (0 ∷ 0 ∷ 0 ∷ 0 ∷ 0 ∷ 6 ∷ 0 ∷ 0 ∷ [])) 1 .storage) ≡ false)
+    × (isOk (row (leastFor Older) 0 (decoded (0 ∷ 2 ∷ 4 ∷ 0 ∷ 0 ∷ 0 ∷ 8 ∷ 0 ∷ 2 ∷ 12 ∷ 0 ∷ 0 ∷ []) (0 ∷ 0 ∷ 0 ∷ 0 ∷ 0 ∷ 6 ∷ 0 ∷ 0 ∷ [])) 1 .storage) ≡ false)
 unfolding check
 half-row = (refl, refl)
 
@@ -290,8 +291,8 @@ half-row = (refl, refl)
 abbrev strideTypes : List ℕ
 strideTypes = 0 ∷ 2 ∷ 4 ∷ 0 ∷ 0 ∷ 0 ∷ 7 ∷ 0 ∷ 0 ∷ 1 ∷ 0 ∷ 0 ∷ []
 
-stride-row : (arena 0 strideTypes [] ≡ Accepted) × T (bit (row 0 (decoded strideTypes []) 1 .flags) hostShareableBit)
-    × (row 0 (decoded strideTypes []) 1 .storage ≡ okVerdict 4) × (row 0 (decoded strideTypes []) 1 .uniform ≡ okVerdict 16)
+stride-row : (arena 0 strideTypes [] ≡ Accepted) × T (bit (row (leastFor Older) 0 (decoded strideTypes []) 1 .flags) hostShareableBit)
+    × (row (leastFor Older) 0 (decoded strideTypes []) 1 .storage ≡ okVerdict 4) × (row (leastFor Older) 0 (decoded strideTypes []) 1 .uniform ≡ okVerdict 16)
 unfolding check
 stride-row = (refl, tt, refl, refl)
 
@@ -302,9 +303,9 @@ cooperativeTypes = 3 ∷ 8 ∷ 8 ∷ 2 ∷ 4 ∷ 0 ∷ 8 ∷ 0 ∷ 1 ∷ 288 ∷
 abbrev cooperativeRows : List ℕ
 cooperativeRows = 0 ∷ 4 ∷ 0 ∷ 0 ∷ []
 
-cooperative-row : (arena 128 cooperativeTypes cooperativeRows ≡ Accepted) × (row 128 (decoded cooperativeTypes cooperativeRows) 0 .alignment ≡ 32)
-    × (row 128 (decoded cooperativeTypes cooperativeRows) 0 .storage ≡ okVerdict 4)
-    × (row 128 (decoded cooperativeTypes cooperativeRows) 1 .storage ≡ okVerdict 4) × (row 128 (decoded cooperativeTypes cooperativeRows) 1 .uniform ≡ okVerdict 16)
+cooperative-row : (arena 128 cooperativeTypes cooperativeRows ≡ Accepted) × (row (leastFor Older) 128 (decoded cooperativeTypes cooperativeRows) 0 .alignment ≡ 32)
+    × (row (leastFor Older) 128 (decoded cooperativeTypes cooperativeRows) 0 .storage ≡ okVerdict 4)
+    × (row (leastFor Older) 128 (decoded cooperativeTypes cooperativeRows) 1 .storage ≡ okVerdict 4) × (row (leastFor Older) 128 (decoded cooperativeTypes cooperativeRows) 1 .uniform ≡ okVerdict 16)
 unfolding check
 cooperative-row = (refl, refl, refl, refl, refl)
 
@@ -312,7 +313,7 @@ cooperative-row = (refl, refl, refl, refl, refl)
 abbrev boolTypes : List ℕ
 boolTypes = 0 ∷ 3 ∷ 1 ∷ 0 ∷ 0 ∷ 0 ∷ []
 
-bool-row : (arena 0 boolTypes [] ≡ Accepted) × (row 0 (decoded boolTypes []) 0 .storage ≡ okVerdict 1) × (row 0 (decoded boolTypes []) 0 .uniform ≡ okVerdict 1)
-    × (bit (row 0 (decoded boolTypes []) 0 .flags) hostShareableBit ≡ false) × (requiredAlignOf (plain (scalar bool)) uniform ≡ 4)
+bool-row : (arena 0 boolTypes [] ≡ Accepted) × (row (leastFor Older) 0 (decoded boolTypes []) 0 .storage ≡ okVerdict 1) × (row (leastFor Older) 0 (decoded boolTypes []) 0 .uniform ≡ okVerdict 1)
+    × (bit (row (leastFor Older) 0 (decoded boolTypes []) 0 .flags) hostShareableBit ≡ false) × (requiredAlignOf (plain (scalar bool)) uniform ≡ 4)
 unfolding check measure requiredAlignOf
 bool-row = (refl, refl, refl, refl, refl)

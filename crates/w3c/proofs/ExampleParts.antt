@@ -18,7 +18,7 @@ use Rattle.type_info.specs.Verdict.{previousOf}
 use Rattle.member_bounds.specs.MemberBounds.{memberBounds}
 use Rattle.valid_blend.specs.Blend.{sourceAt, sourceResult, blendedAfter, otherLocation, structBlend}
 use Rattle.member_rules.specs.MemberRules.{uniformAfter, storageAfter, immediatesAfter}
-use Rattle.validate_type.specs.ValidateType.{flagsOf, uniformOf, storageOf, immediatesOf, rowOf, judge}
+use Rattle.validate_type.specs.ValidateType.{flagsOf, uniformOf, storageOf, immediatesOf, rowOf, judge, judgeCommon}
 use Rattle.valid.specs.Arena.{judgeOutcome, arenaOutcome, arena}
 use Rattle.w3c.specs.Wgsl.{WgslType, lastMember, typeOfMember, maxOver, offsetBy, alignOf, sizeOf}
 use Rattle.w3c.specs.Placed as placed
@@ -27,7 +27,7 @@ use Rattle.w3c.specs.Placement.{placement}
 
 -- unfolding this name unfolds all that an arena check computes with
 unfoldable pub check : ℕ → List ℕ → List ℕ → Outcome
-unfolding arena tablesFit arenaOutcome layoutOutcome recordAt locatedTo fieldsOk typeInner innerOf structMembers resultAt valueAt layoutOf trySize alignmentOf membersAlignment judgeOutcome judge flagsOf leafFlags checkWidth integerWidth floatWidth rowOf uniformOf storageOf immediatesOf blendedAfter sourceResult sourceAt otherLocation structBlend memberBounds previousOf distanceOk uniformAfter storageAfter immediatesAfter arrayVerdict shareVerdict memberVerdict distanceVerdict unsizedVerdict spanVerdict
+unfolding arena tablesFit arenaOutcome layoutOutcome recordAt locatedTo fieldsOk typeInner innerOf structMembers resultAt valueAt layoutOf trySize alignmentOf membersAlignment judgeOutcome judge judgeCommon flagsOf leafFlags checkWidth integerWidth floatWidth rowOf uniformOf storageOf immediatesOf blendedAfter sourceResult sourceAt otherLocation structBlend memberBounds previousOf distanceOk uniformAfter storageAfter immediatesAfter arrayVerdict shareVerdict memberVerdict distanceVerdict unsizedVerdict spanVerdict
 check c ts ms = arena c ts ms
 
 -- unfolding this name unfolds all that a placed type computes with

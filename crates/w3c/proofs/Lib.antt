@@ -7,6 +7,7 @@ pub mod LeastLaws
 pub mod PlacedMemberLaws
 pub mod PlacedStructLaws
 pub mod PlacedAgreement
+pub mod NewerAgreement
 pub mod ReadLaws
 pub mod PlacementLaws
 pub mod WrittenLaws
@@ -15,6 +16,7 @@ pub mod ConstraintAgreement
 pub mod WrittenAgreement
 pub mod ExampleParts
 pub mod PlacedExample
+pub mod NewerExample
 pub mod Example
 pub mod ConstraintExample
 pub mod WrittenExample

@@ -2,7 +2,7 @@
 -- HOST_SHAREABLE is set exactly where the type is host-shareable and the members of its structs are in order and apart; and where it is set,
 -- the verdict of an address space is Ok exactly where the constraints of that space hold of the placement, with RequiredAlignOf.
 -- Assumes nothing.
-use mathlib.Core.Path.{_≡_}
+use mathlib.Core.Path.{_≡_, sym, _∙_, ap}
 use mathlib.Core.Bool.{Bool, true, false, _&&_}
 use mathlib.Core.Logic.{_↔_}
 use mathlib.Core.List.{List}
@@ -20,8 +20,13 @@ use Rattle.records.proofs.TableLaws.{also-accepted}
 use Rattle.layouter.specs.Layouter.{layoutAt, layoutOutcome}
 use Rattle.layouter.proofs.LayoutAccepted.{array-layout, runtime-array-layout}
 use Rattle.flags.specs.Flags.{bit, hostShareableBit}
-use Rattle.type_info.specs.Verdict.{isOk, alignmentIn}
+use Rattle.type_info.specs.declared.Row.{Row}
+use Rattle.type_info.specs.declared.UniformRule.{UniformRule}
+use Rattle.type_info.specs.declared.UniformRule.the-variants.{Older}
+use Rattle.type_info.specs.TypeInfo.{withoutUniform}
+use Rattle.type_info.specs.Verdict.{minUniform, leastFor, isOk, alignmentIn}
 use Rattle.valid.specs.Arena.{judgedAt, row, judgeOutcome, arenaOutcome, arena}
+use Rattle.valid.proofs.CommonLaws.{refused-common, row-common}
 use Rattle.w3c.specs.Placed.{Space, storage, uniform, Placed, plain, array, runtimeArray, struct, PlacedMembers, last, member, lastMember, memberTotal, typeOfMember, alignOf, sizeOf, HostShareable, AllHostShareable, Apart, AllApart, requiredAlignOf, Constraints, IsPlaced, IsMember}
 use Rattle.w3c.specs.Wgsl.{sizeOf as sizeOfType}
 use Rattle.w3c.specs.Written.{StridesCover, SpansReach, AllSpansReach, bare}
@@ -31,7 +36,7 @@ use Rattle.w3c.proofs.PlacedLaws.{member-shareable, member-apart}
 use Rattle.w3c.proofs.PlacedStructLaws.{Marked, Shareable, Agrees, placed-layout, plain-marked, plain-agrees, array-marked, runtime-array-marked, array-agrees, runtime-array-agrees, member-earlier, struct-marked, struct-reaches, struct-agrees}
 
 -- ---- the induction
-module _ (c : ℕ) (types : ℕ → Decoded) (n : ℕ) (laid : firstRefusal (layoutAt types) n ≡ Accepted) (accepted : firstRefusal (judgedAt c types) n ≡ Accepted) where
+module _ (c : ℕ) (types : ℕ → Decoded) (n : ℕ) (laid : firstRefusal (layoutAt types) n ≡ Accepted) (accepted : firstRefusal (judgedAt minUniform c types) n ≡ Accepted) where
   mutual
     unfolding IsPlaced HostShareable Apart typeOfMember
 
@@ -104,57 +109,71 @@ module _ (c : ℕ) (types : ℕ → Decoded) (n : ℕ) (laid : firstRefusal (lay
 -- ---- the theorem
 -- an accepted arena has accepted layouts and accepted rows
 pub arena-parts : (c : ℕ) (ts ms : List ℕ) → arena c ts ms ≡ Accepted
-    → (firstRefusal (layoutAt (decoded ts ms)) (typeCount ts) ≡ Accepted) × (firstRefusal (judgedAt c (decoded ts ms)) (typeCount ts) ≡ Accepted)
+    → (firstRefusal (layoutAt (decoded ts ms)) (typeCount ts) ≡ Accepted) × (firstRefusal (judgedAt minUniform c (decoded ts ms)) (typeCount ts) ≡ Accepted)
 unfolding arena arenaOutcome layoutOutcome judgeOutcome
 arena-parts c ts ms e =
     let both = also-accepted (layoutOutcome ts ms) (judgeOutcome c ts ms)
     (passed (capabilitiesKnown c && tablesFit (length ts) (length ms) (typeCount ts * rowWords)) (arenaOutcome c ts ms) e) in
-    (also-accepted (firstRefusal (recordAt ts ms) (typeCount ts)) (firstRefusal (layoutAt (decoded ts ms)) (typeCount ts)) (both .0) .1, both .1)
+    (also-accepted (firstRefusal (recordAt ts ms) (typeCount ts)) (firstRefusal (layoutAt (decoded ts ms)) (typeCount ts)) (both .0) .1, refused-common minUniform c (decoded ts ms) (typeCount ts) ∙ both .1)
   where
     passed : (b : Bool) (o : Outcome) → pick b o (Refused 1 0 0 0) ≡ Accepted → o ≡ Accepted
     passed true o p = p
     passed false o p = let z : _≡_ {A = ℕ} 0 1 = cc in absurd (omega arith)
 
+-- flags, sizes, alignments and storage verdicts by either uniform rule are those by the older
+module _ (rule : UniformRule) (c : ℕ) (ts ms : List ℕ) (t : ℕ) where
+  older-row : withoutUniform (row (leastFor rule) c (decoded ts ms) t) ≡ withoutUniform (row minUniform c (decoded ts ms) t)
+  older-row = row-common (leastFor rule) c (decoded ts ms) t ∙ sym (row-common minUniform c (decoded ts ms) t)
+
+  pub older-flags : row (leastFor rule) c (decoded ts ms) t .flags ≡ row minUniform c (decoded ts ms) t .flags
+  older-flags = ap (λ (r : Row). r .flags) older-row
+
+  older-storage : row (leastFor rule) c (decoded ts ms) t .storage ≡ row minUniform c (decoded ts ms) t .storage
+  older-storage = ap (λ (r : Row). r .storage) older-row
+
 -- in an accepted arena record t is a placed WGSL type
 module _ (c : ℕ) (ts ms : List ℕ) (accepted : arena c ts ms ≡ Accepted) (type : Placed) (t : ℕ) (h : t < typeCount ts) (is : IsPlaced type (decoded ts ms) t) where
-  -- HOST_SHAREABLE is set exactly where the type is host-shareable and the members of its structs are in order and apart
-  pub host-shareable-placed : (HostShareable type × Apart type) ↔ T (bit (row c (decoded ts ms) t .flags) hostShareableBit)
-  host-shareable-placed =
+  -- ---- by either uniform rule
+  module _ (rule : UniformRule) where
+    -- HOST_SHAREABLE is set exactly where the type is host-shareable and the members of its structs are in order and apart
+    pub host-shareable-placed : (HostShareable type × Apart type) ↔ T (bit (row (leastFor rule) c (decoded ts ms) t .flags) hostShareableBit)
+    host-shareable-placed =
+        let p = arena-parts c ts ms accepted in
+        rw (older-flags rule c ts ms t) (marked c (decoded ts ms) (typeCount ts) (p .0) (p .1) type t h is)
+
+    -- where HOST_SHAREABLE is set
+    module _ (set : T (bit (row (leastFor rule) c (decoded ts ms) t .flags) hostShareableBit)) where
+      -- the row's size and alignment are SizeOf and AlignOf of the placement
+      pub layout-placed : (row (leastFor rule) c (decoded ts ms) t .size ≡ sizeOf type) × (row (leastFor rule) c (decoded ts ms) t .alignment ≡ alignOf type)
+      layout-placed =
+          let p = arena-parts c ts ms accepted in
+          let r = row-layout c (decoded ts ms) (typeCount ts) (p .1) t h in
+          let l = placed-layout (decoded ts ms) (typeCount ts) (p .0) type (host-shareable-placed .1 set .0) t h is in
+          (ap (λ (x : Row). x .size) (older-row rule c ts ms t) ∙ r .0 ∙ l .0, ap (λ (x : Row). x .alignment) (older-row rule c ts ms t) ∙ r .1 ∙ l .1)
+
+      -- the storage verdict is Ok exactly where the storage constraints hold of the placement, and its alignment is then RequiredAlignOf
+      pub storage-placed : (Constraints type storage ↔ T (isOk (row (leastFor rule) c (decoded ts ms) t .storage)))
+          × (T (isOk (row (leastFor rule) c (decoded ts ms) t .storage)) → alignmentIn (row (leastFor rule) c (decoded ts ms) t .storage) ≡ requiredAlignOf type storage)
+      storage-placed =
+          let p = arena-parts c ts ms accepted in
+          let s = host-shareable-placed .1 set in
+          let a = agrees c (decoded ts ms) (typeCount ts) (p .0) (p .1) type (s .0) (s .1) storage t h is in
+          rw (older-storage rule c ts ms t) ((a .passes, a .holds), a .align)
+
+      -- where the storage verdict is Ok and no stride is below its element's size, the row's size is at least SizeOf of the type without attributes
+      pub size-placed : StridesCover type → T (isOk (row (leastFor rule) c (decoded ts ms) t .storage)) → sizeOfType (bare type) ≤ row (leastFor rule) c (decoded ts ms) t .size
+      size-placed covers ok =
+          let p = arena-parts c ts ms accepted in
+          let s = host-shareable-placed .1 set in
+          rw (layout-placed .0)
+          (least-size type (storage-placed .0 .1 ok) (s .1) covers (reaches c (decoded ts ms) (typeCount ts) (p .0) (p .1) type (s .0) t h is))
+
+  -- ---- by the older: where HOST_SHAREABLE is set, the uniform verdict is Ok exactly where the uniform constraints hold, and its alignment is then RequiredAlignOf
+  pub uniform-placed : T (bit (row (leastFor Older) c (decoded ts ms) t .flags) hostShareableBit)
+      → (Constraints type uniform ↔ T (isOk (row (leastFor Older) c (decoded ts ms) t .uniform)))
+      × (T (isOk (row (leastFor Older) c (decoded ts ms) t .uniform)) → alignmentIn (row (leastFor Older) c (decoded ts ms) t .uniform) ≡ requiredAlignOf type uniform)
+  uniform-placed set =
       let p = arena-parts c ts ms accepted in
-      marked c (decoded ts ms) (typeCount ts) (p .0) (p .1) type t h is
-
-  -- where HOST_SHAREABLE is set
-  module _ (set : T (bit (row c (decoded ts ms) t .flags) hostShareableBit)) where
-    -- the row's size and alignment are SizeOf and AlignOf of the placement
-    pub layout-placed : (row c (decoded ts ms) t .size ≡ sizeOf type) × (row c (decoded ts ms) t .alignment ≡ alignOf type)
-    layout-placed =
-        let p = arena-parts c ts ms accepted in
-        let r = row-layout c (decoded ts ms) (typeCount ts) (p .1) t h in
-        let l = placed-layout (decoded ts ms) (typeCount ts) (p .0) type (host-shareable-placed .1 set .0) t h is in
-        (rw (r .0) (l .0), rw (r .1) (l .1))
-
-    -- the storage verdict is Ok exactly where the storage constraints hold of the placement, and its alignment is then RequiredAlignOf
-    pub storage-placed : (Constraints type storage ↔ T (isOk (row c (decoded ts ms) t .storage)))
-        × (T (isOk (row c (decoded ts ms) t .storage)) → alignmentIn (row c (decoded ts ms) t .storage) ≡ requiredAlignOf type storage)
-    storage-placed =
-        let p = arena-parts c ts ms accepted in
-        let s = host-shareable-placed .1 set in
-        let a = agrees c (decoded ts ms) (typeCount ts) (p .0) (p .1) type (s .0) (s .1) storage t h is in
-        ((a .passes, a .holds), a .align)
-
-    -- and the uniform verdict where the uniform constraints do
-    pub uniform-placed : (Constraints type uniform ↔ T (isOk (row c (decoded ts ms) t .uniform)))
-        × (T (isOk (row c (decoded ts ms) t .uniform)) → alignmentIn (row c (decoded ts ms) t .uniform) ≡ requiredAlignOf type uniform)
-    uniform-placed =
-        let p = arena-parts c ts ms accepted in
-        let s = host-shareable-placed .1 set in
-        let a = agrees c (decoded ts ms) (typeCount ts) (p .0) (p .1) type (s .0) (s .1) uniform t h is in
-        ((a .passes, a .holds), a .align)
-
-    -- where the storage verdict is Ok and no stride is below its element's size, the row's size is at least SizeOf of the type without attributes
-    pub size-placed : StridesCover type → T (isOk (row c (decoded ts ms) t .storage)) → sizeOfType (bare type) ≤ row c (decoded ts ms) t .size
-    size-placed covers ok =
-        let p = arena-parts c ts ms accepted in
-        let s = host-shareable-placed .1 set in
-        rw (layout-placed .0)
-        (least-size type (storage-placed .0 .1 ok) (s .1) covers (reaches c (decoded ts ms) (typeCount ts) (p .0) (p .1) type (s .0) t h is))
+      let s = host-shareable-placed Older .1 set in
+      let a = agrees c (decoded ts ms) (typeCount ts) (p .0) (p .1) type (s .0) (s .1) uniform t h is in
+      ((a .passes, a .holds), a .align)

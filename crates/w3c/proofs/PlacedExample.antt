@@ -12,7 +12,8 @@ use Rattle.records.specs.Record.{Decoded, decoded, memberType, memberOffset}
 use Rattle.records.specs.declared.Outcome.the-variants.{Accepted}
 use Rattle.flags.specs.Flags.{bit, dataBit, hostShareableBit}
 use Rattle.type_info.specs.declared.Row.{Row}
-use Rattle.type_info.specs.Verdict.{okVerdict, arrayStride, structSpan, memberOffsetOff, memberOffsetAfterStruct, unsizedMember, nonHostShareable, isOk}
+use Rattle.type_info.specs.declared.UniformRule.the-variants.{Older}
+use Rattle.type_info.specs.Verdict.{leastFor, okVerdict, arrayStride, structSpan, memberOffsetOff, memberOffsetAfterStruct, unsizedMember, nonHostShareable, isOk}
 use Rattle.valid.specs.Arena.{row, arena}
 use Rattle.w3c.specs.Plain.{f32, float, three, scalar, vector}
 use Rattle.w3c.specs.Placed.{storage, uniform, Placed, plain, array, runtimeArray, struct, PlacedMembers, last, member, typeOfMember, offsetOfMember, HostShareable, MembersApart, requiredAlignOf, Constraints, IsPlaced, IsMember}
@@ -105,8 +106,9 @@ sheetRows =
 abbrev pub sheet : ℕ → Decoded
 sheet = decoded sheetTypes sheetRows
 
+-- their rows by the older uniform rule
 abbrev pub sheetRow : ℕ → Row
-sheetRow = row 0 sheet
+sheetRow = row (leastFor Older) 0 sheet
 
 pub sheet-accepted : arena 0 sheetTypes sheetRows ≡ Accepted
 unfolding check
@@ -136,7 +138,7 @@ near-row = (tt, refl, refl)
 
 -- by the theorem the verdict is not Ok
 near-verdict : T (isOk (sheetRow 2 .storage)) → ⊥
-near-verdict ok = near-not-storage (storage-placed 0 sheetTypes sheetRows sheet-accepted (struct nearMembers 16) 2 (omega arith) near-is (near-row .0) .0 .1 ok)
+near-verdict ok = near-not-storage (storage-placed 0 sheetTypes sheetRows sheet-accepted (struct nearMembers 16) 2 (omega arith) near-is Older (near-row .0) .0 .1 ok)
 
 -- ---- array<f32, 2> of stride 6: no multiple of 4, in storage
 six-is : IsPlaced (array number 2 6) sheet 3
@@ -152,7 +154,7 @@ unfolding check
 six-row = (tt, refl, refl)
 
 six-verdict : T (isOk (sheetRow 3 .storage)) → ⊥
-six-verdict ok = six-not-storage (storage-placed 0 sheetTypes sheetRows sheet-accepted (array number 2 6) 3 (omega arith) six-is (six-row .0) .0 .1 ok)
+six-verdict ok = six-not-storage (storage-placed 0 sheetTypes sheetRows sheet-accepted (array number 2 6) 3 (omega arith) six-is Older (six-row .0) .0 .1 ok)
 
 -- ---- a span of 20 where AlignOf is 16
 short-is : IsPlaced (struct shortMembers 20) sheet 4
@@ -172,7 +174,7 @@ unfolding check
 short-row = (tt, refl, refl)
 
 short-verdict : T (isOk (sheetRow 4 .storage)) → ⊥
-short-verdict ok = short-not-storage (storage-placed 0 sheetTypes sheetRows sheet-accepted (struct shortMembers 20) 4 (omega arith) short-is (short-row .0) .0 .1 ok)
+short-verdict ok = short-not-storage (storage-placed 0 sheetTypes sheetRows sheet-accepted (struct shortMembers 20) 4 (omega arith) short-is Older (short-row .0) .0 .1 ok)
 
 -- ---- array<f32, 4> of stride 4: in storage, and not in uniform
 floats-is : IsPlaced (array number 4 4) sheet 5
@@ -193,7 +195,7 @@ floats-row = (tt, refl, refl)
 
 floats-verdicts : T (isOk (sheetRow 5 .storage)) × (T (isOk (sheetRow 5 .uniform)) → ⊥)
 floats-verdicts = (
-  storage-placed 0 sheetTypes sheetRows sheet-accepted (array number 4 4) 5 (omega arith) floats-is (floats-row .0) .0 .0 floats-storage,
+  storage-placed 0 sheetTypes sheetRows sheet-accepted (array number 4 4) 5 (omega arith) floats-is Older (floats-row .0) .0 .0 floats-storage,
   λ ok. floats-not-uniform (uniform-placed 0 sheetTypes sheetRows sheet-accepted (array number 4 4) 5 (omega arith) floats-is (floats-row .0) .0 .1 ok),
 )
 
@@ -317,7 +319,7 @@ unfolding check
 loose-data = tt
 
 loose-read : Readable sheet 12
-loose-read = placed-read 0 sheetTypes sheetRows sheet-accepted 12 (omega arith) (λ k r. placed-plain sheet r (struct looseMembers 112) loose-is) loose-data
+loose-read = placed-read Older 0 sheetTypes sheetRows sheet-accepted 12 (omega arith) (λ k r. placed-plain sheet r (struct looseMembers 112) loose-is) loose-data
 
 loose-only : loose-read .0 ≡ struct looseMembers 112
 loose-only = placed-unique (loose-read .0) (struct looseMembers 112) sheet 12 (loose-read .1) loose-is

@@ -24,7 +24,7 @@ use Rattle.w3c.proofs.RowLaws.{verdictIn, afterIn}
 -- ---- the distance rule
 -- where record k is the type, the arena asks for the distance that the standard asks for
 pub distance-same : (type : Placed) (types : ℕ → Decoded) (k : ℕ) → IsPlaced type types k → (start later : ℕ) → start ≤ later
-    → DistanceKept minUniform later (structAt (types k .inner) start) ↔ StructDistance type start later
+    → DistanceKept later (structAt (types k .inner) start) ↔ StructDistance type start later
 unfolding IsPlaced
 distance-same (plain p) types k is start later h = rw is (λ d. tt, λ d. tt)
 distance-same (array element count stride) types k is start later h = rw (is .1) (λ d. tt, λ d. tt)
@@ -77,7 +77,7 @@ pub record Known (inner : ℕ → TypeInner) (rows : ℕ → Row) (part : List �
   pub shareable : T (bit (rows (memberType part i) .flags) hostShareableBit)
   pub judged : Judged (Constraints (typeOfMember members i) space) (requiredAlignOf (typeOfMember members i) space) (verdictIn (rows (memberType part i)) space)
   pub sized : T (bit (rows (memberType part i) .flags) sizedBit) ↔ FixedSize (typeOfMember members i)
-  pub distance : DistanceKept minUniform (memberOffset part i) (previousOf inner part i) ↔ NextDistance members i
+  pub distance : DistanceKept (memberOffset part i) (previousOf inner part i) ↔ NextDistance members i
 
 module _ (inner : ℕ → TypeInner) (rows : ℕ → Row) (t : ℕ) (part : List ℕ) (members : PlacedMembers) (j : ℕ) where
   -- the type of member j in the tree
@@ -129,12 +129,12 @@ module _ (inner : ℕ → TypeInner) (rows : ℕ → Row) (t : ℕ) (part : List
       judged-same Parts (FirstFit members uniform (suc j)) (alignAfter members uniform (suc j)) (alignAfter members uniform (suc j))
       (uniformAfter minUniform inner rows t part (suc j)) (to, from) refl
       (judged-unsized _ t j (alignAfter members uniform (suc j)) (bit (rows (memberType part j) .flags) sizedBit) _
-      (judged-distance _ minUniform t j (memberOffset part j) (alignAfter members uniform (suc j)) (previousOf inner part j) _ (member-judged uniform k so-far)))
+      (judged-distance _ t j (memberOffset part j) (alignAfter members uniform (suc j)) (previousOf inner part j) _ (member-judged uniform k so-far)))
     where
       Parts : Type 0
       Parts =
           ((FirstFit members uniform j × (Constraints typeOf uniform × (requiredAlignOf typeOf uniform ∣ memberOffset part j)))
-          × DistanceKept minUniform (memberOffset part j) (previousOf inner part j))
+          × DistanceKept (memberOffset part j) (previousOf inner part j))
           × T (bit (rows (memberType part j) .flags) sizedBit)
 
       to : Parts → FirstFit members uniform (suc j)

@@ -116,7 +116,7 @@ stride-agrees element space t stride alignment v aligned agrees =
 -- ---- what is to be proved
 -- HOST_SHAREABLE is set in the row of type t
 abbrev pub Marked : (c : ℕ) (types : ℕ → Decoded) → ℕ → Type 0
-Marked c types t = T (bit (row c types t .flags) hostShareableBit)
+Marked c types t = T (bit (row minUniform c types t .flags) hostShareableBit)
 
 -- host-shareable, and in each struct the members are in order and apart
 abbrev pub Shareable : Placed → Type 0
@@ -124,7 +124,7 @@ Shareable type = HostShareable type × Apart type
 
 -- the verdict of type t in a space is Ok exactly where the constraints hold of the placement, and has then RequiredAlignOf
 abbrev pub Agrees : (c : ℕ) (types : ℕ → Decoded) → Placed → Space → ℕ → Type 0
-Agrees c types type space t = Judged (Constraints type space) (requiredAlignOf type space) (verdictIn (row c types t) space)
+Agrees c types type space t = Judged (Constraints type space) (requiredAlignOf type space) (verdictIn (row minUniform c types t) space)
 
 -- ---- layouts
 module _ (types : ℕ → Decoded) (n : ℕ) (laid : firstRefusal (layoutAt types) n ≡ Accepted) where
@@ -156,14 +156,14 @@ module _ (types : ℕ → Decoded) (n : ℕ) (laid : firstRefusal (layoutAt type
     placed-member (member type offset rest) shareable zero t h is = placed-layout type (shareable .0) t h is .1
     placed-member (member type offset rest) shareable (suc i) t h is = placed-member rest (shareable .1) i t h is
 
-module _ (c : ℕ) (types : ℕ → Decoded) (n : ℕ) (laid : firstRefusal (layoutAt types) n ≡ Accepted) (accepted : firstRefusal (judgedAt c types) n ≡ Accepted) where
+module _ (c : ℕ) (types : ℕ → Decoded) (n : ℕ) (laid : firstRefusal (layoutAt types) n ≡ Accepted) (accepted : firstRefusal (judgedAt minUniform c types) n ≡ Accepted) where
   module _ (t : ℕ) (h : t < n) where
     -- the alignment in the row of a host-shareable type is AlignOf
-    row-align : (type : Placed) → HostShareable type → IsPlaced type types t → row c types t .alignment ≡ alignOf type
+    row-align : (type : Placed) → HostShareable type → IsPlaced type types t → row minUniform c types t .alignment ≡ alignOf type
     row-align type shareable is = row-layout c types n accepted t h .1 ∙ placed-layout types n laid type shareable t h is .1
 
     -- its size is SizeOf
-    row-size : (type : Placed) → HostShareable type → IsPlaced type types t → row c types t .size ≡ sizeOf type
+    row-size : (type : Placed) → HostShareable type → IsPlaced type types t → row minUniform c types t .size ≡ sizeOf type
     row-size type shareable is = row-layout c types n accepted t h .0 ∙ placed-layout types n laid type shareable t h is .0
 
   module _ (t : ℕ) (h : t < n) where
@@ -173,16 +173,16 @@ module _ (c : ℕ) (types : ℕ → Decoded) (n : ℕ) (laid : firstRefusal (lay
     unfolding IsPlaced leafFlags
     plain-marked (scalar s) is =
         let e = leaf-flags c types n accepted t h (leafOf (scalar s)) is in
-        rw (checked-value (checkWidth c (kindOf s) (widthOf s)) (scalarFlags (kindOf s) 255) (row c types t .flags) e) (numeric-marked s)
+        rw (checked-value (checkWidth c (kindOf s) (widthOf s)) (scalarFlags (kindOf s) 255) (row minUniform c types t .flags) e) (numeric-marked s)
     plain-marked (vector d s) is =
         let e = leaf-flags c types n accepted t h (leafOf (vector d s)) is in
-        rw (checked-value (checkWidth c (kindOf s) (widthOf s)) (scalarFlags (kindOf s) 255) (row c types t .flags) e) (numeric-marked s)
+        rw (checked-value (checkWidth c (kindOf s) (widthOf s)) (scalarFlags (kindOf s) 255) (row minUniform c types t .flags) e) (numeric-marked s)
     plain-marked (matrix columns rows f) is =
         let e = leaf-flags c types n accepted t h (leafOf (matrix columns rows f)) is in
-        rw (checked-value (checkWidth c (kindOf (float f)) (widthOf (float f))) (startingFlags matrixKind) (row c types t .flags) e) (λ s. tt, λ m. tt)
+        rw (checked-value (checkWidth c (kindOf (float f)) (widthOf (float f))) (startingFlags matrixKind) (row minUniform c types t .flags) e) (λ s. tt, λ m. tt)
     plain-marked (atomic i) is =
         let e = leaf-flags c types n accepted t h (leafOf (atomic i)) is in
-        rw (checked-value (atomicWidth c (kindOf (integer i)) (widthOf (integer i))) (startingFlags atomicKind) (row c types t .flags) e) (λ s. tt, λ m. tt)
+        rw (checked-value (atomicWidth c (kindOf (integer i)) (widthOf (integer i))) (startingFlags atomicKind) (row minUniform c types t .flags) e) (λ s. tt, λ m. tt)
 
     -- both verdicts of a numeric plain type are Ok
     pub plain-agrees : (p : Plain) → NumericPlain p → IsPlaced (plain p) types t → (space : Space) → Agrees c types (plain p) space t
@@ -199,7 +199,7 @@ module _ (c : ℕ) (types : ℕ → Decoded) (n : ℕ) (laid : firstRefusal (lay
     array-marked element count stride is marked =
         let earlier = array-layout types n laid t h (is .0) count stride (is .1) .1 in
         let f = array-flags c types n accepted t h (is .0) count stride (is .1) earlier in
-        let base = row c types (is .0) .flags in
+        let base = row minUniform c types (is .0) .flags in
         let m = marked (is .0) (omega arith) (is .2) in
         rw (f .1) (λ s. bit-and-both base 247 hostShareableBit (m .0 s) tt, λ t. m .1 (bit-and base 247 hostShareableBit t .0))
 
@@ -210,7 +210,7 @@ module _ (c : ℕ) (types : ℕ → Decoded) (n : ℕ) (laid : firstRefusal (lay
     runtime-array-marked element stride is marked =
         let earlier = runtime-array-layout types n laid t h (is .0) stride (is .1) .1 in
         let f = runtime-array-flags c types n accepted t h (is .0) stride (is .1) earlier in
-        let base = row c types (is .0) .flags in
+        let base = row minUniform c types (is .0) .flags in
         let m = marked (is .0) (omega arith) (is .2) in
         rw (f .1) (λ s. bit-and-both base 149 hostShareableBit (m .0 s) tt, λ t. m .1 (bit-and base 149 hostShareableBit t .0))
 
@@ -222,7 +222,7 @@ module _ (c : ℕ) (types : ℕ → Decoded) (n : ℕ) (laid : firstRefusal (lay
         let earlier = array-layout types n laid t h (is .0) count stride (is .1) .1 in
         let below : is .0 < n = omega arith in
         rw (array-verdict c types n accepted t h (is .0) count stride (is .1) earlier space, required-array element count stride space)
-        (stride-agrees element space t stride (row c types (is .0) .alignment) (verdictIn (row c types (is .0)) space) (row-align (is .0) below element shareable (is .2))
+        (stride-agrees element space t stride (row minUniform c types (is .0) .alignment) (verdictIn (row minUniform c types (is .0)) space) (row-align (is .0) below element shareable (is .2))
         (agrees (is .0) below (is .2)))
 
     -- so does a runtime-sized array
@@ -233,31 +233,31 @@ module _ (c : ℕ) (types : ℕ → Decoded) (n : ℕ) (laid : firstRefusal (lay
         let earlier = runtime-array-layout types n laid t h (is .0) stride (is .1) .1 in
         let below : is .0 < n = omega arith in
         rw (runtime-array-verdict c types n accepted t h (is .0) stride (is .1) earlier space, required-runtime-array element stride space)
-        (stride-agrees element space t stride (row c types (is .0) .alignment) (verdictIn (row c types (is .0)) space) (row-align (is .0) below element shareable (is .2))
+        (stride-agrees element space t stride (row minUniform c types (is .0) .alignment) (verdictIn (row minUniform c types (is .0)) space) (row-align (is .0) below element shareable (is .2))
         (agrees (is .0) below (is .2)))
 
   -- ---- sized members
   module _ (t : ℕ) (h : t < n) where
     -- what is no array is sized where it is a member
     plain-sized : (inner : TypeInner) → types t .inner ≡ inner → isArray inner ≡ false → (final : Bool)
-        → SizedOrLast (bit (row c types t .flags) sizedBit) (isArray (types t .inner)) final → T (bit (row c types t .flags) sizedBit) ↔ Unit {0}
+        → SizedOrLast (bit (row minUniform c types t .flags) sizedBit) (isArray (types t .inner)) final → T (bit (row minUniform c types t .flags) sizedBit) ↔ Unit {0}
     plain-sized inner e no-array final placed =
-        (λ s. tt, λ u. sized-alone (bit (row c types t .flags) sizedBit) final (rw (e, no-array) at placed))
+        (λ s. tt, λ u. sized-alone (bit (row minUniform c types t .flags) sizedBit) final (rw (e, no-array) at placed))
 
     -- a member is sized exactly where it is no runtime-sized array
     sized-same : (type : Placed) → IsPlaced type types t → (final : Bool)
-        → SizedOrLast (bit (row c types t .flags) sizedBit) (isArray (types t .inner)) final → T (bit (row c types t .flags) sizedBit) ↔ FixedSize type
+        → SizedOrLast (bit (row minUniform c types t .flags) sizedBit) (isArray (types t .inner)) final → T (bit (row minUniform c types t .flags) sizedBit) ↔ FixedSize type
     unfolding IsPlaced
     sized-same (plain p) is final placed = plain-sized (PlainRecord (leafOf p)) is refl final placed
     sized-same (array element count stride) is final placed =
         let earlier = array-layout types n laid t h (is .0) count stride (is .1) .1 in
         let f = array-flags c types n accepted t h (is .0) count stride (is .1) earlier in
-        let base = row c types (is .0) .flags in
+        let base = row minUniform c types (is .0) .flags in
         rw (f .1) (λ s. tt, λ u. bit-and-both base 247 sizedBit (base-sized base (f .0)) tt)
     sized-same (runtimeArray element stride) is final placed =
         let earlier = runtime-array-layout types n laid t h (is .0) stride (is .1) .1 in
         let f = runtime-array-flags c types n accepted t h (is .0) stride (is .1) earlier in
-        rw (f .1) (λ s. bit-and (row c types (is .0) .flags) 149 sizedBit s .1, λ u. absurd u)
+        rw (f .1) (λ s. bit-and (row minUniform c types (is .0) .flags) 149 sizedBit s .1, λ u. absurd u)
     sized-same (struct members span) is final placed = plain-sized (Struct (memberTotal members) span) (is .0) refl final placed
 
   -- ---- structs
@@ -286,7 +286,7 @@ module _ (c : ℕ) (types : ℕ → Decoded) (n : ℕ) (laid : firstRefusal (lay
         (struct-layout types n laid t h (memberTotal members) span (is .0) .1)
 
     -- its row is the one that was read
-    member-row : (i : ℕ) → i < memberTotal members → rowsBefore (typeAt i) ≡ row c types (typeAt i)
+    member-row : (i : ℕ) → i < memberTotal members → rowsBefore (typeAt i) ≡ row minUniform c types (typeAt i)
     member-row i l = earlier-row c types n accepted t h (typeAt i) (member-earlier i l)
 
     -- it is the type of member i of the tree
@@ -355,7 +355,7 @@ module _ (c : ℕ) (types : ℕ → Decoded) (n : ℕ) (laid : firstRefusal (lay
 
     -- the distance from the member right before is the standard's
     member-distance : MembersApart members → (i : ℕ) → i < memberTotal members
-        → DistanceKept minUniform (memberOffset part i) (previousOf innerAt part i) ↔ NextDistance members i
+        → DistanceKept (memberOffset part i) (previousOf innerAt part i) ↔ NextDistance members i
     unfolding previousOf
     member-distance apart zero l = (λ d. tt, λ d. tt)
     member-distance apart (suc i) l =

@@ -18,6 +18,8 @@ use Rattle.records.proofs.ResultLaws.{and-left}
 use Rattle.layouter.specs.Layouter.{layoutAt, layout}
 use Rattle.layouter.proofs.LayoutAccepted.{array-layout, runtime-array-layout, struct-layout}
 use Rattle.flags.specs.Flags.{bit, dataBit, sizedBit, creationResolvedBit, isSizedData}
+use Rattle.type_info.specs.declared.UniformRule.{UniformRule}
+use Rattle.type_info.specs.Verdict.{minUniform, leastFor}
 use Rattle.valid.specs.Arena.{judgedAt, row, arena}
 use Rattle.term3.specs.Term3.{Reached, itself, element, runtimeElement, member}
 use Rattle.w3c.specs.Plain.{Plain, leafOf}
@@ -25,7 +27,7 @@ use Rattle.w3c.specs.Placed.{Placed, plain, array, runtimeArray, struct,
 use Rattle.w3c.proofs.BoundsLaws.{data-each}
 use Rattle.w3c.proofs.RowLaws.{innerIn, rowsUntil, row-data, earlier-row, array-flags, runtime-array-flags, struct-bounds, struct-some}
 use Rattle.w3c.proofs.PlacedStructLaws.{members-earlier}
-use Rattle.w3c.proofs.PlacedAgreement.{arena-parts}
+use Rattle.w3c.proofs.PlacedAgreement.{older-flags, arena-parts}
 
 -- record t is some placed type
 abbrev pub Readable : (types : ℕ → Decoded) → ℕ → Type 0
@@ -75,14 +77,14 @@ read-members types (suc m) g o each =
     are-more type this members rest (suc i) h = rest i (omega arith)
 
 -- ---- the induction
-module _ (c : ℕ) (types : ℕ → Decoded) (n : ℕ) (laid : firstRefusal (layoutAt types) n ≡ Accepted) (accepted : firstRefusal (judgedAt c types) n ≡ Accepted) where
+module _ (c : ℕ) (types : ℕ → Decoded) (n : ℕ) (laid : firstRefusal (layoutAt types) n ≡ Accepted) (accepted : firstRefusal (judgedAt minUniform c types) n ≡ Accepted) where
   -- sized data is data
   data-of : (flags : ℕ) → T (isSizedData flags) → T (bit flags dataBit)
   data-of flags t = and-left (bit flags dataBit) (bit flags sizedBit) (and-left (bit flags dataBit && bit flags sizedBit) (bit flags creationResolvedBit) t)
 
   -- a record is read by what it says, where the earlier ones of data are
   module _ (t : ℕ) (h : t < n) (plains : PlainOnly types t)
-      (earlier : (k : ℕ) → k < t → PlainOnly types k → T (bit (row c types k .flags) dataBit) → Readable types k) where
+      (earlier : (k : ℕ) → k < t → PlainOnly types k → T (bit (row minUniform c types k .flags) dataBit) → Readable types k) where
     -- a struct of m + 1 members
     read-struct : (m span : ℕ) → types t .inner ≡ Struct (suc m) span → Readable types t
     unfolding IsPlaced
@@ -96,32 +98,32 @@ module _ (c : ℕ) (types : ℕ → Decoded) (n : ℕ) (laid : firstRefusal (lay
         (struct (r .members) span, rw (r .total) (e, r .offsets, r .are))
 
     -- any record of data
-    read-by : (inner : TypeInner) → types t .inner ≡ inner → T (bit (row c types t .flags) dataBit) → Readable types t
+    read-by : (inner : TypeInner) → types t .inner ≡ inner → T (bit (row minUniform c types t .flags) dataBit) → Readable types t
     unfolding IsPlaced
     read-by (PlainRecord leaf) e d = let p = plains t itself leaf e in (plain (p .0), rw (← p .1) e)
     read-by (Array base count stride) e d =
         let l = array-layout types n laid t h base count stride e .1 in
-        let r = earlier base l (λ k r. plains k (element e r)) (data-of (row c types base .flags) (array-flags c types n accepted t h base count stride e l .0)) in
+        let r = earlier base l (λ k r. plains k (element e r)) (data-of (row minUniform c types base .flags) (array-flags c types n accepted t h base count stride e l .0)) in
         (array (r .0) count stride, (base, e, r .1))
     read-by (RuntimeArray base stride) e d =
         let l = runtime-array-layout types n laid t h base stride e .1 in
-        let r = earlier base l (λ k r. plains k (runtimeElement e r)) (data-of (row c types base .flags) (runtime-array-flags c types n accepted t h base stride e l .0)) in
+        let r = earlier base l (λ k r. plains k (runtimeElement e r)) (data-of (row minUniform c types base .flags) (runtime-array-flags c types n accepted t h base stride e l .0)) in
         (runtimeArray (r .0) stride, (base, e, r .1))
     read-by (Struct zero span) e d = absurd (not-suc-le-zero (struct-some c types n accepted t h zero span e))
     read-by (Struct (suc m) span) e d = read-struct m span e
     read-by (Other o) e d = let f : ⊥ = rw (row-data c types n accepted t h (Other o) e) at d in absurd f
 
   -- all records of data below some number
-  read-below : (bound t : ℕ) → t < bound → t < n → PlainOnly types t → T (bit (row c types t .flags) dataBit) → Readable types t
+  read-below : (bound t : ℕ) → t < bound → t < n → PlainOnly types t → T (bit (row minUniform c types t .flags) dataBit) → Readable types t
   read-below zero t l h plains d = absurd (not-suc-le-zero l)
   read-below (suc bound) t l h plains d = read-by t h plains (λ k m. read-below bound k (omega arith) (omega arith)) (types t .inner) refl d
 
 -- in an accepted arena each record of data that reaches WGSL's plain records alone is a placed type
-pub placed-read : (c : ℕ) (ts ms : List ℕ) → arena c ts ms ≡ Accepted → (t : ℕ) → t < typeCount ts → PlainOnly (decoded ts ms) t
-    → T (bit (row c (decoded ts ms) t .flags) dataBit) → Readable (decoded ts ms) t
-placed-read c ts ms accepted t h plains d =
+pub placed-read : (rule : UniformRule) (c : ℕ) (ts ms : List ℕ) → arena c ts ms ≡ Accepted → (t : ℕ) → t < typeCount ts → PlainOnly (decoded ts ms) t
+    → T (bit (row (leastFor rule) c (decoded ts ms) t .flags) dataBit) → Readable (decoded ts ms) t
+placed-read rule c ts ms accepted t h plains d =
     let p = arena-parts c ts ms accepted in
-    read-below c (decoded ts ms) (typeCount ts) (p .0) (p .1) (suc t) t (omega arith) h plains d
+    read-below c (decoded ts ms) (typeCount ts) (p .0) (p .1) (suc t) t (omega arith) h plains (rw (older-flags rule c ts ms t) at d)
 
 -- ---- the other way round
 -- member i of a struct is a placed type

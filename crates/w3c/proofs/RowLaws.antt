@@ -1,4 +1,4 @@
--- The rows of an accepted arena, by what the record says: flags, and the verdicts of both address spaces.
+-- The rows of an accepted arena by the older uniform rule, by what the record says: flags, and the verdicts of both address spaces.
 -- Assumes nothing.
 use mathlib.Core.Path.{_≡_, refl, sym, _∙_, ap}
 use mathlib.Core.List.{List}
@@ -48,9 +48,9 @@ innerIn types k = types k .inner
 
 -- the rows of the types before type t
 abbrev pub rowsUntil : (c : ℕ) (types : ℕ → Decoded) (t : ℕ) → ℕ → Row
-rowsUntil c types t = table emptyRow (judgeStep c types) t
+rowsUntil c types t = table emptyRow (judgeStep minUniform c types) t
 
-module _ (c : ℕ) (types : ℕ → Decoded) (n : ℕ) (accepted : firstRefusal (judgedAt c types) n ≡ Accepted) (t : ℕ) (h : t < n) where
+module _ (c : ℕ) (types : ℕ → Decoded) (n : ℕ) (accepted : firstRefusal (judgedAt minUniform c types) n ≡ Accepted) (t : ℕ) (h : t < n) where
   -- both, of this arena and type
   abbrev innerAt : ℕ → TypeInner
   innerAt = innerIn types
@@ -59,11 +59,11 @@ module _ (c : ℕ) (types : ℕ → Decoded) (n : ℕ) (accepted : firstRefusal 
   rowsBefore = rowsUntil c types t
 
   -- the row of type t is made from the rows of the types before it
-  judged-step : judgeStep c types rowsBefore t ≡ ok (row c types t)
+  judged-step : judgeStep minUniform c types rowsBefore t ≡ ok (row minUniform c types t)
   unfolding resultAt
   judged-step =
-      let a = all-ok (judgedAt c types) n accepted t h in
-      a .1 ∙ ap ok (sym (value-ok emptyRow (judgeStep c types) t (a .0) (a .1)))
+      let a = all-ok (judgedAt minUniform c types) n accepted t h in
+      a .1 ∙ ap ok (sym (value-ok emptyRow (judgeStep minUniform c types) t (a .0) (a .1)))
 
   -- the row with these flags, where the record says `inner`
   abbrev rowWith : TypeInner → ℕ → Row
@@ -71,61 +71,61 @@ module _ (c : ℕ) (types : ℕ → Decoded) (n : ℕ) (accepted : firstRefusal 
 
   -- its flags, and itself by its flags
   row-parts : (inner : TypeInner) → types t .inner ≡ inner
-      → (flagsOf c innerAt rowsBefore inner (types t .members) ≡ ok (row c types t .flags)) × (row c types t ≡ rowWith inner (row c types t .flags))
+      → (flagsOf c innerAt rowsBefore inner (types t .members) ≡ ok (row minUniform c types t .flags)) × (row minUniform c types t ≡ rowWith inner (row minUniform c types t .flags))
   unfolding judge rowOf
   row-parts inner e =
-      let s = and-then-ok (flagsOf c innerAt rowsBefore inner (types t .members)) (λ flags. ok (rowWith inner flags)) (row c types t) (rw e at judged-step) in
+      let s = and-then-ok (flagsOf c innerAt rowsBefore inner (types t .members)) (λ flags. ok (rowWith inner flags)) (row minUniform c types t) (rw e at judged-step) in
       let q = ok-inj (s .2) in
-      let f : s .0 ≡ row c types t .flags = ap (λ (r : Row). r .flags) q in
+      let f : s .0 ≡ row minUniform c types t .flags = ap (λ (r : Row). r .flags) q in
       (s .1 ∙ ap ok f, sym q ∙ ap (rowWith inner) f)
 
   -- its size and alignment are those of the layout
-  pub row-layout : (row c types t .size ≡ layout types t .size) × (row c types t .alignment ≡ layout types t .alignment)
+  pub row-layout : (row minUniform c types t .size ≡ layout types t .size) × (row minUniform c types t .alignment ≡ layout types t .alignment)
   unfolding rowOf
   row-layout =
       let p = row-parts (types t .inner) refl .1 in
       (ap (λ (r : Row). r .size) p, ap (λ (r : Row). r .alignment) p)
 
   -- DATA is set exactly in the rows of what is data
-  pub row-data : (inner : TypeInner) → types t .inner ≡ inner → bit (row c types t .flags) dataBit ≡ isDataInner inner
-  row-data inner e = flags-data c innerAt rowsBefore inner (types t .members) (row c types t .flags) (row-parts inner e .0)
+  pub row-data : (inner : TypeInner) → types t .inner ≡ inner → bit (row minUniform c types t .flags) dataBit ≡ isDataInner inner
+  row-data inner e = flags-data c innerAt rowsBefore inner (types t .members) (row minUniform c types t .flags) (row-parts inner e .0)
 
   -- ---- a leaf
   -- the flags of a leaf
-  pub leaf-flags : (leaf : Leaf) → types t .inner ≡ Plain leaf → leafFlags c leaf ≡ ok (row c types t .flags)
+  pub leaf-flags : (leaf : Leaf) → types t .inner ≡ Plain leaf → leafFlags c leaf ≡ ok (row minUniform c types t .flags)
   unfolding flagsOf
   leaf-flags leaf e = row-parts (Plain leaf) e .0
 
   -- both verdicts of a leaf are Ok
-  pub leaf-verdict : (leaf : Leaf) → types t .inner ≡ Plain leaf → (space : Space) → verdictIn (row c types t) space ≡ okVerdict (leafVerdictAlignment leaf)
+  pub leaf-verdict : (leaf : Leaf) → types t .inner ≡ Plain leaf → (space : Space) → verdictIn (row minUniform c types t) space ≡ okVerdict (leafVerdictAlignment leaf)
   unfolding rowOf uniformOf storageOf
   leaf-verdict leaf e storage = ap (λ (r : Row). r .storage) (row-parts (Plain leaf) e .1)
   leaf-verdict leaf e uniform = ap (λ (r : Row). r .uniform) (row-parts (Plain leaf) e .1)
 
   -- ---- arrays
   -- the row of an earlier type is among those before type t
-  pub earlier-row : (k : ℕ) → k < t → rowsBefore k ≡ row c types k
-  earlier-row k l = table-value emptyRow (judgeStep c types) t k l
+  pub earlier-row : (k : ℕ) → k < t → rowsBefore k ≡ row minUniform c types k
+  earlier-row k l = table-value emptyRow (judgeStep minUniform c types) t k l
 
   -- the base of an array is data, sized and resolved; the array has the base's flags of its kind
   pub array-flags : (base count stride : ℕ) → types t .inner ≡ Array base count stride → base < t
-      → T (isSizedData (row c types base .flags)) × (row c types t .flags ≡ arrayFlags (row c types base .flags))
+      → T (isSizedData (row minUniform c types base .flags)) × (row minUniform c types t .flags ≡ arrayFlags (row minUniform c types base .flags))
   unfolding flagsOf
   array-flags base count stride e l =
-      let r = required (isSizedData (rowsBefore base .flags)) 15 0 0 (ok (arrayFlags (rowsBefore base .flags))) (row c types t .flags) (row-parts (Array base count stride) e .0) in
+      let r = required (isSizedData (rowsBefore base .flags)) 15 0 0 (ok (arrayFlags (rowsBefore base .flags))) (row minUniform c types t .flags) (row-parts (Array base count stride) e .0) in
       (rw (earlier-row base l) at (r .0), rw (earlier-row base l) at (sym (ok-inj (r .1))))
 
   -- so it is of a runtime-sized array
   pub runtime-array-flags : (base stride : ℕ) → types t .inner ≡ RuntimeArray base stride → base < t
-      → T (isSizedData (row c types base .flags)) × (row c types t .flags ≡ runtimeArrayFlags (row c types base .flags))
+      → T (isSizedData (row minUniform c types base .flags)) × (row minUniform c types t .flags ≡ runtimeArrayFlags (row minUniform c types base .flags))
   unfolding flagsOf
   runtime-array-flags base stride e l =
-      let r = required (isSizedData (rowsBefore base .flags)) 15 0 0 (ok (runtimeArrayFlags (rowsBefore base .flags))) (row c types t .flags) (row-parts (RuntimeArray base stride) e .0) in
+      let r = required (isSizedData (rowsBefore base .flags)) 15 0 0 (ok (runtimeArrayFlags (rowsBefore base .flags))) (row minUniform c types t .flags) (row-parts (RuntimeArray base stride) e .0) in
       (rw (earlier-row base l) at (r .0), rw (earlier-row base l) at (sym (ok-inj (r .1))))
 
   -- the verdicts of an array, from the element's
   pub array-verdict : (base count stride : ℕ) → types t .inner ≡ Array base count stride → base < t → (space : Space)
-      → verdictIn (row c types t) space ≡ arrayVerdict (leastIn space) t stride (row c types base .alignment) (verdictIn (row c types base) space)
+      → verdictIn (row minUniform c types t) space ≡ arrayVerdict (leastIn space) t stride (row minUniform c types base .alignment) (verdictIn (row minUniform c types base) space)
   unfolding rowOf uniformOf storageOf
   array-verdict base count stride e l storage =
       ap (λ (r : Row). r .storage) (row-parts (Array base count stride) e .1)
@@ -136,7 +136,7 @@ module _ (c : ℕ) (types : ℕ → Decoded) (n : ℕ) (accepted : firstRefusal 
 
   -- and so those of a runtime-sized array
   pub runtime-array-verdict : (base stride : ℕ) → types t .inner ≡ RuntimeArray base stride → base < t → (space : Space)
-      → verdictIn (row c types t) space ≡ arrayVerdict (leastIn space) t stride (row c types base .alignment) (verdictIn (row c types base) space)
+      → verdictIn (row minUniform c types t) space ≡ arrayVerdict (leastIn space) t stride (row minUniform c types base .alignment) (verdictIn (row minUniform c types base) space)
   unfolding rowOf uniformOf storageOf
   runtime-array-verdict base stride e l storage =
       ap (λ (r : Row). r .storage) (row-parts (RuntimeArray base stride) e .1)
@@ -148,20 +148,20 @@ module _ (c : ℕ) (types : ℕ → Decoded) (n : ℕ) (accepted : firstRefusal 
   -- ---- structs
   -- a struct is HOST_SHAREABLE where it is so after its members
   pub struct-bounds : (count span : ℕ) → types t .inner ≡ Struct count span
-      → (b : Bounds) × (boundsAfter innerAt rowsBefore count span (types t .members) count ≡ ok b) × (bit (row c types t .flags) hostShareableBit ≡ bit (b .flags) hostShareableBit)
+      → (b : Bounds) × (boundsAfter innerAt rowsBefore count span (types t .members) count ≡ ok b) × (bit (row minUniform c types t .flags) hostShareableBit ≡ bit (b .flags) hostShareableBit)
   struct-bounds count span e =
-      let s = struct-flags c innerAt rowsBefore count span (types t .members) (row c types t .flags) (row-parts (Struct count span) e .0) in
-      (s .after, s .accepted, blend-bit innerAt rowsBefore (types t .members) count (s .after .flags) (row c types t .flags) (s .blend) hostShareableBit refl)
+      let s = struct-flags c innerAt rowsBefore count span (types t .members) (row minUniform c types t .flags) (row-parts (Struct count span) e .0) in
+      (s .after, s .accepted, blend-bit innerAt rowsBefore (types t .members) count (s .after .flags) (row minUniform c types t .flags) (s .blend) hostShareableBit refl)
 
   -- it has a member
   pub struct-some : (count span : ℕ) → types t .inner ≡ Struct count span → 0 < count
   struct-some count span e =
-      let s = struct-flags c innerAt rowsBefore count span (types t .members) (row c types t .flags) (row-parts (Struct count span) e .0) in
+      let s = struct-flags c innerAt rowsBefore count span (types t .members) (row minUniform c types t .flags) (row-parts (Struct count span) e .0) in
       ltb-true 0 count (T-true (ltb 0 count) (s .nonempty))
 
   -- and so are its verdicts, under the span rule
   pub struct-verdict : (count span : ℕ) → types t .inner ≡ Struct count span → (space : Space)
-      → verdictIn (row c types t) space ≡ spanVerdict t span (layout types t .alignment) (afterIn innerAt rowsBefore t (types t .members) count space)
+      → verdictIn (row minUniform c types t) space ≡ spanVerdict t span (layout types t .alignment) (afterIn innerAt rowsBefore t (types t .members) count space)
   unfolding rowOf uniformOf storageOf
   struct-verdict count span e storage = ap (λ (r : Row). r .storage) (row-parts (Struct count span) e .1)
   struct-verdict count span e uniform = ap (λ (r : Row). r .uniform) (row-parts (Struct count span) e .1)

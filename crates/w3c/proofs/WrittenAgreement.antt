@@ -9,7 +9,8 @@ use lib.Dec.{T}
 use Rattle.records.specs.Record.{decoded, typeCount}
 use Rattle.records.specs.declared.Outcome.the-variants.{Accepted}
 use Rattle.flags.specs.Flags.{bit, hostShareableBit}
-use Rattle.type_info.specs.Verdict.{isOk}
+use Rattle.type_info.specs.declared.UniformRule.{UniformRule}
+use Rattle.type_info.specs.Verdict.{leastFor, isOk}
 use Rattle.valid.specs.Arena.{row, arena}
 use Rattle.w3c.specs.Wgsl.{WgslType, WellFormed}
 use Rattle.w3c.specs.Placed.{Placed, IsPlaced}
@@ -19,16 +20,16 @@ use Rattle.w3c.proofs.PlacedAgreement.{arena-parts, reaches, host-share
 use Rattle.w3c.proofs.WrittenLaws.{placement-written, formed-written}
 use Rattle.w3c.proofs.ConstraintAgreement.{host-shareable-agreement, storage-ok}
 
--- in an accepted arena
-pub storage-means : (c : ℕ) (ts ms : List ℕ) → arena c ts ms ≡ Accepted → (type : Placed) (t : ℕ) → t < typeCount ts → IsPlaced type (decoded ts ms) t
-    → T (bit (row c (decoded ts ms) t .flags) hostShareableBit) → Standard type
-    → T (isOk (row c (decoded ts ms) t .storage)) ↔ ((w : WgslType) × WellFormed w × IsType w (decoded ts ms) t)
-storage-means c ts ms accepted type t h is set standard = (
+-- in an accepted arena, by either uniform rule
+pub storage-means : (rule : UniformRule) (c : ℕ) (ts ms : List ℕ) → arena c ts ms ≡ Accepted → (type : Placed) (t : ℕ) → t < typeCount ts → IsPlaced type (decoded ts ms) t
+    → T (bit (row (leastFor rule) c (decoded ts ms) t .flags) hostShareableBit) → Standard type
+    → T (isOk (row (leastFor rule) c (decoded ts ms) t .storage)) ↔ ((w : WgslType) × WellFormed w × IsType w (decoded ts ms) t)
+storage-means rule c ts ms accepted type t h is set standard = (
   λ ok.
       let p = arena-parts c ts ms accepted in
-      let s = host-shareable-placed c ts ms accepted type t h is .1 set in
-      let fits = storage-placed c ts ms accepted type t h is set .0 .1 ok in
+      let s = host-shareable-placed c ts ms accepted type t h is rule .1 set in
+      let fits = storage-placed c ts ms accepted type t h is rule set .0 .1 ok in
       let reach = reaches c (decoded ts ms) (typeCount ts) (p .0) (p .1) type (s .0) t h is in
       (written type, formed-written type fits (s .1) reach standard, rw (placement-written type fits (s .1) reach standard) is),
-  λ w. storage-ok c ts ms accepted (w .0) (w .1) t h (w .2) (host-shareable-agreement c ts ms accepted (w .0) (w .1) t h (w .2) .1 set),
+  λ w. storage-ok c ts ms accepted (w .0) (w .1) t h (w .2) rule (host-shareable-agreement c ts ms accepted (w .0) (w .1) t h (w .2) rule .1 set),
 )

@@ -11,7 +11,8 @@ use Rattle.records.specs.declared.Outcome.the-variants.{Accepted}
 use Rattle.records.specs.declared.TypeInner.{TypeInner}
 use Rattle.type_flags.specs.TypeFlags.{isStruct}
 use Rattle.flags.specs.Flags.{bit, hostShareableBit}
-use Rattle.type_info.specs.Verdict.{okVerdict}
+use Rattle.type_info.specs.declared.UniformRule.the-variants.{Older}
+use Rattle.type_info.specs.Verdict.{leastFor, okVerdict}
 use Rattle.valid.specs.Arena.{row, arena}
 use Rattle.w3c.specs.Plain.{float, f32, three, scalar, vector}
 use Rattle.w3c.specs.Wgsl.{WgslType, plain, array, runtimeArray, struct, last, member, sizeOf, WellFormed}
@@ -37,7 +38,7 @@ close-written = refl
 -- by the theorem record 7 is a WGSL type, as its storage verdict is Ok
 close-type : (w : WgslType) × WellFormed w × IsType w sheet 7
 unfolding check
-close-type = storage-means 0 sheetTypes sheetRows sheet-accepted (placed.struct closeMembers 8) 7 (omega arith) close-is (close-row .0) close-standard .0 tt
+close-type = storage-means Older 0 sheetTypes sheetRows sheet-accepted (placed.struct closeMembers 8) 7 (omega arith) close-is (close-row .0) close-standard .0 tt
 
 -- ---- a: array<vec3<f32>> at 0, of span 16: a runtime-sized last member has no @size
 tail-standard : Standard (placed.struct tailMembers 16)
@@ -50,7 +51,7 @@ tail-written = refl
 
 tail-type : (w : WgslType) × WellFormed w × IsType w sheet 10
 unfolding check
-tail-type = storage-means 0 sheetTypes sheetRows sheet-accepted (placed.struct tailMembers 16) 10 (omega arith) tail-is (tail-row .0) tail-standard .0 tt
+tail-type = storage-means Older 0 sheetTypes sheetRows sheet-accepted (placed.struct tailMembers 16) 10 (omega arith) tail-is (tail-row .0) tail-standard .0 tt
 
 -- ---- a struct whose first member stands at 16: the storage verdict is Ok, and no WGSL type is placed so
 loose-ok : sheetRow 12 .storage ≡ okVerdict 16
@@ -73,8 +74,8 @@ near-size = (refl, refl)
 
 -- array<f32, 2> of stride 0: below SizeOf, which is 8, with HOST_SHAREABLE and a storage verdict that is Ok
 flat-size : (arena 0 (0 ∷ 2 ∷ 4 ∷ 0 ∷ 0 ∷ 0 ∷ 7 ∷ 0 ∷ 0 ∷ 2 ∷ 0 ∷ 0 ∷ []) [] ≡ Accepted)
-    × T (bit (row 0 (decoded (0 ∷ 2 ∷ 4 ∷ 0 ∷ 0 ∷ 0 ∷ 7 ∷ 0 ∷ 0 ∷ 2 ∷ 0 ∷ 0 ∷ []) []) 1 .flags) hostShareableBit)
-    × (row 0 (decoded (0 ∷ 2 ∷ 4 ∷ 0 ∷ 0 ∷ 0 ∷ 7 ∷ 0 ∷ 0 ∷ 2 ∷ 0 ∷ 0 ∷ []) []) 1 .storage ≡ okVerdict 4)
-    × (row 0 (decoded (0 ∷ 2 ∷ 4 ∷ 0 ∷ 0 ∷ 0 ∷ 7 ∷ 0 ∷ 0 ∷ 2 ∷ 0 ∷ 0 ∷ []) []) 1 .size ≡ 0) × (sizeOf (bare (placed.array number 2 0)) ≡ 8)
+    × T (bit (row (leastFor Older) 0 (decoded (0 ∷ 2 ∷ 4 ∷ 0 ∷ 0 ∷ 0 ∷ 7 ∷ 0 ∷ 0 ∷ 2 ∷ 0 ∷ 0 ∷ []) []) 1 .flags) hostShareableBit)
+    × (row (leastFor Older) 0 (decoded (0 ∷ 2 ∷ 4 ∷ 0 ∷ 0 ∷ 0 ∷ 7 ∷ 0 ∷ 0 ∷ 2 ∷ 0 ∷ 0 ∷ []) []) 1 .storage ≡ okVerdict 4)
+    × (row (leastFor Older) 0 (decoded (0 ∷ 2 ∷ 4 ∷ 0 ∷ 0 ∷ 0 ∷ 7 ∷ 0 ∷ 0 ∷ 2 ∷ 0 ∷ 0 ∷ []) []) 1 .size ≡ 0) × (sizeOf (bare (placed.array number 2 0)) ≡ 8)
 unfolding check measure bare
 flat-size = (refl, tt, refl, refl, refl)

@@ -7,7 +7,7 @@
 //! Before it fills the buffer it looks at the storage verdict: an accepted type may be one that no storage buffer can hold.
 
 use std::ops::Range;
-use wuldazin::{flags, form, kind, scalar, verdict, Refusal, Row};
+use wuldazin::{flags, form, kind, scalar, verdict, Refusal, Row, UniformRule};
 
 const F32: u32 = 0;
 const VEC3: u32 = 1;
@@ -42,7 +42,15 @@ const FLAGS: [usize; 3] = [12, 28, 44];
 /// The bytes of the leaf that steps lead to: of a matrix a column, rows times width; of another type its size.
 fn bytes(steps: &[u32]) -> Result<Range<usize>, Refusal> {
     let mut rows = [0; 8 * wuldazin::ROW_WORDS];
-    let place = wuldazin::place(&TYPES, &MEMBERS, 0, &mut rows, KERNEL, steps)?;
+    let place = wuldazin::place(
+        &TYPES,
+        &MEMBERS,
+        0,
+        UniformRule::Older,
+        &mut rows,
+        KERNEL,
+        steps,
+    )?;
     let record = &TYPES[place.leaf as usize * wuldazin::TYPE_WORDS..];
     let size = match record[0] {
         kind::MATRIX => record[2] * record[4],
@@ -100,7 +108,13 @@ fn storage_alignment(row: Row) -> Option<u32> {
 /// The moisture first and the temperature right after it, at byte 4: accepted, and nothing is filled.
 fn accepted_and_not_usable() -> Result<(), Refusal> {
     let mut rows = [0; 3 * wuldazin::ROW_WORDS];
-    wuldazin::judge(&TYPES[..18], &[F32, 0, 0, 0, VEC3, 4, 0, 0], 0, &mut rows)?;
+    wuldazin::judge(
+        &TYPES[..18],
+        &[F32, 0, 0, 0, VEC3, 4, 0, 0],
+        0,
+        UniformRule::Older,
+        &mut rows,
+    )?;
     let cell = Row::of(&rows, CELL).unwrap();
     assert_eq!(storage_alignment(cell), None);
     assert_eq!(cell.storage().code, verdict::MEMBER_OFFSET);
@@ -110,7 +124,7 @@ fn accepted_and_not_usable() -> Result<(), Refusal> {
 
 fn main() -> Result<(), Refusal> {
     let mut rows = [0; 8 * wuldazin::ROW_WORDS];
-    wuldazin::judge(&TYPES, &MEMBERS, 0, &mut rows)?;
+    wuldazin::judge(&TYPES, &MEMBERS, 0, UniformRule::Older, &mut rows)?;
     let kernel = Row::of(&rows, KERNEL).unwrap();
     assert_eq!(storage_alignment(kernel), Some(16));
     assert_eq!(

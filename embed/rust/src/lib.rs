@@ -104,6 +104,17 @@ pub mod capabilities {
     pub const ALL: u32 = 16383;
 }
 
+/// The rule by which uniform verdicts are worked out. Answers, and everything in a row but its uniform verdict, are the same
+/// under both.
+#[derive(Clone, Copy, Debug, PartialEq, Eq)]
+pub enum UniformRule {
+    /// naga 30.0.1's: arrays and structs are aligned to 16.
+    Older = 0,
+    /// WGSL's uniform_buffer_standard_layout: by the storage rules. A struct with a runtime-sized member has no uniform
+    /// verdict under either.
+    Newer = 1,
+}
+
 /// A leaf: its first byte and its type, of a column the matrix's.
 #[derive(Clone, Copy, Debug, PartialEq, Eq)]
 pub struct Place {
@@ -159,13 +170,14 @@ pub fn layout(types: &[u32], members: &[u32], rows: &mut [u32]) -> Result<(), Re
 /// Accepted does not mean usable in an address space: before a buffer is filled, look at [`Row::storage`] or [`Row::uniform`]
 /// of its type.
 ///
-/// `rows` may hold anything, laid out or not: the result and the rows depend on the tables, the capability word and the
-/// length of `rows` alone. Where the capability word is in order, what [`layout`] refuses is refused alike. So this is the
+/// `rows` may hold anything, laid out or not: the result and the rows depend on the tables, the capability word, the rule
+/// and the length of `rows` alone. Where the capability word is in order, what [`layout`] refuses is refused alike. So this is the
 /// whole check, and the fastest one: a host that has no use for laid-out rows calls it and nothing else.
 pub fn judge(
     types: &[u32],
     members: &[u32],
     capabilities: u32,
+    rule: UniformRule,
     rows: &mut [u32],
 ) -> Result<(), Refusal> {
     let mut answer = [0; 4];
@@ -177,6 +189,7 @@ pub fn judge(
             members.as_ptr(),
             members.len(),
             capabilities,
+            rule as u32,
             rows.as_mut_ptr(),
             rows.len(),
             answer.as_mut_ptr(),
@@ -192,6 +205,7 @@ pub fn check(
     types: &[u32],
     members: &[u32],
     capabilities: u32,
+    rule: UniformRule,
     rows: &mut [u32],
 ) -> Result<(), Refusal> {
     let mut answer = [0; 4];
@@ -203,6 +217,7 @@ pub fn check(
             members.as_ptr(),
             members.len(),
             capabilities,
+            rule as u32,
             rows.as_mut_ptr(),
             rows.len(),
             answer.as_mut_ptr(),
@@ -242,6 +257,7 @@ pub fn slots(
     types: &[u32],
     members: &[u32],
     capabilities: u32,
+    rule: UniformRule,
     rows: &mut [u32],
     ty: u32,
     offset: u32,
@@ -255,6 +271,7 @@ pub fn slots(
             members.as_ptr(),
             members.len(),
             capabilities,
+            rule as u32,
             rows.as_mut_ptr(),
             rows.len(),
             ty,
@@ -297,6 +314,7 @@ pub fn place(
     types: &[u32],
     members: &[u32],
     capabilities: u32,
+    rule: UniformRule,
     rows: &mut [u32],
     start: u32,
     steps: &[u32],
@@ -310,6 +328,7 @@ pub fn place(
             members.as_ptr(),
             members.len(),
             capabilities,
+            rule as u32,
             rows.as_mut_ptr(),
             rows.len(),
             start,
@@ -338,6 +357,7 @@ pub fn report(
     types: &[u32],
     members: &[u32],
     capabilities: u32,
+    rule: UniformRule,
     rows: &mut [u32],
     report: &mut [u64],
 ) -> Result<Totals, Refusal> {
@@ -350,6 +370,7 @@ pub fn report(
             members.as_ptr(),
             members.len(),
             capabilities,
+            rule as u32,
             rows.as_mut_ptr(),
             rows.len(),
             report.as_mut_ptr(),

@@ -3,6 +3,7 @@
 
 use crate::*;
 
+const OLDER: UniformRule = UniformRule::Older;
 const E: [u32; 6] = [kind::SCALAR, scalar::FLOAT, 4, 0, 0, 0];
 const V: [u32; 6] = [kind::VECTOR, 3, scalar::FLOAT, 4, 0, 0];
 const F16: [u32; 6] = [kind::SCALAR, scalar::FLOAT, 2, 0, 0, 0];
@@ -24,8 +25,11 @@ fn judged(types: &[[u32; 6]], members: &[u32], capabilities: u32) -> Result<Vec<
         vec![0; types.len() * ROW_WORDS],
     );
     let types = types.as_flattened();
-    let answer = judge(types, members, capabilities, &mut rows);
-    assert_eq!(check(types, members, capabilities, &mut others), answer);
+    let answer = judge(types, members, capabilities, OLDER, &mut rows);
+    assert_eq!(
+        check(types, members, capabilities, OLDER, &mut others),
+        answer
+    );
     assert_eq!(rows, others);
     answer.map(|()| rows)
 }
@@ -74,7 +78,7 @@ fn m1_rows() {
 #[test]
 fn m2_slots() {
     let types = [E, V, structure(0, 2, 16)];
-    let walk = |ty| slots(types.as_flattened(), &PAIR, 0, &mut [0; 42], ty, 0);
+    let walk = |ty| slots(types.as_flattened(), &PAIR, 0, OLDER, &mut [0; 42], ty, 0);
     assert_eq!(walk(2), masks(15, 0));
     assert_eq!(walk(3), Err(refused(26, 0, 0, 0)));
 }
@@ -167,7 +171,15 @@ fn slots_in_part() {
     let walk = |types: &[[u32; 6]], members: &[u32]| {
         let ty = types.len() as u32 - 1;
         let f16 = capabilities::SHADER_FLOAT16;
-        slots(types.as_flattened(), members, f16, &mut [0; 42], ty, 0)
+        slots(
+            types.as_flattened(),
+            members,
+            f16,
+            OLDER,
+            &mut [0; 42],
+            ty,
+            0,
+        )
     };
     assert_eq!(
         walk(&[F16, structure(0, 2, 4)], &[0, 0, 0, 0, 0, 2, 0, 0]),
@@ -203,9 +215,9 @@ fn masks_together() {
 fn rows_after_a_refusal() {
     let types = [E, V, structure(0, 2, 15)];
     let mut rows = [7; 44];
-    let refusal = check(types.as_flattened(), &PAIR, 0, &mut rows[..41]);
+    let refusal = check(types.as_flattened(), &PAIR, 0, OLDER, &mut rows[..41]);
     assert_eq!((refusal, rows), (Err(refused(1, 0, 0, 0)), [7; 44]));
-    assert!(check(types.as_flattened(), &PAIR, 0, &mut rows).is_err());
+    assert!(check(types.as_flattened(), &PAIR, 0, OLDER, &mut rows).is_err());
     assert_eq!(rows[..42], [0; 42]);
     assert_eq!(rows[42..], [7; 2]);
     assert_eq!(layout(types.as_flattened(), &PAIR, &mut rows), Ok(()));
@@ -218,23 +230,23 @@ fn layouts_before_capabilities() {
     assert_eq!(layout(&F16, &[], &mut rows), Ok(()));
     assert_eq!(rows, [2, 2, 0, 0, 0, 0, 0, 0, 0, 0, 0, 0, 0, 0]);
     let bit = capabilities::SHADER_FLOAT16;
-    assert_eq!(judge(&F16, &[], bit, &mut rows), Ok(()));
+    assert_eq!(judge(&F16, &[], bit, OLDER, &mut rows), Ok(()));
     assert_eq!(rows, [2, 2, 255, 0, 2, 0, 0, 0, 0, 2, 0, 0, 0, 3]);
-    let unknown = judge(&F16, &[], u32::MAX, &mut rows);
+    let unknown = judge(&F16, &[], u32::MAX, OLDER, &mut rows);
     assert_eq!(unknown, Err(refused(1, 0, 0, 0)));
     assert_eq!(rows[2], 255);
-    let missing = judge(&F16, &[], 0, &mut rows);
+    let missing = judge(&F16, &[], 0, OLDER, &mut rows);
     assert_eq!(missing, Err(refused(8, 0, 0, 1)));
     assert_eq!(rows, [0; ROW_WORDS]);
 }
 
 #[test]
 fn empty_tables_places_and_parts() {
-    assert_eq!(judge(&[], &[], 0, &mut []), Ok(()));
-    assert_eq!(check(&[], &[], 0, &mut []), Ok(()));
+    assert_eq!(judge(&[], &[], 0, OLDER, &mut []), Ok(()));
+    assert_eq!(check(&[], &[], 0, OLDER, &mut []), Ok(()));
     let types = [E, V, structure(0, 2, 16)];
     let types = types.as_flattened();
-    let place = |start, steps: &[u32]| place(types, &PAIR, 0, &mut [0; 42], start, steps);
+    let place = |start, steps: &[u32]| place(types, &PAIR, 0, OLDER, &mut [0; 42], start, steps);
     assert_eq!(place(2, &[1]), Ok(Place { byte: 12, leaf: 0 }));
     assert_eq!(place(0, &[]), Ok(Place { byte: 0, leaf: 0 }));
     assert_eq!(place(2, &[2]), Err(refused(26, 0, 0, 0)));
@@ -261,6 +273,41 @@ fn plain_types() {
     }
 }
 
+/// M9 by either rule, and a struct with a runtime-sized member, to which the newer gives code 5.
+#[test]
+fn by_the_newer_rule() {
+    let types = [E, structure(0, 1, 4), structure(1, 2, 16)];
+    let members = [0, 0, 0, 0, 1, 0, 0, 0, 0, 4, 0, 0];
+    let mut rows = [7; 42];
+    judge(
+        types.as_flattened(),
+        &members,
+        0,
+        UniformRule::Newer,
+        &mut rows,
+    )
+    .unwrap();
+    let row = Row::of(&rows, 2).unwrap();
+    assert_eq!(row.uniform(), row.storage());
+    assert_eq!(row.uniform().alignment(), Some(4));
+    judge(types.as_flattened(), &members, 0, OLDER, &mut rows).unwrap();
+    let row = Row::of(&rows, 2).unwrap();
+    assert_eq!(row.uniform().code, verdict::MEMBER_OFFSET_AFTER_STRUCT);
+    let tail = [kind::ARRAY, 0, form::DYNAMIC, 0, 4, 0];
+    let types = [E, tail, structure(0, 1, 4)];
+    judge(
+        types.as_flattened(),
+        &[1, 0, 0, 0],
+        0,
+        UniformRule::Newer,
+        &mut rows,
+    )
+    .unwrap();
+    let row = Row::of(&rows, 2).unwrap();
+    assert_eq!(row.uniform().code, verdict::UNSIZED_MEMBER);
+    assert_eq!(row.storage().alignment(), Some(4));
+}
+
 #[test]
 fn columns() {
     let mat3x3 = |width| [kind::MATRIX, 3, 3, scalar::FLOAT, width, 0];
@@ -272,6 +319,7 @@ fn columns() {
             types.as_flattened(),
             &[0, 16, 0, 0],
             capabilities::ALL,
+            OLDER,
             &mut rows,
             start,
             steps,

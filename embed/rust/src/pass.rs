@@ -1,6 +1,6 @@
 //! A pass tried before it is run.
 
-use crate::{door, Refusal};
+use crate::{door, Refusal, UniformRule};
 
 /// Slots of immediates that are set, and those that the chosen pipeline's type needs. Steps that are refused leave it as it
 /// was.
@@ -64,6 +64,7 @@ impl Pass {
         types: &[u32],
         members: &[u32],
         capabilities: u32,
+        rule: UniformRule,
         rows: &mut [u32],
         ty: u32,
     ) -> Result<(), Refusal> {
@@ -76,6 +77,7 @@ impl Pass {
                 members.as_ptr(),
                 members.len(),
                 capabilities,
+                rule as u32,
                 rows.as_mut_ptr(),
                 rows.len(),
                 ty,

@@ -2,6 +2,7 @@
 
 use crate::*;
 
+const OLDER: UniformRule = UniformRule::Older;
 const E: [u32; 6] = [kind::SCALAR, scalar::FLOAT, 4, 0, 0, 0];
 const H: [u32; 6] = [kind::SCALAR, scalar::FLOAT, 2, 0, 0, 0];
 const B: [u32; 6] = [kind::SCALAR, scalar::BOOL, 1, 0, 0, 0];
@@ -23,7 +24,14 @@ fn not_ready(missing: u64) -> NotReady {
 
 fn choose(pass: &mut Pass, types: &[[u32; 6]], capabilities: u32, ty: u32) -> Result<(), Refusal> {
     let mut rows = vec![7; types.len() * ROW_WORDS];
-    pass.choose(types.as_flattened(), &[], capabilities, &mut rows, ty)
+    pass.choose(
+        types.as_flattened(),
+        &[],
+        capabilities,
+        OLDER,
+        &mut rows,
+        ty,
+    )
 }
 
 #[test]

@@ -2,6 +2,7 @@
 
 use crate::*;
 
+const OLDER: UniformRule = UniformRule::Older;
 const E: [u32; 6] = [kind::SCALAR, scalar::FLOAT, 4, 0, 0, 0];
 const B: [u32; 6] = [kind::SCALAR, scalar::BOOL, 1, 0, 0, 0];
 const V: [u32; 6] = [kind::VECTOR, 3, scalar::FLOAT, 4, 0, 0];
@@ -28,7 +29,14 @@ fn refused(number: u32, ty: u32) -> Refusal {
 fn reported(types: &[[u32; 6]], members: &[u32]) -> Result<([u64; 2], Vec<u64>), Refusal> {
     let mut rows = vec![7; types.len() * ROW_WORDS];
     let mut words = vec![7; types.len() * REPORT_WORDS];
-    let totals = report(types.as_flattened(), members, 0, &mut rows, &mut words)?;
+    let totals = report(
+        types.as_flattened(),
+        members,
+        0,
+        OLDER,
+        &mut rows,
+        &mut words,
+    )?;
     Ok(([totals.carried, totals.wasted], words))
 }
 
@@ -66,10 +74,10 @@ fn narrow_strides() {
     let types = types.as_flattened();
     let (mut rows, mut accepted) = ([7; 44], [7; 44]);
     let mut words = [7; 8];
-    let refusal = report(types, &[1, 0, 0, 0], 0, &mut rows, &mut words);
+    let refusal = report(types, &[1, 0, 0, 0], 0, OLDER, &mut rows, &mut words);
     assert_eq!(refusal, Err(refused(27, 2)));
     assert_eq!(words, [0, 0, 0, 0, 0, 0, 7, 7]);
-    check(types, &[1, 0, 0, 0], 0, &mut accepted).unwrap();
+    check(types, &[1, 0, 0, 0], 0, OLDER, &mut accepted).unwrap();
     assert_eq!(rows, accepted);
     assert_eq!(
         refused(27, 2).to_string(),
@@ -90,6 +98,7 @@ fn words_after_a_refusal() {
         types.as_flattened(),
         &[0, 4, 0, 0],
         0,
+        OLDER,
         &mut rows,
         &mut words[..3],
     );
@@ -99,6 +108,7 @@ fn words_after_a_refusal() {
         types.as_flattened(),
         &[0, 4, 0, 0],
         0,
+        OLDER,
         &mut rows,
         &mut words,
     );

@@ -7,8 +7,13 @@ use Rattle.doorway.proofs.place_words.Tie as tie
 
 slice-aggregate-lookup : tie.Need-slice-aggregate-lookup
 slice-aggregate-lookup c =
-    let a = c .before .before .before .before .args in
+    let a = c .before .before .before .before .before .before .args in
     sym (length-take-le (a .n * 4) (a .t2) (search needs))
+
+-- the word of the rule, and what becomes of the capability word
+returns : tie.Need-returns
+returns c =
+    rw (c .before .before .before .before .before .before .rule-of .ensures, c .before .before .before .before .before .capabilities-by .ensures) at (c .before .before .lookup .ensures)
 
 pub place-words-spec : {M : Type 1} → statement M
 place-words-spec =
@@ -16,7 +21,9 @@ place-words-spec =
     (tie.spec
     (λ c. search needs)
     (λ c. search needs)
+    (λ c. search needs)
+    (λ c. search needs)
     slice-aggregate-lookup
     (λ c κs. search needs)
     (λ c. search needs)
-    (λ c. search needs))
+    returns)

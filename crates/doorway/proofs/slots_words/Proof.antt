@@ -7,8 +7,13 @@ use Rattle.doorway.proofs.slots_words.Tie as tie
 
 slice-aggregate-immediate-slots : tie.Need-slice-aggregate-immediate-slots
 slice-aggregate-immediate-slots c =
-    let a = c .before .before .before .args in
+    let a = c .before .before .before .before .before .args in
     sym (length-take-le (a .n * 4) (a .t2) (search needs))
+
+-- the word of the rule, and what becomes of the capability word
+returns : tie.Need-returns
+returns c =
+    rw (c .before .before .before .before .before .before .rule-of .ensures, c .before .before .before .before .before .capabilities-by .ensures) at (c .before .before .immediate-slots .ensures)
 
 pub slots-words-spec : {M : Type 1} → statement M
 slots-words-spec =
@@ -16,7 +21,9 @@ slots-words-spec =
     (tie.spec
     (λ c. search needs)
     (λ c. search needs)
+    (λ c. search needs)
+    (λ c. search needs)
     slice-aggregate-immediate-slots
     (λ c κs. search needs)
     (λ c. search needs)
-    (λ c. c .before .before .immediate-slots .ensures))
+    returns)

@@ -25,7 +25,7 @@ returns-4 c = λ e.
       apart = c .before .before .before .if2 .left;
       inside = c .before .before .if3 .left;
       within = sym within;
-      enough = λ i j v. sym (apart i j v refl);
+      enough = λ rule i j v. sym (apart rule i j v refl);
     }
 
 pub is-in-order-spec : {M : Type 1} → statement M

@@ -8,16 +8,17 @@ use denote.Ref.{now}
 use Rattle.records.specs.Result.{ok}
 use Rattle.records.specs.Record.{typeInner}
 use Rattle.type_info.specs.TypeInfo.{rowsIn}
+use Rattle.type_info.specs.Verdict.{leastFor}
 use Rattle.members.specs.Members.{stateAfter}
 use Rattle.members.proofs.StateLaws.{state-refused}
 use Rattle.members.proofs.members_of.Statement.{statement}
 use Rattle.members.proofs.members_of.Tie as tie
 
 abbrev Inv-loop : tie.InvT-loop
-Inv-loop types rows i part count span taken state₀ j₀ state j = (j ≤ count) × (stateAfter (typeInner types) (rowsIn rows) i count span part j ≡ ok state)
+Inv-loop rule types rows i part count span taken state₀ j₀ state j = (j ≤ count) × (stateAfter (leastFor rule) (typeInner types) (rowsIn rows) i count span part j ≡ ok state)
 
 abbrev μ-loop : tie.MeasureT-loop
-μ-loop types rows i part count span taken state₀ j₀ state j = count - j
+μ-loop rule types rows i part count span taken state₀ j₀ state j = count - j
 
 loop-holds : tie.Need-loop-holds Inv-loop μ-loop
 loop-holds c = let pre = c .before .before .before .pre in (pre .1 .1 .1 .0, pre .1 .1 .1 .1)
@@ -25,20 +26,24 @@ loop-holds c = let pre = c .before .before .before .pre in (pre .1 .1 .1 .0, pre
 ordered-members-requires : tie.Need-ordered-members-requires Inv-loop μ-loop
 ordered-members-requires c κs =
     let pre = c .before .before .before .before .before .pre in let l = c .before .loop in
-    (pre .0, (pre .1 .0, (pre .1 .1 .0, (l .inv .0, l .inv .1))))
+    (pre .0, (pre .1 .0, (pre .1 .1 .0, l .inv .0)))
 
 returns : tie.Need-returns Inv-loop μ-loop
-returns c = rw (c .if1 .taken) at (sym (c .before .before .ordered-members .ensures .1 .1))
+returns c =
+    let a = c .before .before .before .before .before .before .before .before .args in
+    rw (c .if1 .taken) at (sym (c .before .before .ordered-members .ensures .1 .1 (a .rule) (c .before .before .before .before .loop .inv .1)))
 
 step-requires : tie.Need-step-requires Inv-loop μ-loop
-step-requires c κs = (c .before .before .before .before .before .before .before .before .pre .0, c .before .before .ordered-members .ensures .1 .1)
+step-requires c κs =
+    let s = c .before .before .before .before .before .before .before .before in
+    (s .pre .0, c .before .before .ordered-members .ensures .1 .1 (s .args .rule) (c .before .before .before .before .loop .inv .1))
 
 returns-2 : tie.Need-returns-2 Inv-loop μ-loop
 returns-2 c =
     let a = c .before .before .before .before .before .before .before .before .before .before .before .before .args in
     let o = c .before .before .before .before .before .before .ordered-members in
     let refused = rw (c .before .number .given .1) at (sym (c .before .before .before .step .ensures)) in
-    sym (state-refused (typeInner (now (a .types))) (rowsIn (now (a .rows))) (a .i) (a .count) (a .span) (now (a .part)) (o .result .taken + 1) refused (a .count) (omega (arith, o .ensures .1 .0, c .before .before .before .before .if1 .left)))
+    sym (state-refused (leastFor (a .rule)) (typeInner (now (a .types))) (rowsIn (now (a .rows))) (a .i) (a .count) (a .span) (now (a .part)) (o .result .taken + 1) refused (a .count) (omega (arith, o .ensures .1 .0, c .before .before .before .before .if1 .left)))
 
 add-j : tie.Need-add-j Inv-loop μ-loop
 add-j c = omega (arith, c .before .before .before .before .before .before .ordered-members .ensures .1 .0, c .before .before .before .before .if1 .left, c .before .before .before .before .before .before .before .before .before .before .before .before .fits .count)

@@ -6,7 +6,7 @@ use denote.Ref.{now}
 use borrow.Author.Tests.{not-false}
 use Rattle.records.specs.Record.{typeInner}
 use Rattle.type_info.specs.TypeInfo.{rowsIn}
-use Rattle.type_info.specs.Verdict.{structAt}
+use Rattle.type_info.specs.Verdict.{leastFor, structAt}
 use Rattle.member_bounds.specs.MemberBounds.{isArray}
 use Rattle.members.proofs.StateLaws.{ordered-step}
 use Rattle.members.proofs.ordered_member.Statement.{statement}
@@ -20,14 +20,14 @@ cast-t18 c =
 
 returns-2 : tie.Need-returns-2
 unfolding rowsIn
-returns-2 c = λ count.
+returns-2 c = λ rule count.
     let a = c .before .before .before .before .before .before .before .before .before .before .before .before .before .before .before .before .before .args in
     let row = rowsIn (now (a .rows)) (a .t) in
     let inner = typeInner (now (a .types)) (a .t) in
     let in-order = c .before .before .before .before .before .before .before .is-in-order .ensures (not-false (c .before .before .before .before .before .before .before .is-in-order .result) (c .before .before .before .before .before .before .if1 .left)) in
     let end : c .before .before .before .before .before .before .before .before .end-of .result ≡ a .offset + row .size = rw (c .before .before .before .before .before .before .before .before .before .own-word3 .ensures) at (c .before .before .before .before .before .before .before .before .end-of .ensures) in
     let inside = rw end at (in-order .inside) in
-    let step = ordered-step (a .i) count (a .span) (a .j) (a .t) (a .offset) (isArray inner) (structAt inner (a .offset)) row (a .state) (rw (c .before .before .before .before .before .before .before .before .before .before .before .own-word .ensures) at (in-order .sizedData)) (in-order .apart) inside (omega (arith, c .before .before .before .before .before .before .before .before .before .before .before .before .before .before .before .before .before .fits .span)) (in-order .within) (in-order .enough (a .i) (a .j)) in
+    let step = ordered-step (leastFor rule) (a .i) count (a .span) (a .j) (a .t) (a .offset) (isArray inner) (structAt inner (a .offset)) row (a .state) (rw (c .before .before .before .before .before .before .before .before .before .before .before .own-word .ensures) at (in-order .sizedData)) (in-order .apart) inside (omega (arith, c .before .before .before .before .before .before .before .before .before .before .before .before .before .before .before .before .before .fits .span)) (in-order .within) (in-order .enough rule (a .i) (a .j)) in
     rw (c .struct-at .ensures, c .before .immediates-of .ensures, c .before .before .before .before .before .before .before .before .before .before .own-word2 .ensures, c .before .before .verdict-after2 .ensures, c .before .before .before .verdict-after .ensures, c .before .before .before .before .is-host-shareable .ensures, c .before .before .before .before .before .both .ensures, c .before .before .before .before .before .before .before .before .before .before .before .own-word .ensures, end) step
 
 pub ordered-member-spec : {M : Type 1} → statement M

@@ -5,6 +5,7 @@ use native.Mathlib.Omega.{arith}
 use denote.Ref.{now}
 use Rattle.records.specs.Record.{typeInner, memberType}
 use Rattle.type_info.specs.TypeInfo.{rowsIn}
+use Rattle.type_info.specs.Verdict.{leastFor}
 use Rattle.members.proofs.StateLaws.{state-step}
 use Rattle.members.proofs.step.Statement.{statement}
 use Rattle.members.proofs.step.Tie as tie
@@ -17,7 +18,7 @@ returns c =
     let s = c .before .before .before .before .before .before .before .before .before in let a = s .args in
     let type-read : c .before .before .before .before .before .member-type .result ≡ memberType (now (a .part)) (a .j) = c .before .before .before .before .before .member-type .ensures in
     let one = rw (c .before .row-at .ensures, c .before .before .struct-at .ensures, c .before .before .before .is-array .ensures, c .before .before .before .before .member-offset .ensures, type-read) at (c .member .ensures) in
-    rw add-one (one ∙ sym (state-step (typeInner (now (a .types))) (rowsIn (now (a .rows))) (a .i) (a .count) (a .span) (now (a .part)) (a .j) (a .state) (s .pre .1)))
+    rw add-one (one ∙ sym (state-step (leastFor (a .rule)) (typeInner (now (a .types))) (rowsIn (now (a .rows))) (a .i) (a .count) (a .span) (now (a .part)) (a .j) (a .state) (s .pre .1)))
 
 pub step-spec : {M : Type 1} → statement M
 step-spec =

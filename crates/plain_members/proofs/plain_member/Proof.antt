@@ -12,7 +12,7 @@ use Rattle.plain_members.proofs.plain_member.Tie as tie
 
 returns-5 : tie.Need-returns-5
 unfolding rowsIn
-returns-5 c = λ count j before e.
+returns-5 c = λ rule count j before e.
     let a = c .before .before .before .before .before .before .before .before .before .before .before .before .before .before .before .before .before .before .args in
     let fits = c .before .before .before .before .before .before .before .before .before .before .before .before .before .before .before .before .before .before .fits in
     let row = rowsIn (now (a .rows)) (a .t) in
@@ -23,7 +23,7 @@ returns-5 c = λ count j before e.
     let clear = apart (a .state .end) (a .offset) (a .i) j before (rw e (c .before .before .before .before .before .before .before .before .before .if2 .left)) (omega (arith, fits .offset)) in
     let keeps = kept row (a .offset) (sym (c .before .before .before .before .before .before .before .keeps-verdicts .ensures) ∙ not-false (c .before .before .before .before .before .before .before .keeps-verdicts .result) (c .before .before .before .before .before .before .if4 .left)) in (
       rw (end, c .before .before .before .before .before .both .ensures, c .before .before .before .before .before .before .before .before .before .before .before .before .before .before .before .own-word .ensures) (bounds-step this row (a .i) count (a .span) j (a .t) (a .offset) before (a .state) plain clear inside (omega (arith, fits .span))),
-      rw (c .before .before .before .larger .ensures, c .before .before .before .before .own-word3 .ensures) (uniform-step this row (a .i) count (a .span) j (a .t) (a .offset) before (a .state) plain clear keeps),
+      rw (c .before .before .before .larger .ensures, c .before .before .before .before .own-word3 .ensures) (uniform-step this row (a .i) count (a .span) j (a .t) (a .offset) before (a .state) plain rule clear keeps),
       rw (c .before .larger2 .ensures, c .before .before .own-word4 .ensures) (storage-step this row (a .i) count (a .span) j (a .t) (a .offset) before (a .state) plain keeps),
       keeps .immediates,
       sym (c .least-after .ensures),

@@ -1,7 +1,8 @@
--- `plain_members::plain_members` meets its contract. The invariant: what the definitions have after j members is what the state has.
+-- `plain_members::plain_members` meets its contract. The invariant: what the definitions have after j members is what the state has; the rule's minimum alignment is
+-- that of the first state.
 -- Assumes nothing.
 use borrow.Author.Needs.{needs}
-use mathlib.Core.Path.{_≡_, refl, sym}
+use mathlib.Core.Path.{_≡_, refl, ap, sym}
 use Prim.Native.Nat.{_≤_, _-_}
 use native.Mathlib.Nat.{le-antisymm, le-refl}
 use native.Mathlib.Numerals.{add-one}
@@ -12,6 +13,7 @@ use Rattle.type_info.specs.TypeInfo.{rowsIn}
 use Rattle.type_info.specs.Verdict.{previousOf}
 use Rattle.member_bounds.specs.MemberBounds.{boundsAfter}
 use Rattle.member_rules.specs.MemberRules.{uniformAfter, storageAfter, immediatesAfter}
+use Rattle.plain_members.specs.declared.PlainState.{PlainState}
 use Rattle.plain_members.specs.PlainMembers.{leastOf, PlainAfter}
 use Rattle.plain_members.proofs.plain_members.Statement.{statement}
 use Rattle.plain_members.proofs.plain_members.Tie as tie
@@ -19,7 +21,7 @@ use Rattle.plain_members.proofs.plain_members.Tie as tie
 abbrev Inv-loop : tie.InvT-loop
 Inv-loop types rows i part count span state₀ last j₀ state j =
     (j ≤ count)
-    × PlainAfter (typeInner types) (rowsIn rows) i count span part j state
+    × PlainAfter (state₀ .uniform) (typeInner types) (rowsIn rows) i count span part j state
     × (leastOf (state .end) (previousOf (typeInner types) part j) ≡ state .least)
 
 abbrev μ-loop : tie.MeasureT-loop
@@ -41,11 +43,14 @@ plain-member-requires c κs =
     let earlier = rw (← c .before .own-type .ensures) at (pre .1 .1 .1 (c .before .before .before .loop .j) (c .before .before .loop-test .taken)) in
     (omega (arith, earlier, pre .0), omega (arith, earlier, pre .1 .0))
 
-cast-t15 : tie.Need-cast-t15 Inv-loop μ-loop
-cast-t15 c = omega (arith, c .before .before .before .before .before .loop-test .taken, c .before .before .before .before .before .before .before .before .before .before .before .fits .count)
+cast-t16 : tie.Need-cast-t16 Inv-loop μ-loop
+cast-t16 c = omega (arith, c .before .before .before .before .before .loop-test .taken, c .before .before .before .before .before .before .before .before .before .before .before .fits .count)
 
 returns : tie.Need-returns Inv-loop μ-loop
-returns c = let l = c .before .before .before .before .before .before .loop in (l .inv .0, l .inv .1)
+returns c =
+    let l = c .before .before .before .before .before .before .loop in
+    let least = ap (λ (s : PlainState). s .uniform) (c .before .before .before .before .before .before .before .start .ensures) in
+    (l .inv .0, rw least at (l .inv .1))
 
 add-j : tie.Need-add-j Inv-loop μ-loop
 add-j c = omega (arith, c .before .before .before .before .before .before .loop-test .taken, c .before .before .before .before .before .before .before .before .before .before .before .before .fits .count)
@@ -59,16 +64,18 @@ loop-again c =
     let l = c .before .before .before .before .before .before .before .loop in
     let a = c .before .before .before .before .before .before .before .before .before .before .before .before .args in
     let before = l .inv .1 in
-    let step = rw (c .before .next .given .1, c .before .before .before .before .own-offset .ensures, c .before .before .before .before .before .own-type .ensures) at (c .before .before .before .plain-member .ensures (a .count) (l .j) (previousOf (typeInner (now (a .types))) (now (a .part)) (l .j)) (l .inv .2)) in (
+    let least = ap (λ (s : PlainState). s .uniform) (c .before .before .before .before .before .before .before .before .start .ensures) in
+    let step = rw (c .before .next .given .1, c .before .before .before .before .own-offset .ensures, c .before .before .before .before .before .own-type .ensures) at (c .before .before .before .plain-member .ensures (a .rule) (a .count) (l .j) (previousOf (typeInner (now (a .types))) (now (a .part)) (l .j)) (l .inv .2)) in (
       omega (arith, c .before .before .before .before .before .before .loop-test .taken),
-      (rw (add-one, before .0) (step .0), rw (add-one, before .1) (step .1), rw (add-one, before .2) (step .2), rw (add-one, before .3, step .3) refl),
+      (rw (add-one, before .0) (step .0), rw (add-one, before .1, least) (step .1), rw (add-one, before .2) (step .2), rw (add-one, before .3, step .3) refl),
       rw add-one (step .4),
     )
 
 returns-2 : tie.Need-returns-2 Inv-loop μ-loop
 returns-2 c =
     let l = c .before .loop in
-    (le-refl _, rw (le-antisymm (l .inv .0) (c .loop-test .left)) at (l .inv .1))
+    let least = ap (λ (s : PlainState). s .uniform) (c .before .before .start .ensures) in
+    (le-refl _, rw (least, le-antisymm (l .inv .0) (c .loop-test .left)) at (l .inv .1))
 
 pub plain-members-spec : {M : Type 1} → statement M
 plain-members-spec =
@@ -83,7 +90,7 @@ plain-members-spec =
     plain-member-requires
     (λ c. search needs)
     (λ c. search needs)
-    cast-t15
+    cast-t16
     returns
     add-j
     loop-less

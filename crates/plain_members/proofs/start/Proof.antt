@@ -4,7 +4,7 @@ use Rattle.plain_members.proofs.start.Statement.{statement}
 use Rattle.plain_members.proofs.start.Tie as tie
 
 returns : tie.Need-returns
-returns c = rw (c .starting-flags .ensures) refl
+returns c = rw (c .least-for .ensures, c .before .starting-flags .ensures) refl
 
 pub start-spec : {M : Type 1} → statement M
-start-spec = tie.close (tie.spec (λ c κs. search needs) returns)
+start-spec = tie.close (tie.spec (λ c κs. search needs) (λ c κs. search needs) returns)

@@ -15,7 +15,7 @@ use Rattle.report.proofs.report.Tie as tie
 returns : tie.Need-returns
 returns c =
     let a = c .before .before .before .before .before .before .args in
-    let g = short-same (a .capabilities) (now (a .types)) (now (a .members)) (now (a .rows)) (now (a .report)) (sym (c .before .lengths-fit .ensures) ∙ not-true _ (c .if1 .taken)) in
+    let g = short-same (a .rule) (a .capabilities) (now (a .types)) (now (a .members)) (now (a .rows)) (now (a .report)) (sym (c .before .lengths-fit .ensures) ∙ not-true _ (c .if1 .taken)) in
     (g .0, (g .1, g .2))
 
 cast-n : tie.Need-cast-n
@@ -31,7 +31,7 @@ fill-requires c κs =
     let l = lengths (a .capabilities) ts ms rows lent fits in
     let k = c .before .before .before .before .before .before .check in
     let e = sym (k .ensures .0) ∙ c .before .before .enum-told .given .1 in
-    (refl, (l .long, subst (λ (x : List ℕ). RowsOf ts ms x) (sym (k .ensures .1)) (rows-made (a .capabilities) ts ms rows lent fits e)))
+    (refl, (l .long, subst (λ (x : List ℕ). RowsOf ts ms x) (sym (k .ensures .1)) (rows-made (a .rule) (a .capabilities) ts ms rows lent fits e)))
 
 clear-requires : tie.Need-clear-requires
 clear-requires c κs =
@@ -44,7 +44,7 @@ returns-2 c =
     let a = c .before .before .before .before .before .before .before .before .before .before .before .before .before .before .before .before .before .args in let ts = now (a .types) in let ms = now (a .members) in let rows = now (a .rows) in let lent = now (a .report) in
     let fits = sym (c .before .before .before .before .before .before .before .before .before .before .before .before .lengths-fit .ensures) ∙ not-false _ (c .before .before .before .before .before .before .before .before .before .before .before .if1 .left) in
     let k = c .before .before .before .before .before .before .before .before .before .check in let f = c .before .before .fill in
-    let g = filled-same (a .capabilities) ts ms rows lent fits (sym (k .ensures .0) ∙ c .before .before .before .before .before .enum-told .given .1) in
+    let g = filled-same (a .rule) (a .capabilities) ts ms rows lent fits (sym (k .ensures .0) ∙ c .before .before .before .before .before .enum-told .given .1) in
     let made = k .ensures .1 in (
       f .ensures .0 ∙ ap (λ (x : List ℕ). fillAnswer ts ms x (typeCount ts)) made ∙ g .0,
       (
@@ -58,7 +58,7 @@ returns-3 c =
     let a = c .before .before .before .before .before .before .before .before .before .before .before .before .before .before .before .before .before .args in let ts = now (a .types) in let ms = now (a .members) in let rows = now (a .rows) in let lent = now (a .report) in
     let fits = sym (c .before .before .before .before .before .before .before .before .before .before .before .before .lengths-fit .ensures) ∙ not-false _ (c .before .before .before .before .before .before .before .before .before .before .before .if1 .left) in
     let k = c .before .before .before .before .before .before .before .before .before .check in
-    let g = refused-same (a .capabilities) ts ms rows lent fits (sym (k .ensures .0) ∙ c .before .before .before .before .before .number .given .1) in
+    let g = refused-same (a .rule) (a .capabilities) ts ms rows lent fits (sym (k .ensures .0) ∙ c .before .before .before .before .before .number .given .1) in
     (g .0, (k .ensures .1 ∙ g .1, c .before .before .clear .ensures ∙ g .2))
 
 pub report-spec : {M : Type 1} → statement M

@@ -1,9 +1,14 @@
 use borrow.Author.Needs.{needs}
+use mathlib.Core.Path.{refl}
+use borrow.Author.Tests.{le-leb, lt-leb}
 use Rattle.type_info.proofs.after_distance.Statement.{statement}
 use Rattle.type_info.proofs.after_distance.Tie as tie
 
-returns-2 : tie.Need-returns-2
-returns-2 c = rw (c .before .d .given .1)
+returns : tie.Need-returns
+returns c = rw (c .before .before .d .given .1, le-leb _ 1 (c .if1 .taken)) refl
+
+returns-3 : tie.Need-returns-3
+returns-3 c = rw (c .before .before .d .given .1, lt-leb _ 1 (c .if1 .left)) refl
 
 pub after-distance-spec : {M : Type 1} → statement M
 after-distance-spec =
@@ -11,7 +16,8 @@ after-distance-spec =
     (tie.spec
     (λ c. search needs)
     (λ c. search needs)
+    returns
     (λ c. search needs)
     (λ c. search needs)
-    returns-2
+    returns-3
     (λ c. search needs))

@@ -11,21 +11,22 @@ use denote.Ref.{now}
 use Rattle.records.specs.Table.{firstRefusal, flat}
 use Rattle.records.specs.declared.Outcome.the-variants.{Accepted}
 use Rattle.records.proofs.TableLaws.{stays}
+use Rattle.type_info.specs.Verdict.{leastFor}
 use Rattle.valid.specs.Arena.{rowAt, laidThenJudged}
 use Rattle.valid.proofs.JudgeRows.{outcome-at, rest-kept, row-written}
 use Rattle.valid.proofs.judge_all.Statement.{statement}
 use Rattle.valid.proofs.judge_all.Tie as tie
 
 abbrev Inv-loop : tie.InvT-loop
-Inv-loop capabilities types members rows₀ n i₀ rows i =
+Inv-loop capabilities rule types members rows₀ n i₀ rows i =
     (i ≤ n)
-    × (firstRefusal (laidThenJudged capabilities types members) i ≡ Accepted)
-    × (take (i * 14) rows ≡ flat (rowAt capabilities types members) i)
+    × (firstRefusal (laidThenJudged (leastFor rule) capabilities types members) i ≡ Accepted)
+    × (take (i * 14) rows ≡ flat (rowAt (leastFor rule) capabilities types members) i)
     × (drop (n * 14) rows ≡ drop (n * 14) rows₀)
     × (length rows ≡ length rows₀)
 
 abbrev μ-loop : tie.MeasureT-loop
-μ-loop capabilities types members rows₀ n i₀ rows i = n - i
+μ-loop capabilities rule types members rows₀ n i₀ rows i = n - i
 
 loop-holds : tie.Need-loop-holds Inv-loop μ-loop
 loop-holds c = (search needs, refl, refl, refl, refl)
@@ -42,11 +43,11 @@ returns c =
     let l = c .before .before .before .before .before .before .before .before .loop in
     let below = c .before .before .before .before .before .before .before .loop-test .taken in
     let j = c .before .before .before .before .before .record-row in
-    let refused = rw (c .before .number .given .1) at (sym (outcome-at (a .capabilities) ts ms (l .i) (l .inv .1) (l .rows) _ (j .result) (l .inv .2) (j .ensures))) in (
-      sym (stays (laidThenJudged (a .capabilities) ts ms) (l .i) (l .inv .1) refused (a .n) below),
+    let refused = rw (c .before .number .given .1) at (sym (outcome-at (leastFor (a .rule)) (a .capabilities) ts ms (l .i) (l .inv .1) (l .rows) _ (j .result) (l .inv .2) (j .ensures))) in (
+      sym (stays (laidThenJudged (leastFor (a .rule)) (a .capabilities) ts ms) (l .i) (l .inv .1) refused (a .n) below),
       (
         (λ accepted. let z : _≡_ {A = ℕ} 0 1 = cc in absurd (omega arith)),
-        rest-kept (a .capabilities) ts ms (l .i) (l .inv .1) (l .rows) _ (j .result) (l .inv .2) (j .ensures) (omega (arith, s .pre .0, below)) (a .n) below ∙ l .inv .3,
+        rest-kept (leastFor (a .rule)) (a .capabilities) ts ms (l .i) (l .inv .1) (l .rows) _ (j .result) (l .inv .2) (j .ensures) (omega (arith, s .pre .0, below)) (a .n) below ∙ l .inv .3,
       ),
     )
 
@@ -58,12 +59,12 @@ loop-again c =
     let below = c .before .before .before .before .before .before .loop-test .taken in
     let j = c .before .before .before .before .record-row in
     let room : l .i * 14 + 14 ≤ length (l .rows) = omega (arith, s .pre .0, below) in
-    let passed = rw (c .enum-told .given .1) at (sym (outcome-at (a .capabilities) ts ms (l .i) (l .inv .1) (l .rows) _ (j .result) (l .inv .2) (j .ensures))) in (
+    let passed = rw (c .enum-told .given .1) at (sym (outcome-at (leastFor (a .rule)) (a .capabilities) ts ms (l .i) (l .inv .1) (l .rows) _ (j .result) (l .inv .2) (j .ensures))) in (
       omega (arith, below),
       rw (add-one, l .inv .1, passed) refl,
-      row-written (a .capabilities) ts ms (l .i) (l .inv .1) (l .rows) _ (j .result) (l .inv .2) (j .ensures) room (c .enum-told .given .1),
-      rest-kept (a .capabilities) ts ms (l .i) (l .inv .1) (l .rows) _ (j .result) (l .inv .2) (j .ensures) room (a .n) below ∙ l .inv .3,
-      j .kept .1 .1 .1 .0 ∙ l .inv .4,
+      row-written (leastFor (a .rule)) (a .capabilities) ts ms (l .i) (l .inv .1) (l .rows) _ (j .result) (l .inv .2) (j .ensures) room (c .enum-told .given .1),
+      rest-kept (leastFor (a .rule)) (a .capabilities) ts ms (l .i) (l .inv .1) (l .rows) _ (j .result) (l .inv .2) (j .ensures) room (a .n) below ∙ l .inv .3,
+      j .kept .1 .1 .1 .1 .0 ∙ l .inv .4,
     )
 
 returns-2 : tie.Need-returns-2 Inv-loop μ-loop

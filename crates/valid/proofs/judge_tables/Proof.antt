@@ -7,6 +7,7 @@ use denote.Ref.{now}
 use Rattle.records.proofs.RecordLaws.{tables-fitting}
 use Rattle.layouter.proofs.LayoutLaws.{refused-rows}
 use Rattle.layouter.specs.Layouter.{layoutOutcome}
+use Rattle.type_info.specs.Verdict.{leastFor}
 use Rattle.valid.specs.Arena.{arenaRows}
 use Rattle.valid.proofs.CheckLaws.{all-passed, also-judged}
 use Rattle.valid.proofs.judge_tables.Statement.{statement}
@@ -21,7 +22,7 @@ judge-all-requires c κs =
 refused-requires : tie.Need-refused-requires
 refused-requires c κs =
     let s = c .before .before .before .before .before .before .before .before .before .before in
-    (s .pre .0, rw (c .before .before .before .before .before .judge-all .kept .1 .1 .1 .0) (s .pre .1))
+    (s .pre .0, rw (c .before .before .before .before .before .judge-all .kept .1 .1 .1 .1 .0) (s .pre .1))
 
 returns : tie.Need-returns
 unfolding arenaRows
@@ -30,8 +31,8 @@ returns c =
     let a = s .args in
     let j = c .before .before .before .before .judge-all in
     let e = c .enum-told .given .1 in (
-      e ∙ sym (all-passed (a .capabilities) (now (a .types)) (now (a .members)) (rw (s .pre .0) at (sym (j .ensures .0) ∙ e))),
-      rw (e, ← j .ensures .1 .0 e, ← j .ensures .1 .1) (sym (take-append-drop (a .n * 14) (j .last .1 .1 .1 .0))),
+      e ∙ sym (all-passed (leastFor (a .rule)) (a .capabilities) (now (a .types)) (now (a .members)) (rw (s .pre .0) at (sym (j .ensures .0) ∙ e))),
+      rw (e, ← j .ensures .1 .0 e, ← j .ensures .1 .1) (sym (take-append-drop (a .n * 14) (j .last .1 .1 .1 .1 .0))),
     )
 
 returns-2 : tie.Need-returns-2
@@ -41,8 +42,8 @@ returns-2 c =
     let j = c .before .before .before .before .before .before .before .before .judge-all in
     let r = c .before .before .refused in
     let e = c .before .before .before .before .enum-told2 .given .1 in
-    let zeros = refused-rows (layoutOutcome ts ms) (j .result) (arenaRows (a .capabilities) ts ms (a .n)) (a .n) (now (a .rows)) e in (
-      rw (j .ensures .0, s .pre .0) at (r .ensures .0) ∙ also-judged (a .capabilities) ts ms,
+    let zeros = refused-rows (layoutOutcome ts ms) (j .result) (arenaRows (a .rule) (a .capabilities) ts ms (a .n)) (a .n) (now (a .rows)) e in (
+      rw (j .ensures .0, s .pre .0) at (r .ensures .0) ∙ also-judged (leastFor (a .rule)) (a .capabilities) ts ms,
       rw (r .ensures .0, zeros, e, ← j .ensures .1 .1) (r .ensures .1),
     )
 

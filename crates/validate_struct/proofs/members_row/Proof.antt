@@ -10,6 +10,7 @@ use Rattle.records.specs.Record.{typeInner}
 use Rattle.flags.specs.Flags.{bit}
 use Rattle.width.specs.Width.{dualSourceBlending}
 use Rattle.type_info.specs.TypeInfo.{rowsIn}
+use Rattle.type_info.specs.Verdict.{leastFor}
 use Rattle.valid_blend.specs.Blend.{sourceAnswer, blendAnswer}
 use Rattle.valid_blend.proofs.BlendLaws.{blended-refused, flags-taken, flags-refused}
 use Rattle.validate_type.specs.ValidateType.{judge, flagsOf, rowOf, uniformOf, storageOf, immediatesOf}
@@ -46,7 +47,7 @@ source-before-requires : tie.Need-source-before-requires
 source-before-requires c κs =
     let a = c .before .before .before .before .before .before .before .before .before .args in
     let p = c .before .before .before .before .before .before .before .before .before .pre in
-    let error = state-error (typeInner (now (a .types))) (rowsIn (take (a .i * 14) (a .rows .now))) (a .i) (a .count) (a .span) (now (a .part)) (a .count) (sym (rw (c .before .number2 .given .1) at (c .before .before .before .members-of .ensures))) in
+    let error = state-error (leastFor (a .rule)) (typeInner (now (a .types))) (rowsIn (take (a .i * 14) (a .rows .now))) (a .i) (a .count) (a .span) (now (a .part)) (a .count) (sym (rw (c .before .number2 .given .1) at (c .before .before .before .members-of .ensures))) in
     let below = blended-refused (bit (a .capabilities) dualSourceBlending) (typeInner (now (a .types))) (rowsIn (take (a .i * 14) (a .rows .now))) (a .count) (a .span) (now (a .part)) (a .count) _ _ _ error .0 in
     (omega (arith, below, p .1 .1 .0), (omega (arith, below), p .1 .1 .1 .1))
 
@@ -58,7 +59,7 @@ returns-2 c =
     let inner = typeInner (now (a .types)) in
     let rows = rowsIn (take (a .i * 14) (a .rows .now)) in
     let dual = bit (a .capabilities) dualSourceBlending in
-    let parts = state-parts inner rows (a .i) (a .count) (a .span) (now (a .part)) (a .count) (c .before .before .before .before .before .before .before .before .before .before .before .before .before .state .given .0 .0) (sym (rw (c .before .before .before .before .before .before .before .before .before .before .before .before .before .state .given .1) at (c .before .before .before .before .before .before .before .before .before .before .before .before .before .before .before .members-of .ensures))) in
+    let parts = state-parts (leastFor (a .rule)) inner rows (a .i) (a .count) (a .span) (now (a .part)) (a .count) (c .before .before .before .before .before .before .before .before .before .before .before .before .before .state .given .0 .0) (sym (rw (c .before .before .before .before .before .before .before .before .before .before .before .before .before .state .given .1) at (c .before .before .before .before .before .before .before .before .before .before .before .before .before .before .before .members-of .ensures))) in
     let flags = flags-taken dual inner rows (a .count) (a .span) (now (a .part)) _ (parts .bounds) ∙ sym (c .before .before .before .before .before .before .before .before .before .blended-flags .ensures) ∙ ap blendAnswer (c .before .before .before .before .before .before .before .flags .given .1) in
     rw (lt-ltb 0 (a .count) some, flags, parts .uniform, parts .storage, parts .immediates)
     (refl, rw (c .before .before .before .before .before .span-verdict .ensures, c .before .before .before .before .span-verdict2 .ensures) at (c .before .before .put .ensures))
@@ -71,7 +72,7 @@ returns-3 c =
     let inner = typeInner (now (a .types)) in
     let rows = rowsIn (take (a .i * 14) (a .rows .now)) in
     let dual = bit (a .capabilities) dualSourceBlending in
-    let parts = state-parts inner rows (a .i) (a .count) (a .span) (now (a .part)) (a .count) (c .before .before .before .before .before .before .before .state .given .0 .0) (sym (rw (c .before .before .before .before .before .before .before .state .given .1) at (c .before .before .before .before .before .before .before .before .before .members-of .ensures))) in
+    let parts = state-parts (leastFor (a .rule)) inner rows (a .i) (a .count) (a .span) (now (a .part)) (a .count) (c .before .before .before .before .before .before .before .state .given .0 .0) (sym (rw (c .before .before .before .before .before .before .before .state .given .1) at (c .before .before .before .before .before .before .before .before .before .members-of .ensures))) in
     let flags = flags-taken dual inner rows (a .count) (a .span) (now (a .part)) _ (parts .bounds) ∙ sym (c .before .before .before .blended-flags .ensures) ∙ ap blendAnswer (c .before .number .given .1) in
     rw (lt-ltb 0 (a .count) some, flags) (refl, refl)
 
@@ -83,7 +84,7 @@ returns-4 c =
     let inner = typeInner (now (a .types)) in
     let rows = rowsIn (take (a .i * 14) (a .rows .now)) in
     let dual = bit (a .capabilities) dualSourceBlending in
-    let error = state-error inner rows (a .i) (a .count) (a .span) (now (a .part)) (a .count) (sym (rw (c .before .before .before .before .number2 .given .1) at (c .before .before .before .before .before .before .members-of .ensures))) in
+    let error = state-error (leastFor (a .rule)) inner rows (a .i) (a .count) (a .span) (now (a .part)) (a .count) (sym (rw (c .before .before .before .before .number2 .given .1) at (c .before .before .before .before .before .before .members-of .ensures))) in
     let source = sym (c .before .before .source-before .ensures) ∙ ap sourceAnswer (c .enum-told .given .1) in
     let flags = flags-refused dual inner rows (a .count) (a .span) (now (a .part)) _ _ _ error in
     rw (lt-ltb 0 (a .count) some, flags, source) (refl, refl)
@@ -96,7 +97,7 @@ returns-5 c =
     let inner = typeInner (now (a .types)) in
     let rows = rowsIn (take (a .i * 14) (a .rows .now)) in
     let dual = bit (a .capabilities) dualSourceBlending in
-    let error = state-error inner rows (a .i) (a .count) (a .span) (now (a .part)) (a .count) (sym (rw (c .before .before .before .before .before .number2 .given .1) at (c .before .before .before .before .before .before .before .members-of .ensures))) in
+    let error = state-error (leastFor (a .rule)) inner rows (a .i) (a .count) (a .span) (now (a .part)) (a .count) (sym (rw (c .before .before .before .before .before .number2 .given .1) at (c .before .before .before .before .before .before .before .members-of .ensures))) in
     let source = sym (c .before .before .before .source-before .ensures) ∙ ap sourceAnswer (c .before .first .given .1) in
     let flags = flags-refused dual inner rows (a .count) (a .span) (now (a .part)) _ _ _ error in
     rw (lt-ltb 0 (a .count) some, flags, source) (refl, refl)

@@ -12,6 +12,7 @@ use Rattle.records.proofs.ResultLaws.{required, refused-twice, T-true}
 use Rattle.type_alignment.specs.TypeAlignment.{membersAlignment, layoutsIn, locatedResult}
 use Rattle.type_alignment.proofs.AcceptedAlignment.{members-earlier}
 use Rattle.type_layout.proofs.TypeLayoutLaws.{members-within, part-length}
+use Rattle.type_info.specs.Verdict.{leastFor}
 use Rattle.validate_struct.proofs.RecordRowLaws.{struct-row-is, struct-row-refused}
 use Rattle.validate_struct.proofs.struct_row.Statement.{statement}
 use Rattle.validate_struct.proofs.struct_row.Tie as tie
@@ -53,7 +54,7 @@ returns-2 c =
     let e = rw (c .before .before .before .before .before .before .before .before .before .member-part .ensures) at (sym (c .before .before .before .before .before .before .before .members-alignment .ensures .0) ∙ ap locatedResult (c .before .before .before .before .before .alignment .given .1)) in
     let part = take (a .count * memberWords) (drop (a .first * memberWords) (now (a .members))) in
     let r = required (sourcesLocated part) 2 0 0 _ _ e in
-    λ n. rw (T-true (sourcesLocated part) (r .0), struct-row-is (a .capabilities) m n (typeInner (now (a .types))) (take (a .i * 14) (now (a .rows))) (a .i) (a .first) (a .count) (a .span) (a .d) (a .e) _ fit _ (r .1))
+    λ n. rw (T-true (sourcesLocated part) (r .0), struct-row-is (leastFor (a .rule)) (a .capabilities) m n (typeInner (now (a .types))) (take (a .i * 14) (now (a .rows))) (a .i) (a .first) (a .count) (a .span) (a .d) (a .e) _ fit _ (r .1))
     (rw (c .before .before .before .before .before .before .before .before .before .member-part .ensures) at (c .before .before .members-row .ensures))
 
 returns-3 : tie.Need-returns-3
@@ -62,7 +63,7 @@ returns-3 c =
     let m = memberCount (now (a .members)) in
     let fit = sym (c .before .before .before .before .before .before .before .struct-fields .ensures (a .span)) ∙ not-false _ (c .before .before .before .before .before .before .if1 .left) in
     let e = rw (c .before .before .before .before .before .member-part .ensures) at (sym (c .before .before .before .members-alignment .ensures .0) ∙ ap locatedResult (c .before .number .given .1)) in
-    λ n. rw (struct-row-refused (a .capabilities) m n (typeInner (now (a .types))) (take (a .i * 14) (now (a .rows))) (a .i) (a .first) (a .count) (a .span) (a .d) (a .e) _ fit (sourcesLocated (take (a .count * memberWords) (drop (a .first * memberWords) (now (a .members))))) e) (refl, refl)
+    λ n. rw (struct-row-refused (leastFor (a .rule)) (a .capabilities) m n (typeInner (now (a .types))) (take (a .i * 14) (now (a .rows))) (a .i) (a .first) (a .count) (a .span) (a .d) (a .e) _ fit (sourcesLocated (take (a .count * memberWords) (drop (a .first * memberWords) (now (a .members))))) e) (refl, refl)
 
 pub struct-row-spec : {M : Type 1} → statement M
 struct-row-spec =

@@ -18,14 +18,14 @@ returns c =
     let a = c .before .before .before .before .before .before .before .before .before .before .args in
     λ k m n inner members.
     let laid = sym (c .before .before .before .before .before .before .before .array-record .ensures m n members) ∙ ap laidResult (c .before .before .before .before .before .l .given .1) in
-    rw (array-row-is k m n inner (take (a .i * 14) (now (a .rows))) (a .i) (a .base) (a .form) (a .count) (a .stride) (a .e) members _ laid)
+    rw (array-row-is (a .least) k m n inner (take (a .i * 14) (now (a .rows))) (a .i) (a .base) (a .form) (a .count) (a .stride) (a .e) members _ laid)
     (c .before .before .array-over .ensures)
 
 returns-2 : tie.Need-returns-2
 returns-2 c =
     let a = c .before .before .before .before .before .before .args in
     λ k m n inner members.
-    rw (refused-row k m n inner (take (a .i * 14) (now (a .rows))) (a .i) 7 (a .base) (a .form) (a .count) (a .stride) (a .e) members (sym (c .before .before .before .array-record .ensures m n members) ∙ ap laidResult (c .before .number .given .1)))
+    rw (refused-row (a .least) k m n inner (take (a .i * 14) (now (a .rows))) (a .i) 7 (a .base) (a .form) (a .count) (a .stride) (a .e) members (sym (c .before .before .before .array-record .ensures m n members) ∙ ap laidResult (c .before .number .given .1)))
     (refl, refl)
 
 pub array-row-spec : {M : Type 1} → statement M

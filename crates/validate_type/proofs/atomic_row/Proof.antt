@@ -15,8 +15,8 @@ returns : tie.Need-returns
 unfolding fieldsOk layoutOf trySize alignmentOf innerOf leafFlags
 returns c =
     let a = c .before .before .before .args in
-    λ m n i inner words members.
-    leaf-row (a .capabilities) m n inner words i members 4 (a .a) (a .b) (a .c) (a .d) (a .e) (c .joined .result) _
+    λ least m n i inner words members.
+    leaf-row least (a .capabilities) m n inner words i members 4 (a .a) (a .b) (a .c) (a .d) (a .e) (c .joined .result) _
     (c .before .before .scalar-layout .ensures m n i (layoutsIn words) members) (a .b) (Atomic (a .a) (a .b)) refl (λ l e. refl)
     (rw (c .before .atomic-flags .ensures) at (c .joined .ensures))
 

@@ -13,8 +13,8 @@ unfolding innerOf leafFlags
 returns c =
     let a = c .before .before .before .before .before .args in
     let laid = c .before .before .before .before .matrix-layout in
-    λ m n i inner words members.
-    leaf-row (a .capabilities) m n inner words i members 2 (a .a) (a .b) (a .c) (a .d) (a .e) (c .joined .result) _
+    λ least m n i inner words members.
+    leaf-row least (a .capabilities) m n inner words i members 2 (a .a) (a .b) (a .c) (a .d) (a .e) (c .joined .result) _
     (laid .ensures m n i (layoutsIn words) members) (c .before .before .alignment-in .result) (Matrix (a .a) (a .b) (a .c) (a .d)) refl
     (λ l e. c .before .before .alignment-in .ensures l e
     ∙ leaf-alignment-in m n i (layoutsIn words) 2 (a .a) (a .b) (a .c) (a .d) (a .e) members (Matrix (a .a) (a .b) (a .c) (a .d)) refl l (sym (laid .ensures m n i (layoutsIn words) members) ∙ e))

@@ -13,13 +13,13 @@ slice-aggregate-judge-plain c = let a = c .before .before .before .args in sym (
 returns : tie.Need-returns
 returns c =
     let a = c .before .before .before .before .before .before .before .before .before .before .before .before .args in
-    λ m members. rw (← c .before .before .before .before .before .before .before .before .judge-plain .ensures m (a .i) members, c .before .before .before .before .before .before .size .given .1)
+    λ least m members. rw (← c .before .before .before .before .before .before .before .before .judge-plain .ensures least m (a .i) members, c .before .before .before .before .before .before .size .given .1)
     (refl, rw (c .before .before .before .before .ok-verdict .ensures) at (c .before .before .put .ensures))
 
 returns-2 : tie.Need-returns-2
 returns-2 c =
     let a = c .before .before .before .before .before .before .before .args in
-    λ m members. rw (← c .before .before .before .judge-plain .ensures m (a .i) members, c .before .number .given .1) (refl, refl)
+    λ least m members. rw (← c .before .before .before .judge-plain .ensures least m (a .i) members, c .before .number .given .1) (refl, refl)
 
 pub plain-row-spec : {M : Type 1} → statement M
 plain-row-spec =

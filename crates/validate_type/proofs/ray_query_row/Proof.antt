@@ -15,8 +15,8 @@ returns : tie.Need-returns
 unfolding fieldsOk innerOf leafFlags layoutOf trySize alignmentOf
 returns c =
     let a = c .before .before .before .before .args in
-    λ m n i inner words members.
-    leaf-row (a .capabilities) m n inner words i members 12 (a .a) (a .b) (a .c) (a .d) (a .e) (c .joined .result) _
+    λ least m n i inner words members.
+    leaf-row least (a .capabilities) m n inner words i members 12 (a .a) (a .b) (a .c) (a .d) (a .e) (c .joined .result) _
     (rw (c .before .before .before .acceleration-fields .ensures m) at (c .before .before .handle-layout .ensures)) 1 (RayQuery (a .a)) refl (λ l e. refl)
     (rw (c .before .ray-query-flags .ensures) at (c .joined .ensures))
 

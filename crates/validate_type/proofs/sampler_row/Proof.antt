@@ -14,8 +14,8 @@ returns : tie.Need-returns
 unfolding innerOf nonDataFlags layoutOf trySize alignmentOf
 returns c =
     let a = c .before .before .before .before .args in
-    λ k m n i inner words members.
-    other-row k m n inner words i members 10 (a .a) (a .b) (a .c) (a .d) (a .e) (c .joined .result) _
+    λ least k m n i inner words members.
+    other-row least k m n inner words i members 10 (a .a) (a .b) (a .c) (a .d) (a .e) (c .joined .result) _
     (rw (c .before .before .before .sampler-fields .ensures m) at (c .before .before .handle-layout .ensures)) 1 Sampler refl refl
     (rw (c .before .sampler-flags .ensures) at (c .joined .ensures))
 

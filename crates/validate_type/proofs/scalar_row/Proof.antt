@@ -12,8 +12,8 @@ returns : tie.Need-returns
 unfolding innerOf leafFlags
 returns c =
     let a = c .before .before .before .before .args in
-    λ m n i inner words members.
-    leaf-row (a .capabilities) m n inner words i members 0 (a .a) (a .b) (a .c) (a .d) (a .e) (c .joined .result) _
+    λ least m n i inner words members.
+    leaf-row least (a .capabilities) m n inner words i members 0 (a .a) (a .b) (a .c) (a .d) (a .e) (c .joined .result) _
     (c .before .before .before .scalar-layout .ensures m n i (layoutsIn words) members) (a .b) (Scalar (a .a) (a .b)) refl (λ l e. refl)
     (rw (c .before .immediates-word .ensures, c .before .before .numeric-flags .ensures) at (c .joined .ensures))
 

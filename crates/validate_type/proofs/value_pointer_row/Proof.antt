@@ -14,8 +14,8 @@ returns : tie.Need-returns
 unfolding innerOf nonDataFlags layoutOf trySize alignmentOf
 returns c =
     let a = c .before .before .before .before .args in
-    λ m n i inner words members.
-    other-row (a .capabilities) m n inner words i members 6 (a .a) (a .b) (a .c) (a .d) (a .e) (c .joined .result) _
+    λ least m n i inner words members.
+    other-row least (a .capabilities) m n inner words i members 6 (a .a) (a .b) (a .c) (a .d) (a .e) (c .joined .result) _
     (rw (c .before .before .before .value-pointer-fields .ensures m) at (c .before .before .handle-layout .ensures)) 1 (ValuePointer (a .a) (a .b) (a .c)) refl refl
     (rw (c .before .value-pointer-flags .ensures) at (c .joined .ensures))
 
