@@ -58,6 +58,10 @@ mod random;
 mod recipes;
 mod records;
 mod reference;
+#[cfg(all(feature = "check", feature = "slots", feature = "place"))]
+mod renaming;
+#[cfg(all(feature = "check", feature = "slots", feature = "place"))]
+mod renaming_calls;
 #[cfg(all(feature = "slots", feature = "place", feature = "members"))]
 mod replay;
 mod report;
@@ -89,6 +93,7 @@ const USAGE: &str = "usage: layout COUNT [SEED]
        report COUNT [SEED]                      (feature report)
        plain COUNT [SEED]                       (feature plain)
        pass COUNT [SEED]                        (features pass, slots)
+       renaming COUNT [SEED]                    (features check, slots, place)
        replay COUNT [SEED [STDIN STDOUT]]       (features slots, place, members)
        member_records COUNT SEED FOLDER         (features slots, place)
        bench                                    (features check, slots, place)
@@ -130,6 +135,8 @@ fn main() -> ExitCode {
         "plain" => plain_calls::plain(first, seed),
         #[cfg(all(feature = "pass", feature = "slots"))]
         "pass" => pass_calls::pass(first, seed),
+        #[cfg(all(feature = "check", feature = "slots", feature = "place"))]
+        "renaming" => renaming_calls::renaming(first, seed),
         #[cfg(all(feature = "slots", feature = "place", feature = "members"))]
         "replay" => replay::replay(first, seed, words.get(3..).unwrap_or_default()),
         #[cfg(all(feature = "slots", feature = "place"))]

@@ -1,7 +1,7 @@
 -- What an arena whose first n types are accepted says of each of them: its row by its kind, powers of two, references, DATA.
 -- Assumes nothing.
 use mathlib.Core.Path.{_≡_, refl, sym, _∙_, ap, subst}
-use mathlib.Core.Bool.{_&&_}
+use mathlib.Core.Bool.{_&&_, not}
 use mathlib.Core.Logic.{_⊎_}
 use mathlib.Core.List.{List}
 use Prim.Native.Nat.{ℕ, zero, suc, _*_, _/_, _%_, _^_, _≤_, _<_}
@@ -18,6 +18,7 @@ use Rattle.records.specs.declared.Outcome.the-variants.{Accepted}
 use Rattle.records.specs.declared.Leaf.{Leaf}
 use Rattle.records.specs.declared.Leaf.the-variants.{Scalar, Vector, Matrix, CooperativeMatrix, Atomic, RayQuery}
 use Rattle.records.specs.declared.NonData.{NonData}
+use Rattle.records.specs.declared.NonData.the-variants.{Pointer, BindingArray}
 use Rattle.records.specs.declared.TypeInner.{TypeInner}
 use Rattle.records.specs.declared.TypeInner.the-variants.{Plain, Array, RuntimeArray, Struct, Other}
 use Rattle.records.proofs.ResultLaws.{required, ok-inj, and-left, and-right}
@@ -33,7 +34,7 @@ use Rattle.layouter.proofs.LayoutAccepted.{plain-layout, plain-width, array-lay
 use Rattle.layouter.proofs.LayoutPower.{layout-power}
 use Rattle.flags.specs.Flags.{bit, ioShareableFlag, dataBit, sizedBit, creationResolvedBit, isSizedData}
 use Rattle.flags.proofs.BitLaws.{bit-or-left, bit-or-right}
-use Rattle.type_flags.specs.TypeFlags.{leafFlags}
+use Rattle.type_flags.specs.TypeFlags.{leafFlags, pointerTo, isBindingBase, isExternalImage, bindingArrayOf}
 use Rattle.type_info.specs.declared.Row.{Row}
 use Rattle.type_info.specs.TypeInfo.{emptyRow}
 use Rattle.type_info.specs.Verdict.{minStorage, okVerdict, arrayVerdict, spanVerdict}
@@ -45,13 +46,14 @@ use Rattle.member_bounds.proofs.BoundsLaws.{MemberIn, members-in}
 use Rattle.member_rules.proofs.MemberLaws.{storage-power-after, uniform-power-after}
 use Rattle.member_bounds.proofs.BoundsSame.{bounds-rows}
 use Rattle.member_rules.proofs.MemberSame.{uniform-rows, storage-rows, immediates-rows}
-use Rattle.validate_type.specs.ValidateType.{flagsOf, leafVerdictAlignment, leafImmediates, uniformOf, storageOf, immediatesOf, rowOf, judge}
+use Rattle.validate_type.specs.ValidateType.{nonDataFlags, flagsOf, leafVerdictAlignment, leafImmediates, uniformOf, storageOf, immediatesOf, rowOf, judge}
 use Rattle.valid.specs.Arena.{judgeStep, judgedAt, row}
-use Rattle.valid_blend.proofs.BlendLaws.{blend-bit}
+use Rattle.valid_blend.specs.Blend.{structBlend}
+use Rattle.valid_blend.proofs.BlendLaws.{blend-rows, blend-bit}
 use Rattle.validate_type.proofs.StructFlags.{struct-flags}
 use Rattle.validate_type.proofs.CapabilityLaws.{HasAll, judge-more}
 use Rattle.validate_type.proofs.JudgeLaws.{Judged, judged-parts, isDataInner, flags-data}
-use Rattle.valid.proofs.DependLaws.{innerIn, rowsBefore, layout-at-depends, row-depends, judged-depends}
+use Rattle.valid.proofs.DependLaws.{innerIn, rowsBefore, flagged-earlier, layout-at-depends, row-depends, judged-depends}
 
 -- the first n types are accepted: fields within their bounds, layouts, and rows by any minimum alignment of uniform verdicts
 pub record AcceptedTypes (c : ℕ) (types : ℕ → Decoded) (n : ℕ) : Type 0 where
@@ -94,6 +96,7 @@ pub record StructRow (least : ℕ) (inner : ℕ → TypeInner) (rows : ℕ → R
   pub nonempty : 0 < count
   pub after : Bounds
   pub accepted : boundsAfter inner rows count span members count ≡ ok after
+  pub blend : structBlend inner rows members count (after .flags) ≡ ok (r .flags)
   -- blend sources may add IO_SHAREABLE, and nothing else
   pub flags : (k : ℕ) → ioShareableFlag / 2 ^ k % 2 ≡ 0 → bit (r .flags) k ≡ bit (after .flags) k
   pub size : r .size ≡ span
@@ -129,7 +132,7 @@ module _ (least c : ℕ) (types : ℕ → Decoded) (n : ℕ) (acc : AcceptedType
   row-before i k h = table-value emptyRow (judgeStep least c types) i k h
 
   -- the parts of that judgement, by what the record says
-  row-parts : (i : ℕ) → i < n → (this : TypeInner) → types i .inner ≡ this
+  pub row-parts : (i : ℕ) → i < n → (this : TypeInner) → types i .inner ≡ this
       → Judged least c (innerIn types) (rowsBefore least c types i) i (layout types i) this (types i .members) (row least c types i)
   row-parts i h this e =
       subst (λ (x : TypeInner). Judged least c (innerIn types) (rowsBefore least c types i) i (layout types i) x (types i .members) (row least c types i)) e
@@ -223,6 +226,7 @@ module _ (least c : ℕ) (types : ℕ → Decoded) (n : ℕ) (acc : AcceptedType
         nonempty = ltb→lt 0 count (s .nonempty);
         after = s .after;
         accepted = sym (bounds-rows before (row least c types) members count same (innerIn types) count span count (le-refl count)) ∙ s .accepted;
+        blend = sym (blend-rows (innerIn types) before (row least c types) members count (s .after .flags) same) ∙ s .blend;
         flags = blend-bit (innerIn types) before members count (s .after .flags) (row least c types i .flags) (s .blend);
         size = row-size i h ∙ struct-layout types n (acc .layouts) i h count span e .0;
         uniform =
@@ -248,6 +252,29 @@ module _ (least c : ℕ) (types : ℕ → Decoded) (n : ℕ) (acc : AcceptedType
   other-verdicts i h o e =
       let p = row-parts i h (Other o) e in
       (ap (λ (r : Row). r .uniform) (p .is), ap (λ (r : Row). r .storage) (p .is))
+
+  -- the base of a pointer is an earlier type; the pointer's flags are made from the base's
+  pub pointer-row : (i : ℕ) → i < n → (base space : ℕ) → types i .inner ≡ Other (Pointer base space)
+      → (base < i) × (pointerTo (row least c types base .flags) space ≡ ok (row least c types i .flags))
+  unfolding flagsOf nonDataFlags
+  pointer-row i h base space e =
+      let p = row-parts i h (Other (Pointer base space)) e .flags in
+      let a = required (bit (rowsBefore least c types i base .flags) dataBit) 13 0 0 _ (row least c types i .flags) p in
+      let l = flagged-earlier least c types i base dataBit (a .0) in
+      (l, ap (λ (b : Row). pointerTo (b .flags) space) (sym (row-before i base l)) ∙ p)
+
+  -- the base of a binding array is an earlier type; the binding array's flags are made from the base's
+  pub binding-array-row : (i : ℕ) → i < n → (base form count : ℕ) → types i .inner ≡ Other (BindingArray base form count)
+      → (base < i) × (bindingArrayOf (types base .inner) (row least c types base .flags) form ≡ ok (row least c types i .flags))
+  unfolding flagsOf nonDataFlags
+  binding-array-row i h base form count e =
+      let p = row-parts i h (Other (BindingArray base form count)) e .flags in
+      let flags = rowsBefore least c types i base .flags in
+      let x = required (isBindingBase (types base .inner) flags) 23 0 0 _ (row least c types i .flags) p in
+      let y = required (not (isExternalImage (types base .inner))) 24 0 0 _ (row least c types i .flags) (x .1) in
+      let z = required (bit flags creationResolvedBit) 17 0 0 _ (row least c types i .flags) (y .1) in
+      let l = flagged-earlier least c types i base creationResolvedBit (z .0) in
+      (l, ap (λ (b : Row). bindingArrayOf (types base .inner) (b .flags) form) (sym (row-before i base l)) ∙ p)
 
   -- ---- DATA: just leaves, arrays and structs
   pub data-kind : (i : ℕ) → i < n → bit (row least c types i .flags) dataBit ≡ isDataInner (types i .inner)

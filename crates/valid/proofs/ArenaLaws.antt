@@ -14,14 +14,16 @@ use Rattle.records.specs.Fields.{rowWords, tablesFit, capabilitiesKnown, record
 use Rattle.records.specs.Table.{firstRefusal}
 use Rattle.records.specs.declared.Outcome.{Outcome}
 use Rattle.records.specs.declared.Outcome.the-variants.{Accepted, Refused}
+use Rattle.records.specs.declared.NonData.the-variants.{Pointer, BindingArray}
 use Rattle.records.specs.declared.TypeInner.{TypeInner}
-use Rattle.records.specs.declared.TypeInner.the-variants.{Array, RuntimeArray, Struct}
-use Rattle.records.proofs.ResultLaws.{and-left, and-right}
+use Rattle.records.specs.declared.TypeInner.the-variants.{Array, RuntimeArray, Struct, Other}
+use Rattle.records.proofs.ResultLaws.{required, and-left, and-right}
 use Rattle.records.proofs.TableLaws.{also-accepted, all-ok}
 use Rattle.records.proofs.RecordLaws.{record-bounds}
 use Rattle.alignment.specs.Alignment.{Power}
 use Rattle.layouter.specs.Layouter.{layoutAt, layoutOutcome}
 use Rattle.flags.specs.Flags.{bit, dataBit, sizedBit}
+use Rattle.type_flags.specs.TypeFlags.{isBindingBase}
 use Rattle.type_info.specs.declared.UniformRule.{UniformRule}
 use Rattle.type_info.specs.Verdict.{minStorage, leastFor, isOk, alignmentIn}
 use Rattle.type_info.proofs.DistanceLaws.{least-power}
@@ -30,7 +32,7 @@ use Rattle.valid.specs.Arena.{judgedAt, row, judgeOutcome, arenaOutcome,
 use Rattle.validate_type.proofs.CapabilityLaws.{HasAll}
 use Rattle.validate_type.proofs.JudgeLaws.{isDataInner}
 use Rattle.valid.proofs.CommonLaws.{refused-common}
-use Rattle.valid.proofs.AcceptedLaws.{AcceptedTypes, array-row, runtime-array-row, base-sized, member-earlier, member-sized, data-kind, row-power, row-alignment-power, accepted-more, fewer-types, row-capability}
+use Rattle.valid.proofs.AcceptedLaws.{AcceptedTypes, array-row, runtime-array-row, base-sized, member-earlier, member-sized, pointer-row, binding-array-row, data-kind, row-power, row-alignment-power, accepted-more, fewer-types, row-capability}
 use Rattle.valid.proofs.AppendLaws.{types-append, decoded-append}
 
 -- ---- an accepted arena, taken apart and put together
@@ -209,3 +211,18 @@ module _ (rule : UniformRule) (c : ℕ) (ts ms : List ℕ) (accepted : arena c t
         member-earlier (leastFor rule) c (decoded ts ms) (typeCount ts) acc i within count span e j l,
         member-sized (leastFor rule) c (decoded ts ms) (typeCount ts) acc i within count span e j l,
       )
+
+  -- a pointer's base is an earlier type, and DATA
+  pub arena-pointer-base : (base space : ℕ) → typeInner ts i ≡ Other (Pointer base space)
+      → (base < i) × T (bit (row (leastFor rule) c (decoded ts ms) base .flags) dataBit)
+  arena-pointer-base base space e =
+      let a = pointer-row (leastFor rule) c (decoded ts ms) (typeCount ts) (accepted-types c ts ms accepted) i within base space e in
+      (a .0, required (bit (row (leastFor rule) c (decoded ts ms) base .flags) dataBit) 13 0 0 _ (row (leastFor rule) c (decoded ts ms) i .flags) (a .1) .0)
+
+  -- a binding array's base is an earlier type, and a struct where it is DATA
+  pub arena-binding-array-base : (base form count : ℕ) → typeInner ts i ≡ Other (BindingArray base form count)
+      → (base < i) × T (isBindingBase (typeInner ts base) (row (leastFor rule) c (decoded ts ms) base .flags))
+  arena-binding-array-base base form count e =
+      let a = binding-array-row (leastFor rule) c (decoded ts ms) (typeCount ts) (accepted-types c ts ms accepted) i within base form count e in
+      let flags = row (leastFor rule) c (decoded ts ms) base .flags in
+      (a .0, required (isBindingBase (typeInner ts base) flags) 23 0 0 _ (row (leastFor rule) c (decoded ts ms) i .flags) (a .1) .0)

@@ -1,7 +1,8 @@
 -- The layout and the row of a type depend on the records up to that type alone.
 -- Assumes nothing.
 use mathlib.Core.Path.{_≡_, sym, _∙_, ap}
-use Prim.Native.Nat.{ℕ, _<_}
+use Prim.Native.Nat.{ℕ, _^_, _<_}
+use native.Mathlib.Nat.{zero-div}
 use native.Mathlib.Decide.{decLt}
 use native.Mathlib.Omega.{arith}
 use lib.Dec.{T}
@@ -29,13 +30,13 @@ innerIn types k = types k .inner
 abbrev pub rowsBefore : (least c : ℕ) (types : ℕ → Decoded) → ℕ → ℕ → Row
 rowsBefore least c types = table emptyRow (judgeStep least c types)
 
--- a type whose row is CREATION_RESOLVED where i is judged is an earlier type
-pub resolved-earlier : (least c : ℕ) (types : ℕ → Decoded) (i k : ℕ) → T (bit (rowsBefore least c types i k .flags) creationResolvedBit) → k < i
-resolved-earlier least c types i k t = go (decLt k i)
+-- a type whose row has a flag where i is judged is an earlier type
+pub flagged-earlier : (least c : ℕ) (types : ℕ → Decoded) (i k flag : ℕ) → T (bit (rowsBefore least c types i k .flags) flag) → k < i
+flagged-earlier least c types i k flag t = go (decLt k i)
   where
     go : Dec (k < i) → k < i
     go (yes h) = h
-    go (no h) = absurd (rw (table-above emptyRow (judgeStep least c types) i k (omega arith)) at t)
+    go (no h) = absurd (rw (table-above emptyRow (judgeStep least c types) i k (omega arith), zero-div (2 ^ flag)) at t)
 
 -- ---- two arenas whose records below n are the same
 module _ (types types′ : ℕ → Decoded) (n : ℕ) (same : (k : ℕ) → k < n → types k ≡ types′ k) where
@@ -73,14 +74,14 @@ module _ (types types′ : ℕ → Decoded) (n : ℕ) (same : (k : ℕ) → k < 
     forth i h r e =
         sym (record-same (innerIn types′) (rowsBefore least c types i) i h)
         ∙ judge-inner c (innerIn types) (innerIn types′) (rowsBefore least c types i)
-        (λ k t. let l = resolved-earlier least c types i k t in ap (λ (d : Decoded). d .inner) (same k (omega arith)))
+        (λ k t. let l = flagged-earlier least c types i k creationResolvedBit t in ap (λ (d : Decoded). d .inner) (same k (omega arith)))
         least i (layout types i) (types i .inner) (types i .members) r e
 
     -- and the other way round
     back : (i : ℕ) → i < n → (r : Row) → judgeStep least c types′ (rowsBefore least c types i) i ≡ ok r → judgeStep least c types (rowsBefore least c types i) i ≡ ok r
     back i h r e =
         judge-inner c (innerIn types′) (innerIn types) (rowsBefore least c types i)
-        (λ k t. let l = resolved-earlier least c types i k t in ap (λ (d : Decoded). d .inner) (sym (same k (omega arith))))
+        (λ k t. let l = flagged-earlier least c types i k creationResolvedBit t in ap (λ (d : Decoded). d .inner) (sym (same k (omega arith))))
         least i (layout types i) (types i .inner) (types i .members) r (record-same (innerIn types′) (rowsBefore least c types i) i h ∙ e)
 
     -- so the rows made are the same

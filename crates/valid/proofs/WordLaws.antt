@@ -15,6 +15,7 @@ use Rattle.records.specs.declared.Outcome.the-variants.{Accepted, Refused}
 use Rattle.records.proofs.TableLaws.{flat-length, flat-word}
 use Rattle.rows.specs.Rows.{rowWord}
 use Rattle.layouter.specs.Layouter.{rowsAfter}
+use Rattle.type_info.specs.TypeInfo.{wordsOf, rowsIn}
 use Rattle.type_info.specs.declared.UniformRule.{UniformRule}
 use Rattle.type_info.specs.Verdict.{leastFor}
 use Rattle.valid.specs.Arena.{row, rowAt, arenaRows, arenaOutcome, arenaFits, arenaAnswer, arenaWords}
@@ -34,3 +35,19 @@ module _ (rule : UniformRule) (c : ℕ) (ts ms rows : List ℕ) (accepted : aren
           ∙ flat-word (rowAt (leastFor rule) c ts ms) rowWords (λ i. row-length (row (leastFor rule) c (decoded ts ms) i)) (typeCount ts) k j h l
       go true (Refused number ty member detail) q = let z : _≡_ {A = ℕ} 0 1 = cc in absurd (omega arith)
       go false o q = let z : _≡_ {A = ℕ} 0 1 = cc in absurd (omega arith)
+
+-- the row of type k, read from the words
+pub row-left : (rule : UniformRule) (c : ℕ) (ts ms rows : List ℕ) → arenaAnswer c ts ms rows ≡ Accepted → (k : ℕ) → k < typeCount ts
+    → rowsIn (arenaWords rule c ts ms rows) k ≡ row (leastFor rule) c (decoded ts ms) k
+unfolding rowsIn wordsOf
+row-left rule c ts ms rows accepted k h =
+    let word : (j : ℕ) → j < rowWords → rowWord (arenaWords rule c ts ms rows) k j ≡ getD (rowAt (leastFor rule) c ts ms k) j 0 =
+    λ j l. word-left rule c ts ms rows accepted k j h l in
+    λ x. record {
+      size = word 0 (omega arith) x;
+      alignment = word 1 (omega arith) x;
+      flags = word 2 (omega arith) x;
+      uniform = record { code = word 3 (omega arith) x; ty = word 4 (omega arith) x; index = word 5 (omega arith) x; value = word 6 (omega arith) x; bound = word 7 (omega arith) x };
+      storage = record { code = word 8 (omega arith) x; ty = word 9 (omega arith) x; index = word 10 (omega arith) x; value = word 11 (omega arith) x; bound = word 12 (omega arith) x };
+      immediates = word 13 (omega arith) x;
+    }

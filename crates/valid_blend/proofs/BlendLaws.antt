@@ -291,6 +291,15 @@ blend-inner inner inner′ rows members n flags same = go (sourceAt members 1 n)
     go (suc a) (suc b) h l = rw (same a h, same b l) refl
 
 -- ---- flags: as they were, or with IO_SHAREABLE
+-- two sources that pass make the struct IO_SHAREABLE
+pub pair-flags : (inner : ℕ → TypeInner) (rows : ℕ → Row) (members : List ℕ) (other : Bool) (flags a b f : ℕ) → pairOf inner rows members other flags a b ≡ ok f
+    → f ≡ bitOr flags ioShareableFlag
+pair-flags inner rows members other flags a b f q =
+    let x = required (not other) 34 0 3 _ f q in
+    let y = required (sameType (inner (memberType members a)) (inner (memberType members b))) 34 0 4 _ f (x .1) in
+    let w = required (bit (rows (memberType members a) .flags) ioShareableBit) 34 0 5 _ f (y .1) in
+    sym (ok-inj (w .1))
+
 pub blend-flags : (inner : ℕ → TypeInner) (rows : ℕ → Row) (members : List ℕ) (count flags f : ℕ) → structBlend inner rows members count flags ≡ ok f
     → (f ≡ flags) ⊎ (f ≡ bitOr flags ioShareableFlag)
 unfolding structBlend
@@ -300,11 +309,7 @@ blend-flags inner rows members count flags f e = go (sourceAt members 1 count) (
     go zero zero q = inl (sym (ok-inj q))
     go zero (suc b) q = let z : _≡_ {A = ℕ} 0 1 = cc in absurd (omega arith)
     go (suc a) zero q = let z : _≡_ {A = ℕ} 0 1 = cc in absurd (omega arith)
-    go (suc a) (suc b) q =
-        let x = required (not (otherLocation members count)) 34 0 3 _ f q in
-        let y = required (sameType (inner (memberType members a)) (inner (memberType members b))) 34 0 4 _ f (x .1) in
-        let w = required (bit (rows (memberType members a) .flags) ioShareableBit) 34 0 5 _ f (y .1) in
-        inr (sym (ok-inj (w .1)))
+    go (suc a) (suc b) q = inr (pair-flags inner rows members (otherLocation members count) flags a b f q)
 
 -- a bit that the second word lacks is the first word's
 bit-or-clear : (x y k : ℕ) → y / 2 ^ k % 2 ≡ 0 → bit (bitOr x y) k ≡ bit x k

@@ -1,0 +1,11 @@
+pub mod ReachLaws
+pub mod Arenas
+pub mod InnerRenamed
+pub mod VerdictRenamed
+pub mod MembersRenamed
+pub mod BlendRenamed
+pub mod RowRenamed
+pub mod WalksRenamed
+pub mod RenamingProof
+pub mod CallsProof
+pub mod Instance
