@@ -1,5 +1,5 @@
-/* Type tables of naga 30.0.1: layouts, verdicts, immediate slots, passes tried with them, places and a report of bytes; and plain types
- * from a table.
+/* Type tables of naga 30.0.1: layouts, verdicts, immediate slots, passes tried with them, places and a report of bytes; plain types
+ * from a table; and type tables from SPIR-V.
  *
  * Link with libdoors.a (x86-64 Linux). Nothing is kept between calls, nothing is allocated.
  *
@@ -24,7 +24,7 @@
  *  - number 1: untouched.
  *  - numbers 2 to 24 and 34: n * WULDAZIN_ROW_WORDS zeros.
  *
- * answer takes WULDAZIN_ANSWER_WORDS words: number, type, member, detail; all 0 when accepted. Numbers 1, 25, 26, 36 and 37, and 2 of
+ * answer takes WULDAZIN_ANSWER_WORDS words: number, type, member, detail; all 0 when accepted. Numbers 1, 25, 26, 28 to 30, 36 and 37, and 2 of
  * wuldazin_plain, have zeros after the number. member is the position in the struct for 6 and 17 to 21, else 0; detail is the missing
  * capability's bit for 8, what is wrong with a blend source for 34, else 0.
  *
@@ -35,7 +35,7 @@
  * chosen, 0 or not. The host keeps them from call to call; any three words are a pass. An accepted step writes all three, 1 for a
  * pipeline; a refused one writes none. On a shorter buffer every step is refused with number 1, before everything else.
  *
- * An answer, place, totals, numbers, missing or part buffer that is too short for its words is left as it was. Words after its own are left in every buffer.
+ * An answer, place, totals, numbers, counts, missing or part buffer that is too short for its words is left as it was. Words after its own are left in every buffer.
  */
 #ifndef WULDAZIN_H
 #define WULDAZIN_H
@@ -212,6 +212,9 @@ enum {
     WULDAZIN_SLOTS_PAST = 25,
     WULDAZIN_NO_SUCH_PLACE = 26,
     WULDAZIN_NARROW_STRIDE = 27,
+    WULDAZIN_SPIRV_WORDS = 28,
+    WULDAZIN_SPIRV_UNSUPPORTED = 29,
+    WULDAZIN_SPIRV_UNSOUND = 30,
     WULDAZIN_BLEND_SOURCE = 34,
     WULDAZIN_NOT_READY = 36,
     WULDAZIN_NO_IMMEDIATES = 37
@@ -232,7 +235,7 @@ static inline const char *wuldazin_meaning(uint32_t number) {
     switch (number) {
     case WULDAZIN_ACCEPTED: return "accepted";
     case WULDAZIN_TABLE_LENGTH:
-        return "a table is no whole number of records or too long, the rows, the report or the pass are too short, or a capability bit above 13 is set";
+        return "a table is no whole number of records or too long, the rows, the report or the pass are too short, a module has more records than the tables admit, or a capability bit above 13 is set";
     case WULDAZIN_FIELD:
         return "a field lies outside its set, member rows reach past the table, a blend source has no location, or no plain type has that shape and width";
     case WULDAZIN_BASE_OUTSIDE: return "the base of a pointer or binding array lies outside the arena";
@@ -260,6 +263,12 @@ static inline const char *wuldazin_meaning(uint32_t number) {
     case WULDAZIN_SLOTS_PAST: return "a nonempty part ends past byte 256, or an offset sum leaves 32 bits";
     case WULDAZIN_NO_SUCH_PLACE: return "no type has that number, or the steps lead to no place";
     case WULDAZIN_NARROW_STRIDE: return "a host-shareable struct reaches an array with a stride below its element's size";
+    case WULDAZIN_SPIRV_WORDS:
+        return "a SPIR-V header is short or has another magic number, or a word count is 0, past the end or too small";
+    case WULDAZIN_SPIRV_UNSUPPORTED:
+        return "a SPIR-V type that is not read is referred to, a width, a signedness, an encoding or a number of parts is not supported, or a matrix is stored otherwise";
+    case WULDAZIN_SPIRV_UNSOUND:
+        return "a SPIR-V id is missing, still to come, given twice or of the wrong sort, a size leaves 32 bits, or an Offset, an ArrayStride or an array's length is not in order";
     case WULDAZIN_BLEND_SOURCE: return "the blend sources of a struct's members are refused";
     case WULDAZIN_NOT_READY: return "a dispatch has no pipeline, or slots that it needs are not set";
     case WULDAZIN_NO_IMMEDIATES: return "a type's immediates word is not 0, or a range's offset or size is no multiple of 4";
@@ -383,6 +392,21 @@ void wuldazin_report(const uint32_t *types, size_t types_length,
 void wuldazin_plain(uint32_t shape, uint32_t width,
                     uint32_t *numbers, size_t numbers_length,
                     uint32_t *answer, size_t answer_length);
+
+/* The type section of a SPIR-V module into type and member records, in word order: OpTypeBool, Int, Float, Vector, Matrix, Array,
+ * RuntimeArray and Struct, an OpConstant of an integer type where it is an array's length, and the decorations Offset, ArrayStride,
+ * MatrixStride and RowMajor that stand before their type. Other instructions are skipped. Members get no location and no blend source.
+ * Every type of the eight is read, used in a buffer or not, and needs its decorations.
+ * counts: two words, how many types and how many members; zeros on a refusal.
+ * Accepted: the records from the start of types and members, the words after them as they were; cut the tables to the counts before
+ * they are judged. Refused: all words of types and members are 0. Numbers 28 to 30 and 1, the first instruction's in word order, of one
+ * instruction the least, 1 last. The time is linear in words that are skipped, and grows with the product of the ids and decorations
+ * before a type and the ids that it names. */
+void wuldazin_read_spirv(const uint32_t *words, size_t words_length,
+                         uint32_t *types, size_t types_length,
+                         uint32_t *members, size_t members_length,
+                         uint32_t *counts, size_t counts_length,
+                         uint32_t *answer, size_t answer_length);
 
 /* The member rows of struct ty, as a part of members: its first word and how many words it has. Judges nothing.
  * part: two words; zeros for a number that is no struct, or whose rows reach past the table. */

@@ -32,9 +32,10 @@ enum {
 
 enum { LAST_NUMBER = 37, UNANSWERED }; /* UNANSWERED: the buffer was too short for an answer */
 
-enum { LAYOUT, JUDGE, CHECK, RANGE, SLOTS, CONTAINS, DIFFERENCE, UNION, START, SET, CHOOSE, DISPATCH, PLACE, REPORT, PLAIN, MEMBERS, DOORS };
+enum { LAYOUT, JUDGE, CHECK, RANGE, SLOTS, CONTAINS, DIFFERENCE, UNION, START, SET, CHOOSE, DISPATCH, PLACE, REPORT, PLAIN, SPIRV, MEMBERS, DOORS };
 static const char *const door_names[DOORS] = {"layout", "judge", "check",  "range",    "slots", "contains", "difference", "union",
-                                              "start",  "set",   "choose", "dispatch", "place", "report",   "plain",      "members"};
+                                              "start",  "set",   "choose", "dispatch", "place", "report",   "plain",      "spirv",
+                                              "members"};
 
 typedef struct {
     size_t types_length, members_length;
@@ -56,7 +57,7 @@ typedef struct {
 
 static Tables templates[TEMPLATES], now;
 static Lent types, members, steps, rows, report, output, answer;
-static uint32_t noise[ROWS_MOST + 1024];
+static uint32_t noise[LENT_MOST + 1024];
 static unsigned char guard[GUARD];
 static uint64_t seed = 1, call, state;
 static int door;
@@ -398,7 +399,7 @@ static uint32_t number_of(bool fits, uint32_t count) {
     require(a[0] <= LAST_NUMBER, "number above the last");
     require((a[0] == 1) == !fits, "number 1 given or kept back wrongly");
     require(a[1] < count || a[1] == 0, "type outside the arena");
-    bool bare = a[0] <= 1 || a[0] == 25 || a[0] == 26 || (a[0] > 27 && a[0] != 34) || door == PLAIN;
+    bool bare = a[0] <= 1 || a[0] == 25 || a[0] == 26 || (a[0] > 27 && a[0] != 34) || door == PLAIN || door == SPIRV;
     require(!bare || (a[1] | a[2] | a[3]) == 0, "words beside a number that has none");
     require((a[0] != 27 && a[0] != 34) || a[2] == 0, "member beside a number that has none");
     require(a[0] == 8 ? a[3] <= 13 : a[0] == 34 ? a[3] >= 1 && a[3] <= 6 : a[3] == 0, "detail");
@@ -592,10 +593,95 @@ static void look_at_check(uint32_t capabilities, uint32_t rule, size_t length, u
     require(!memcmp(rows.data, row, 56 * count), "the other rule changes more than uniform verdicts");
 }
 
+/* ---- modules */
+static uint32_t *put(uint32_t *w, uint32_t opcode, uint32_t count, const uint32_t *operands) {
+    *w++ = count << 16 | opcode;
+    for (uint32_t i = 1; i < count; i++) *w++ = operands[i - 1];
+    return w;
+}
+
+/* One type, with its decorations before it: an id is a type's number plus one, that of a constant 1000 more. */
+static uint32_t *put_type(uint32_t *w, uint32_t id) {
+    uint32_t base = id > 1 && below(16) ? 1 + below(id - 1) : below(id + 2), n = 2 + below(below(8) ? 3 : 5);
+    switch (below(9)) {
+    case 0: return put(w, 20, 2, (uint32_t[]){id});
+    case 1: return put(w, 21, 4, (uint32_t[]){id, 8u << below(below(8) ? 4 : 6), below(below(8) ? 2 : 3)});
+    case 2: return put(w, 22, below(16) ? 3 : 4, (uint32_t[]){id, 8u << below(4), 0});
+    case 3: return put(w, 23, 4, (uint32_t[]){id, base, n});
+    case 4: return put(w, 24, 4, (uint32_t[]){id, base, n});
+    case 5:
+        w = put(w, 71, 4, (uint32_t[]){id, 6, below(8) ? 16 : wild()});
+        w = put(w, 43, 4, (uint32_t[]){base, 1000 + id, wild()});
+        return put(w, 28, 4, (uint32_t[]){id, base, 1000 + 1 + below(id)});
+    case 6:
+        if (below(8)) w = put(w, 71, 4, (uint32_t[]){id, 6, wild()});
+        return put(w, 29, 3, (uint32_t[]){id, base});
+    case 7: return put(w, 19 + below(20), 2, (uint32_t[]){id});
+    default: {
+        uint32_t members[10] = {id}, count = below(6);
+        for (uint32_t j = 0; j < count; j++) {
+            w = put(w, 72, 5, (uint32_t[]){id, j, below(32) ? 35 : 7, below(8) ? 16 * j : wild()});
+            if (below(16) == 0) w = put(w, 72, 5, (uint32_t[]){id, j, 7, 16});
+            members[1 + j] = id > 1 ? 1 + below(id - 1) : 1;
+        }
+        return put(w, 30, 2 + count, members);
+    }
+    }
+}
+
+/* A module, most of it in order; or any words. */
+static size_t make_module(uint32_t *list) {
+    size_t length = any_length(STEPS_MOST);
+    if (below(8) == 0) {
+        for (size_t i = 0; i < length; i++) list[i] = i ? wild() : 0x07230203;
+        return length;
+    }
+    uint32_t *w = list, id = 0, types = below(below(4) ? 8 : 60);
+    for (int i = 0; i < 5; i++) *w++ = i ? wild() : 0x07230203;
+    while (id < types && w < list + STEPS_MOST - 100) w = put_type(w, ++id);
+    length = w - list;
+    if (below(3) == 0) list[below(length)] = wild();
+    if (below(8) == 0) length = below(length + 1);
+    return length;
+}
+
+/* Refused: zeros in both tables. Accepted: no more records than there is room for, and the rest as it was. */
+static void spirv_call(size_t answer_length, size_t counts_length) {
+    static uint32_t list[STEPS_MOST];
+    size_t length = make_module(list), tl = below(4) ? 600 : any_length(TYPES_MOST), ml = below(4) ? 600 : any_length(MEMBERS_MOST);
+    const uint32_t *w = lend(&steps, list, 4 * length);
+    uint32_t *t = lend(&types, noise + below(1024), 4 * tl), *m = lend(&members, noise + below(1024), 4 * ml);
+    uint32_t *c = lend(&output, noise + below(1024), 4 * counts_length), *a = lend(&answer, noise + below(1024), 4 * answer_length);
+    uint32_t found[2] = {0, 0}, all = 0;
+    wuldazin_read_spirv(w, length, t, tl, m, ml, c, counts_length, a, answer_length);
+    if (counts_length >= 2) memcpy(found, output.data, sizeof found);
+    if (answer_length >= 4) {
+        memcpy(&all, answer.data, 4);
+        uint32_t number = number_of(all != 1, 0);
+        require(number <= 1 || (number >= 28 && number <= 30), "number of another door");
+        if (number) {
+            for (size_t i = 0; i < tl; i++) require(t[i] == 0, "a type word beside a refusal");
+            for (size_t i = 0; i < ml; i++) require(m[i] == 0, "a member word beside a refusal");
+            require((found[0] | found[1]) == 0, "counts beside a refusal");
+        }
+        require(found[0] <= tl / 6 && found[0] <= 1024 && found[1] <= ml / 4 && found[1] <= 4096, "more records than there is room for");
+        bool told = !number && counts_length >= 2;
+        take_back(&types, told ? 24 * found[0] : 4 * tl);
+        take_back(&members, told ? 16 * found[1] : 4 * ml);
+    } else {
+        unanswered++;
+        take_back(&types, 4 * tl);
+        take_back(&members, 4 * ml);
+    }
+    take_back(&steps, 0);
+    take_back(&output, counts_length < 2 ? 0 : 8);
+    take_back(&answer, answer_length < 4 ? 0 : 16);
+}
+
 static void one_call(void) {
     static uint32_t list[STEPS_MOST];
     static const unsigned char choice[] = {LAYOUT, JUDGE, JUDGE, CHECK,  CHECK,  RANGE,  SLOTS,    SLOTS, SLOTS, CONTAINS, DIFFERENCE, UNION, START,
-                                           SET,    SET,   CHOOSE, CHOOSE, CHOOSE, DISPATCH, PLACE, PLACE, PLACE, REPORT,   REPORT,     PLAIN, MEMBERS};
+                                           SET,    SET,   CHOOSE, CHOOSE, CHOOSE, DISPATCH, PLACE, PLACE, PLACE, REPORT,   REPORT,     PLAIN, SPIRV, SPIRV, SPIRV, MEMBERS};
     size_t answer_length = below(16) ? 4 + below(ANSWER_MOST - 3) : below(4), output_length = below(OUTPUT_MOST + 1);
     uint64_t out[2] = {0, 0};
     door = choice[below(sizeof choice)];
@@ -607,6 +693,11 @@ static void one_call(void) {
     }
     if (door == PLAIN) {
         plain_call(answer_length, output_length);
+        doors[door]++;
+        return;
+    }
+    if (door == SPIRV) {
+        spirv_call(answer_length, output_length);
         doors[door]++;
         return;
     }
@@ -726,7 +817,7 @@ int main(int words, char **word_list) {
     double seconds = (end.tv_sec - start.tv_sec) + 1e-9 * (end.tv_nsec - start.tv_nsec);
 
     for (int d = 0; d < DOORS; d++) printf("%-10s %9llu calls\n", door_names[d], (unsigned long long)doors[d]);
-    for (int n = 0; n <= LAST_NUMBER; n++) if (n <= 27 || n == 34 || n >= 36) printf("number %2d %9llu\n", n, (unsigned long long)numbers[n]);
+    for (int n = 0; n <= LAST_NUMBER; n++) if (n <= 30 || n == 34 || n >= 36) printf("number %2d %9llu\n", n, (unsigned long long)numbers[n]);
     for (int d = 1; d <= 6; d++) printf("number 34, detail %d %9llu\n", d, (unsigned long long)blend_details[d]);
     printf("answer too short %llu\n", (unsigned long long)unanswered);
     printf("places that are columns %llu\n", (unsigned long long)columns);

@@ -10,7 +10,8 @@
         feature = "members",
         feature = "report",
         feature = "plain",
-        feature = "pass"
+        feature = "pass",
+        feature = "spirv"
     )),
     allow(dead_code)
 )]
@@ -75,6 +76,9 @@ mod sized;
 #[cfg(feature = "slots")]
 mod slot_calls;
 mod slots;
+mod spirv;
+#[cfg(feature = "spirv")]
+mod spirv_calls;
 #[cfg(all(feature = "check", feature = "slots", feature = "place"))]
 mod stopwatch;
 mod tables;
@@ -94,6 +98,7 @@ const USAGE: &str = "usage: layout COUNT [SEED]
        plain COUNT [SEED]                       (feature plain)
        pass COUNT [SEED]                        (features pass, slots)
        renaming COUNT [SEED]                    (features check, slots, place)
+       spirv COUNT [SEED]                       (feature spirv)
        replay COUNT [SEED [STDIN STDOUT]]       (features slots, place, members)
        member_records COUNT SEED FOLDER         (features slots, place)
        bench                                    (features check, slots, place)
@@ -137,6 +142,8 @@ fn main() -> ExitCode {
         "pass" => pass_calls::pass(first, seed),
         #[cfg(all(feature = "check", feature = "slots", feature = "place"))]
         "renaming" => renaming_calls::renaming(first, seed),
+        #[cfg(feature = "spirv")]
+        "spirv" => spirv_calls::spirv(first, seed),
         #[cfg(all(feature = "slots", feature = "place", feature = "members"))]
         "replay" => replay::replay(first, seed, words.get(3..).unwrap_or_default()),
         #[cfg(all(feature = "slots", feature = "place"))]

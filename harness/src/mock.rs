@@ -256,6 +256,43 @@ unsafe extern "C" fn wuldazin_plain(
     }
 }
 
+#[cfg(feature = "spirv")]
+#[no_mangle]
+unsafe extern "C" fn wuldazin_read_spirv(
+    words: *const u32,
+    words_len: usize,
+    types: *mut u32,
+    types_len: usize,
+    members: *mut u32,
+    members_len: usize,
+    counts: *mut u32,
+    counts_len: usize,
+    answer: *mut u32,
+    answer_len: usize,
+) {
+    let words = std::slice::from_raw_parts(words, words_len);
+    let types = from_raw_parts_mut(types, types_len);
+    let members = from_raw_parts_mut(members, members_len);
+    let counts = from_raw_parts_mut(counts, counts_len);
+    let answer = from_raw_parts_mut(answer, answer_len);
+    counts[..2].fill(0);
+    answer[..4].fill(0);
+    match crate::spirv::read(words, types.len() / 6, members.len() / 4) {
+        Ok(section) => {
+            let (t, m) = (section.types.as_flattened(), section.members.as_flattened());
+            types[..t.len()].copy_from_slice(t);
+            members[..m.len()].copy_from_slice(m);
+            counts[0] = section.types.len() as u32;
+            counts[1] = section.members.len() as u32;
+        }
+        Err(number) => {
+            types.fill(0);
+            members.fill(0);
+            answer[0] = number;
+        }
+    }
+}
+
 /// An accepted step leaves its pass.
 #[cfg(feature = "pass")]
 fn leave(words: &mut [u64], after: Option<crate::pass::Pass>) {

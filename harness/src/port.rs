@@ -117,6 +117,19 @@ extern "C" {
         part: *mut u64,
         part_len: usize,
     );
+    #[cfg(feature = "spirv")]
+    fn wuldazin_read_spirv(
+        words: *const u32,
+        words_len: usize,
+        types: *mut u32,
+        types_len: usize,
+        members: *mut u32,
+        members_len: usize,
+        counts: *mut u32,
+        counts_len: usize,
+        answer: *mut u32,
+        answer_len: usize,
+    );
     #[cfg(feature = "plain")]
     fn wuldazin_plain(
         shape: u32,
@@ -331,6 +344,31 @@ pub fn members(types: &[u32], members: &[u32], ty: u32, part: &mut [u64]) {
             ty,
             part.as_mut_ptr(),
             part.len(),
+        )
+    }
+}
+
+#[cfg(feature = "spirv")]
+pub fn read_spirv(
+    words: &[u32],
+    types: &mut [u32],
+    members: &mut [u32],
+    counts: &mut [u32],
+    answer: &mut [u32],
+) {
+    // As above.
+    unsafe {
+        wuldazin_read_spirv(
+            words.as_ptr(),
+            words.len(),
+            types.as_mut_ptr(),
+            types.len(),
+            members.as_mut_ptr(),
+            members.len(),
+            counts.as_mut_ptr(),
+            counts.len(),
+            answer.as_mut_ptr(),
+            answer.len(),
         )
     }
 }

@@ -21,6 +21,8 @@ use Rattle.place.specs.declared.PlaceAnswer.{PlaceAnswer}
 use Rattle.place.specs.declared.PlaceAnswer.the-variants as place
 use Rattle.plain_types.specs.declared.PlainAnswer.{PlainAnswer}
 use Rattle.plain_types.specs.declared.PlainAnswer.the-variants as plain
+use Rattle.spirv.specs.declared.Section.{Section}
+use Rattle.spirv.specs.declared.Section.the-variants as section
 use Rattle.report.specs.declared.ReportAnswer.{ReportAnswer}
 use Rattle.report.specs.declared.ReportAnswer.the-variants as report
 
@@ -44,6 +46,10 @@ plainOutcome (plain.Refused number ty member detail) = Refused number ty member 
 abbrev pub totalsOutcome : ReportAnswer → Outcome
 totalsOutcome (report.Totals carried wasted) = Accepted
 totalsOutcome (report.Refused number ty member detail) = Refused number ty member detail
+
+abbrev pub sectionOutcome : Section → Outcome
+sectionOutcome (section.Read types members) = Accepted
+sectionOutcome (section.Refused number) = Refused number 0 0 0
 
 -- ---- the words beside it; zeros on a refusal
 -- the two masks
@@ -71,6 +77,15 @@ carriedOf (report.Refused number ty member detail) = 0
 abbrev pub wastedOf : ReportAnswer → ℕ
 wastedOf (report.Totals carried wasted) = wasted
 wastedOf (report.Refused number ty member detail) = 0
+
+-- how many types and members were read
+abbrev pub typesRead : Section → ℕ
+typesRead (section.Read types members) = types
+typesRead (section.Refused number) = 0
+
+abbrev pub membersRead : Section → ℕ
+membersRead (section.Read types members) = members
+membersRead (section.Refused number) = 0
 
 abbrev pub numbersOf : PlainAnswer → List ℕ
 numbersOf (plain.Found size alignment step) = size ∷ alignment ∷ step ∷ []

@@ -6,6 +6,7 @@ use plain_types::PlainAnswer;
 use records::Outcome;
 use report::ReportAnswer;
 use slots::SlotsAnswer;
+use spirv::Section;
 ghost use mathlib.Core.Path.{_≡_};
 ghost use mathlib.Core.List.{_∷_};
 ghost use Prim.Native.Nat.{_*_, _≤_};
@@ -23,7 +24,8 @@ ghost use Rattle.immediates_pass.specs.Pass.{begin, SetRange, Choose, Dispatch}
 ghost use Rattle.place.specs.Place.{lookupAnswer};
 ghost use Rattle.plain_types.specs.PlainTypes.{plainAnswer};
 ghost use Rattle.report.specs.Report.{reportAnswer, reportRows, reportWords};
-ghost use Rattle.doors.specs.Doors.{slotsOutcome, placeOutcome, totalsOutcome, plainOutcome, touchedOf, partlyOf, byteOf, leafOf, carriedOf, wastedOf, partStart, partLength, withAnswer, withTwo, withNumbers, withMasks, passOf, chosenWord, withPass, withTried, triedIn, passRows, withOne};
+ghost use Rattle.spirv.specs.Read.{readInto, sectionOf, typesAfter, membersAfter};
+ghost use Rattle.doors.specs.Doors.{slotsOutcome, placeOutcome, totalsOutcome, plainOutcome, touchedOf, partlyOf, byteOf, leafOf, carriedOf, wastedOf, partStart, partLength, withAnswer, withTwo, withNumbers, withMasks, passOf, chosenWord, withPass, withTried, triedIn, passRows, withOne, sectionOutcome, typesRead, membersRead};
 
 fn put_four(answer: &mut [u32], a: u32, b: u32, c: u32, d: u32)
     requires { ⌜ 4 ≤ length (now answer) ⌝ }
@@ -349,6 +351,52 @@ fn short_pass() -> Outcome
     }
 }
 
+fn section_outcome(section: Section) -> Outcome
+    ensures { λ r. ⌜ r ≡ sectionOutcome section ⌝ }
+{
+    match section {
+        Section::Read {
+            types: _,
+            members: _,
+        } => Outcome::Accepted,
+        Section::Refused { number } => Outcome::Refused {
+            number,
+            ty: 0,
+            member: 0,
+            detail: 0,
+        },
+    }
+}
+
+fn types_read(section: Section) -> u32
+    ensures { λ r. ⌜ r ≡ typesRead section ⌝ }
+{
+    match section {
+        Section::Read { types, members: _ } => types,
+        Section::Refused { number: _ } => 0,
+    }
+}
+
+fn members_read(section: Section) -> u32
+    ensures { λ r. ⌜ r ≡ membersRead section ⌝ }
+{
+    match section {
+        Section::Read { types: _, members } => members,
+        Section::Refused { number: _ } => 0,
+    }
+}
+
+// Fewer than two words are left as they were.
+fn put_counts(words: &mut [u32], a: u32, b: u32)
+    ensures { λ _. ⌜ now (words .exit) ≡ withTwo (now (words .entry)) a b ⌝ }
+{
+    if words.len() < 2 {
+        return;
+    }
+    words[0] = a;
+    words[1] = b;
+}
+
 // Sizes and alignments of an arena, in the first two words of the lent rows.
 #[no_mangle]
 pub extern "C" fn wuldazin_layout(
@@ -606,4 +654,23 @@ fn part_start(types: &[u32], ty: u32, count: usize) -> u64
         return 0;
     }
     (records::type_word(types, ty, 1) as u64) * (records::MEMBER_WORDS as u64)
+}
+
+// The type section of a SPIR-V module, into lent type and member records; how many of each.
+#[no_mangle]
+pub extern "C" fn wuldazin_read_spirv(
+    words: &[u32],
+    types: &mut [u32],
+    members: &mut [u32],
+    counts: &mut [u32],
+    answer: &mut [u32],
+)
+    ensures { λ _. ⌜ now (types .exit) ≡ typesAfter (readInto (now (words .entry)) (now (types .entry)) (now (members .entry))) (now (types .entry)) ⌝ }
+    ensures { λ _. ⌜ now (members .exit) ≡ membersAfter (readInto (now (words .entry)) (now (types .entry)) (now (members .entry))) (now (members .entry)) ⌝ }
+    ensures { λ _. ⌜ now (counts .exit) ≡ withTwo (now (counts .entry)) (typesRead (sectionOf (readInto (now (words .entry)) (now (types .entry)) (now (members .entry))))) (membersRead (sectionOf (readInto (now (words .entry)) (now (types .entry)) (now (members .entry))))) ⌝ }
+    ensures { λ _. ⌜ now (answer .exit) ≡ withAnswer (now (answer .entry)) (sectionOutcome (sectionOf (readInto (now (words .entry)) (now (types .entry)) (now (members .entry))))) ⌝ }
+{
+    let section = spirv_reader::read_module(words, types, members);
+    put_counts(counts, types_read(section), members_read(section));
+    put_answer(answer, section_outcome(section));
 }

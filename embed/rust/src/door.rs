@@ -135,6 +135,18 @@ extern "C" {
         answer: *mut u32,
         answer_length: usize,
     );
+    pub fn wuldazin_read_spirv(
+        words: *const u32,
+        words_length: usize,
+        types: *mut u32,
+        types_length: usize,
+        members: *mut u32,
+        members_length: usize,
+        counts: *mut u32,
+        counts_length: usize,
+        answer: *mut u32,
+        answer_length: usize,
+    );
     pub fn wuldazin_members(
         types: *const u32,
         types_length: usize,

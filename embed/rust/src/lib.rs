@@ -139,6 +139,13 @@ pub struct Plain {
     pub step: u32,
 }
 
+/// How many records a module has.
+#[derive(Clone, Copy, Debug, PartialEq, Eq)]
+pub struct Section {
+    pub types: usize,
+    pub members: usize,
+}
+
 /// Bytes that lie in leaves and bytes that lie in none, over all host-shareable structs.
 #[derive(Clone, Copy, Debug, PartialEq, Eq)]
 pub struct Totals {
@@ -407,6 +414,34 @@ pub fn plain(shape: u32, width: u32) -> Result<Plain, Refusal> {
         alignment,
         step,
     })
+}
+
+/// The type section of a SPIR-V module into type and member records, in word order. Cut the tables to the counts before they
+/// are judged; the words after them are left. A refusal zeroes all words of both tables: 28 to 30, and 1 for more records than
+/// they admit.
+pub fn read_spirv(
+    words: &[u32],
+    types: &mut [u32],
+    members: &mut [u32],
+) -> Result<Section, Refusal> {
+    let (mut counts, mut answer) = ([0; 2], [0; 4]);
+    // SAFETY: as in layout.
+    unsafe {
+        door::wuldazin_read_spirv(
+            words.as_ptr(),
+            words.len(),
+            types.as_mut_ptr(),
+            types.len(),
+            members.as_mut_ptr(),
+            members.len(),
+            counts.as_mut_ptr(),
+            counts.len(),
+            answer.as_mut_ptr(),
+            answer.len(),
+        )
+    }
+    let [types, members] = counts.map(|count| count as usize);
+    Refusal::of(answer).map(|()| Section { types, members })
 }
 
 /// The member rows of struct `ty`, as that part of `members`; empty for a number that is no struct or whose rows reach past

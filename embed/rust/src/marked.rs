@@ -433,7 +433,7 @@ fn the_header_has_the_same_sentences() {
     let (_, function) = header.split_once("*wuldazin_meaning(").unwrap();
     let (function, _) = function.split_once("\n}").unwrap();
     let sentences = function.split('"').skip(1).step_by(2);
-    let numbers = (0..28).chain([34, 36, 37, 38]);
+    let numbers = (0..31).chain([34, 36, 37, 38]);
     let meanings = numbers.map(|number| refused(number, 0, 0, 0).meaning());
     assert!(sentences.eq(meanings));
 }
@@ -457,4 +457,46 @@ fn refusals_in_words() {
         refused(26, 0, 0, 0).to_string(),
         "26: no type has that number, or the steps lead to no place"
     );
+}
+
+// A struct of one mat3x3 of f32, column by column, as glslang writes it: five words of header, the member's Offset, ColMajor and
+// MatrixStride, then the types.
+const MODULE: [u32; 38] = [
+    0x07230203, 0x10300, 0, 100, 0, 0x50048, 4, 0, 35, 0, 0x40048, 4, 0, 5, 0x50048, 4, 0, 7, 16, 0x30016, 1, 32, 0x40017, 2,
+    1, 3, 0x40018, 3, 2, 3, 0x3001e, 4, 3, 0x40020, 5, 2, 4, 0x10000,
+];
+
+#[test]
+fn a_module_from_spirv() {
+    let (mut types, mut members) = ([9; 30], [9; 8]);
+    let read = read_spirv(&MODULE, &mut types, &mut members);
+    assert_eq!(read, Ok(Section { types: 4, members: 1 }));
+    let expected = [0, 2, 4, 0, 0, 0, 1, 3, 2, 4, 0, 0, 2, 3, 3, 2, 4, 0, 8, 0, 1, 48, 0, 0];
+    assert_eq!(types[..24], expected);
+    assert_eq!(types[24..], [9; 6]);
+    assert_eq!(members, [2, 0, 0, 0, 9, 9, 9, 9]);
+}
+
+#[test]
+fn modules_refused() {
+    let refusal = |words: &[u32], room: usize| {
+        let (mut types, mut members) = (vec![9; room], vec![9; 5]);
+        let number = read_spirv(words, &mut types, &mut members).unwrap_err().number;
+        assert!(types.iter().chain(&members).all(|word| *word == 0));
+        number
+    };
+    let with = |at: usize, word: u32| {
+        let mut words = MODULE;
+        words[at] = word;
+        words
+    };
+    assert_eq!(refusal(&MODULE[..4], 30), 28);
+    assert_eq!(refusal(&with(0, 0x03022307), 30), 28);
+    assert_eq!(refusal(&with(37, 0x20000), 30), 28);
+    assert_eq!(refusal(&with(18, 12), 30), 29);
+    assert_eq!(refusal(&with(13, 4), 30), 29);
+    assert_eq!(refusal(&with(32, 9), 30), 30);
+    assert_eq!(refusal(&with(8, 36), 30), 30);
+    assert_eq!(refusal(&MODULE, 23), 1);
+    assert_eq!(refusal(&[], 0), 28);
 }

@@ -5,9 +5,9 @@ use std::fmt;
 /// The first thing refused.
 #[derive(Clone, Copy, Debug, PartialEq, Eq, Hash)]
 pub struct Refusal {
-    /// 1 to 27, 34, 36 and 37.
+    /// 1 to 30, 34, 36 and 37.
     pub number: u32,
-    /// The first type refused; 0 for 1, 25, 26, 36 and 37, and for 2 of [`crate::plain`].
+    /// The first type refused; 0 for 1, 25, 26, 28 to 30, 36 and 37, and for 2 of [`crate::plain`].
     pub ty: u32,
     /// Its position in the struct for 6 and 17 to 21, else 0.
     pub member: u32,
@@ -32,9 +32,9 @@ pub mod blend {
 }
 
 /// As in `wuldazin_meaning` of wuldazin.h.
-const MEANINGS: [&str; 28] = [
+const MEANINGS: [&str; 31] = [
     "accepted",
-    "a table is no whole number of records or too long, the rows, the report or the pass are too short, or a capability bit above 13 is set",
+    "a table is no whole number of records or too long, the rows, the report or the pass are too short, a module has more records than the tables admit, or a capability bit above 13 is set",
     "a field lies outside its set, member rows reach past the table, a blend source has no location, or no plain type has that shape and width",
     "the base of a pointer or binding array lies outside the arena",
     "an array's count or size is above 2,147,483,647",
@@ -61,6 +61,9 @@ const MEANINGS: [&str; 28] = [
     "a nonempty part ends past byte 256, or an offset sum leaves 32 bits",
     "no type has that number, or the steps lead to no place",
     "a host-shareable struct reaches an array with a stride below its element's size",
+    "a SPIR-V header is short or has another magic number, or a word count is 0, past the end or too small",
+    "a SPIR-V type that is not read is referred to, a width, a signedness, an encoding or a number of parts is not supported, or a matrix is stored otherwise",
+    "a SPIR-V id is missing, still to come, given twice or of the wrong sort, a size leaves 32 bits, or an Offset, an ArrayStride or an array's length is not in order",
 ];
 
 impl Refusal {
@@ -101,7 +104,7 @@ impl fmt::Display for Refusal {
         } = self;
         write!(f, "{number}: {}", self.meaning())?;
         match number {
-            1 | 25 | 26 | 36 | 37 => Ok(()),
+            1 | 25 | 26 | 28..=30 | 36 | 37 => Ok(()),
             6 | 17..=21 => write!(f, " (type {ty}, member {member})"),
             8 => write!(f, " (type {ty}, bit {detail})"),
             34 => write!(f, " (type {ty}, detail {detail})"),

@@ -1,0 +1,10 @@
+-- How many words are held: none fewer than before, and no more than there is room for.
+-- Assumes nothing.
+use Prim.Native.Nat.{ℕ, _≤_}
+use Rattle.from_spirv.specs.declared.Held.{Held}
+use Rattle.from_spirv.specs.declared.Held.the-variants.{Words, Odd, Long}
+
+abbrev pub HeldWithin : (least most : ℕ) → Held → Type 0
+HeldWithin least most (Words n) = (least ≤ n) × (n ≤ most)
+HeldWithin least most Odd = Unit {0}
+HeldWithin least most Long = Unit {0}

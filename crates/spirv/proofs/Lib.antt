@@ -1,0 +1,3 @@
+pub mod PutLaws
+pub mod StepLaws
+pub mod ReadLaws

@@ -1,0 +1,3 @@
+pub mod MemberLaws
+pub mod NumberLaws
+pub mod AlignmentLaws
