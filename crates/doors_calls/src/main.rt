@@ -2,7 +2,6 @@
 // `stdout` is written by hand from the sentences of 01, or of embed/wuldazin.h where it says so, that stand beside the tables.
 mod masks;
 mod parts;
-mod passes;
 mod reports;
 mod short;
 mod walks;
@@ -20,7 +19,6 @@ fn main() {
     walks::run();
     reports::run();
     masks::run();
-    passes::run();
     parts::run();
     plain();
     short::run();

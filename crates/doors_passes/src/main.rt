@@ -1,3 +1,4 @@
+// The steps of a pass through the static library, answers and lent buffers. `stdout` is written by hand from the sentences below.
 // embed/wuldazin.h: a pass is "the slots set so far, the slots that the chosen pipeline's type needs, and whether a pipeline is chosen, 0
 // or not", "An accepted step writes all three, 1 for a pipeline; a refused one writes none. On a shorter buffer every step is refused with
 // number 1, before everything else." Each pass here is the first words of a longer buffer, which is printed whole.
@@ -111,7 +112,7 @@ fn short_dispatch() {
     doors_lent::three(b"missing", &missing);
 }
 
-pub fn run() {
+fn main() {
     accepted();
     refused();
     short_start();
