@@ -215,6 +215,9 @@ enum {
     WULDAZIN_SPIRV_WORDS = 28,
     WULDAZIN_SPIRV_UNSUPPORTED = 29,
     WULDAZIN_SPIRV_UNSOUND = 30,
+    WULDAZIN_TEXT_GRAMMAR = 31,
+    WULDAZIN_TEXT_NAME = 32,
+    WULDAZIN_TEXT_NUMBER = 33,
     WULDAZIN_BLEND_SOURCE = 34,
     WULDAZIN_NOT_READY = 36,
     WULDAZIN_NO_IMMEDIATES = 37
@@ -269,6 +272,10 @@ static inline const char *wuldazin_meaning(uint32_t number) {
         return "a SPIR-V type that is not read is referred to, a width, a signedness, an encoding or a number of parts is not supported, or a matrix is stored otherwise";
     case WULDAZIN_SPIRV_UNSOUND:
         return "a SPIR-V id is missing, still to come, given twice or of the wrong sort, a size leaves 32 bits, or an Offset, an ArrayStride or an array's length is not in order";
+    case WULDAZIN_TEXT_GRAMMAR: return "a text leaves the grammar, is too deep, or has a vector, matrix or atomic of no scalar";
+    case WULDAZIN_TEXT_NAME: return "a type's name is unknown or repeated, or a member's name is repeated in its struct";
+    case WULDAZIN_TEXT_NUMBER:
+        return "an attribute is one that WGSL forbids, an array's count is 0, or a number or a placement is above 4,294,967,295";
     case WULDAZIN_BLEND_SOURCE: return "the blend sources of a struct's members are refused";
     case WULDAZIN_NOT_READY: return "a dispatch has no pipeline, or slots that it needs are not set";
     case WULDAZIN_NO_IMMEDIATES: return "a type's immediates word is not 0, or a range's offset or size is no multiple of 4";
@@ -414,6 +421,16 @@ void wuldazin_members(const uint32_t *types, size_t types_length,
                       const uint32_t *members, size_t members_length,
                       uint32_t ty,
                       uint64_t *part, size_t part_length);
+
+/* The records of the structs of a WGSL text, types and members in lent tables, each type where it closes; judges nothing.
+ * counts: two words, how many type records and how many member records there are; zeros on a refusal, left as they were where there are
+ * fewer than two. The records stand at the start of the tables, and the words behind them are left. Numbers 1, where a table has no room
+ * for a record, and 31 to 33, the first by place in the text, then by number, 1 last; a refusal zeroes every word of both tables. */
+void wuldazin_read_wgsl(const uint8_t *text, size_t text_length,
+                        uint32_t *types, size_t types_length,
+                        uint32_t *members, size_t members_length,
+                        uint32_t *counts, size_t counts_length,
+                        uint32_t *answer, size_t answer_length);
 
 #ifdef __cplusplus
 }

@@ -32,10 +32,10 @@ enum {
 
 enum { LAST_NUMBER = 37, UNANSWERED }; /* UNANSWERED: the buffer was too short for an answer */
 
-enum { LAYOUT, JUDGE, CHECK, RANGE, SLOTS, CONTAINS, DIFFERENCE, UNION, START, SET, CHOOSE, DISPATCH, PLACE, REPORT, PLAIN, SPIRV, MEMBERS, DOORS };
+enum { LAYOUT, JUDGE, CHECK, RANGE, SLOTS, CONTAINS, DIFFERENCE, UNION, START, SET, CHOOSE, DISPATCH, PLACE, REPORT, PLAIN, SPIRV, WGSL, MEMBERS, DOORS };
 static const char *const door_names[DOORS] = {"layout", "judge", "check",  "range",    "slots", "contains", "difference", "union",
                                               "start",  "set",   "choose", "dispatch", "place", "report",   "plain",      "spirv",
-                                              "members"};
+                                              "wgsl",   "members"};
 
 typedef struct {
     size_t types_length, members_length;
@@ -678,10 +678,51 @@ static void spirv_call(size_t answer_length, size_t counts_length) {
     take_back(&answer, answer_length < 4 ? 0 : 16);
 }
 
+/* A text of pieces that are often in place, then mostly some damage. */
+static size_t make_text(char *text, size_t most) {
+    static const char *const pieces[] = {"struct A{a:f32}", "struct B{", "b:u32,", "@align(16)", "@size(32)", "c:vec3<f32>,", "d:array<B,4>", "e:array<",
+                                         "mat4x3<f16>",     ">",         "}",      ";",          "//x\n",      "/*y*/",         ":",            ",",
+                                         "struct ",         "A",         "{",      "f:bool}",    "0",          "4294967296",    "_",            "g:A}"};
+    size_t length = 0, count = below(24);
+    if (below(2)) length += sprintf(text, "struct S{m:vec2<f32>,n:array<i32,%u>}", below(9));
+    for (size_t i = 0; i < count && length + 64 < most; i++) length += sprintf(text + length, "%s", pieces[below(sizeof pieces / sizeof *pieces)]);
+    for (uint32_t i = below(3); i && length; i--) text[below(length)] = below(4) ? 32 + below(96) : below(256);
+    return length;
+}
+
+static void wgsl_call(size_t answer_length, size_t counts_length) {
+    static char text[4096];
+    size_t length = make_text(text, sizeof text);
+    size_t tl = below(3) ? 6 * below(200) + below(6) : below(40), ml = below(3) ? WULDAZIN_MEMBER_WORDS * below(200) + below(4) : below(20);
+    uint8_t *s = lend(&steps, text, length);
+    uint32_t *t = lend(&types, noise + below(1024), 4 * tl), *m = lend(&members, noise + below(1024), 4 * ml);
+    uint32_t *counts = lend(&output, noise + below(1024), 4 * counts_length), *a = lend(&answer, noise + below(1024), 4 * answer_length);
+    wuldazin_read_wgsl(s, length, t, tl, m, ml, counts, counts_length, a, answer_length);
+    uint32_t number = UNANSWERED, found[2] = {0, 0};
+    if (answer_length >= 4) {
+        number = a[0];
+        require(number == 0 || number == 1 || (number >= 31 && number <= 33), "number of a text");
+        require((a[1] | a[2] | a[3]) == 0, "words beside a text's number");
+        numbers[number]++;
+    } else
+        unanswered++;
+    if (counts_length >= 2) memcpy(found, output.data, sizeof found);
+    require(6 * (size_t)found[0] <= tl && WULDAZIN_MEMBER_WORDS * (size_t)found[1] <= ml, "more records than there is room for");
+    bool refused = number != 0 && number != UNANSWERED, told = number == 0 && counts_length >= 2;
+    require(!refused || (found[0] | found[1]) == 0, "counts of a refused text");
+    for (size_t i = 0; refused && i < tl; i++) require(t[i] == 0, "type words of a refused text");
+    for (size_t i = 0; refused && i < ml; i++) require(m[i] == 0, "member words of a refused text");
+    take_back(&types, told ? 24 * (size_t)found[0] : 4 * tl);
+    take_back(&members, told ? 4 * WULDAZIN_MEMBER_WORDS * (size_t)found[1] : 4 * ml);
+    take_back(&steps, 0);
+    take_back(&output, counts_length < 2 ? 0 : 8);
+    take_back(&answer, answer_length < 4 ? 0 : 16);
+}
+
 static void one_call(void) {
     static uint32_t list[STEPS_MOST];
     static const unsigned char choice[] = {LAYOUT, JUDGE, JUDGE, CHECK,  CHECK,  RANGE,  SLOTS,    SLOTS, SLOTS, CONTAINS, DIFFERENCE, UNION, START,
-                                           SET,    SET,   CHOOSE, CHOOSE, CHOOSE, DISPATCH, PLACE, PLACE, PLACE, REPORT,   REPORT,     PLAIN, SPIRV, SPIRV, SPIRV, MEMBERS};
+                                           SET,    SET,   CHOOSE, CHOOSE, CHOOSE, DISPATCH, PLACE, PLACE, PLACE, REPORT,   REPORT,     PLAIN, SPIRV, SPIRV, SPIRV, WGSL, WGSL, MEMBERS};
     size_t answer_length = below(16) ? 4 + below(ANSWER_MOST - 3) : below(4), output_length = below(OUTPUT_MOST + 1);
     uint64_t out[2] = {0, 0};
     door = choice[below(sizeof choice)];
@@ -698,6 +739,11 @@ static void one_call(void) {
     }
     if (door == SPIRV) {
         spirv_call(answer_length, output_length);
+        doors[door]++;
+        return;
+    }
+    if (door == WGSL) {
+        wgsl_call(answer_length, output_length);
         doors[door]++;
         return;
     }
@@ -817,7 +863,7 @@ int main(int words, char **word_list) {
     double seconds = (end.tv_sec - start.tv_sec) + 1e-9 * (end.tv_nsec - start.tv_nsec);
 
     for (int d = 0; d < DOORS; d++) printf("%-10s %9llu calls\n", door_names[d], (unsigned long long)doors[d]);
-    for (int n = 0; n <= LAST_NUMBER; n++) if (n <= 30 || n == 34 || n >= 36) printf("number %2d %9llu\n", n, (unsigned long long)numbers[n]);
+    for (int n = 0; n <= LAST_NUMBER; n++) if (n != 35) printf("number %2d %9llu\n", n, (unsigned long long)numbers[n]);
     for (int d = 1; d <= 6; d++) printf("number 34, detail %d %9llu\n", d, (unsigned long long)blend_details[d]);
     printf("answer too short %llu\n", (unsigned long long)unanswered);
     printf("places that are columns %llu\n", (unsigned long long)columns);

@@ -11,7 +11,8 @@
         feature = "report",
         feature = "plain",
         feature = "pass",
-        feature = "spirv"
+        feature = "spirv",
+        feature = "wgsl"
     )),
     allow(dead_code)
 )]
@@ -84,6 +85,9 @@ mod stopwatch;
 mod tables;
 mod theorem;
 mod translate;
+mod wgsl;
+#[cfg(feature = "wgsl")]
+mod wgsl_calls;
 mod wild;
 
 use std::process::ExitCode;
@@ -97,6 +101,7 @@ const USAGE: &str = "usage: layout COUNT [SEED]
        report COUNT [SEED]                      (feature report)
        plain COUNT [SEED]                       (feature plain)
        pass COUNT [SEED]                        (features pass, slots)
+       wgsl COUNT [SEED]                        (feature wgsl)
        renaming COUNT [SEED]                    (features check, slots, place)
        spirv COUNT [SEED]                       (feature spirv)
        replay COUNT [SEED [STDIN STDOUT]]       (features slots, place, members)
@@ -140,6 +145,8 @@ fn main() -> ExitCode {
         "plain" => plain_calls::plain(first, seed),
         #[cfg(all(feature = "pass", feature = "slots"))]
         "pass" => pass_calls::pass(first, seed),
+        #[cfg(feature = "wgsl")]
+        "wgsl" => wgsl_calls::read_wgsl(first, seed),
         #[cfg(all(feature = "check", feature = "slots", feature = "place"))]
         "renaming" => renaming_calls::renaming(first, seed),
         #[cfg(feature = "spirv")]

@@ -376,3 +376,43 @@ unsafe extern "C" fn wuldazin_pass_dispatch(
         *first = slots;
     }
 }
+
+#[cfg(feature = "wgsl")]
+#[no_mangle]
+unsafe extern "C" fn wuldazin_read_wgsl(
+    text: *const u8,
+    text_len: usize,
+    types: *mut u32,
+    types_len: usize,
+    members: *mut u32,
+    members_len: usize,
+    counts: *mut u32,
+    counts_len: usize,
+    answer: *mut u32,
+    answer_len: usize,
+) {
+    let text = from_raw_parts(text, text_len);
+    let types = from_raw_parts_mut(types, types_len);
+    let members = from_raw_parts_mut(members, members_len);
+    let counts = from_raw_parts_mut(counts, counts_len);
+    let owed = crate::wgsl::read(text, types.len(), members.len());
+    let (number, records) = match owed {
+        Ok(records) => (0, records),
+        Err((number, _)) => {
+            types.fill(0);
+            members.fill(0);
+            (number, Default::default())
+        }
+    };
+    types[..records.types.len()].copy_from_slice(&records.types);
+    members[..records.members.len()].copy_from_slice(&records.members);
+    if let Some(first) = counts.first_chunk_mut() {
+        *first = [
+            (records.types.len() / crate::wgsl::TYPE_WORDS) as u32,
+            (records.members.len() / crate::wgsl::MEMBER_WORDS) as u32,
+        ];
+    }
+    if let Some(first) = from_raw_parts_mut(answer, answer_len).first_chunk_mut() {
+        *first = [number, 0, 0, 0];
+    }
+}

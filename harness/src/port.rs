@@ -175,6 +175,19 @@ extern "C" {
         answer: *mut u32,
         answer_len: usize,
     );
+    #[cfg(feature = "wgsl")]
+    fn wuldazin_read_wgsl(
+        text: *const u8,
+        text_len: usize,
+        types: *mut u32,
+        types_len: usize,
+        members: *mut u32,
+        members_len: usize,
+        counts: *mut u32,
+        counts_len: usize,
+        answer: *mut u32,
+        answer_len: usize,
+    );
 }
 
 pub fn layout(arena: &Arena, lent: Lent) {
@@ -441,6 +454,31 @@ pub fn pass_dispatch(pass: &[u64], missing: &mut [u64], answer: &mut [u32]) {
             pass.len(),
             missing.as_mut_ptr(),
             missing.len(),
+            answer.as_mut_ptr(),
+            answer.len(),
+        )
+    }
+}
+
+#[cfg(feature = "wgsl")]
+pub fn read_wgsl(
+    text: &[u8],
+    types: &mut [u32],
+    members: &mut [u32],
+    counts: &mut [u32],
+    answer: &mut [u32],
+) {
+    // As above.
+    unsafe {
+        wuldazin_read_wgsl(
+            text.as_ptr(),
+            text.len(),
+            types.as_mut_ptr(),
+            types.len(),
+            members.as_mut_ptr(),
+            members.len(),
+            counts.as_mut_ptr(),
+            counts.len(),
             answer.as_mut_ptr(),
             answer.len(),
         )

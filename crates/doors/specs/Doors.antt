@@ -25,6 +25,8 @@ use Rattle.spirv.specs.declared.Section.{Section}
 use Rattle.spirv.specs.declared.Section.the-variants as section
 use Rattle.report.specs.declared.ReportAnswer.{ReportAnswer}
 use Rattle.report.specs.declared.ReportAnswer.the-variants as report
+use Rattle.wgsl_read.specs.declared.TextAnswer.{TextAnswer}
+use Rattle.wgsl_read.specs.declared.TextAnswer.the-variants as text
 
 -- ---- 01's number and values for each answer
 abbrev pub answerWords : Outcome → List ℕ
@@ -50,6 +52,10 @@ totalsOutcome (report.Refused number ty member detail) = Refused number ty membe
 abbrev pub sectionOutcome : Section → Outcome
 sectionOutcome (section.Read types members) = Accepted
 sectionOutcome (section.Refused number) = Refused number 0 0 0
+
+abbrev pub textOutcome : TextAnswer → Outcome
+textOutcome (text.Records types members) = Accepted
+textOutcome (text.Refused number) = Refused number 0 0 0
 
 -- ---- the words beside it; zeros on a refusal
 -- the two masks
@@ -86,6 +92,15 @@ typesRead (section.Refused number) = 0
 abbrev pub membersRead : Section → ℕ
 membersRead (section.Read types members) = members
 membersRead (section.Refused number) = 0
+
+-- how many type records and member records a text has
+abbrev pub textTypes : TextAnswer → ℕ
+textTypes (text.Records types members) = types
+textTypes (text.Refused number) = 0
+
+abbrev pub textMembers : TextAnswer → ℕ
+textMembers (text.Records types members) = members
+textMembers (text.Refused number) = 0
 
 abbrev pub numbersOf : PlainAnswer → List ℕ
 numbersOf (plain.Found size alignment step) = size ∷ alignment ∷ step ∷ []

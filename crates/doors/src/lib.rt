@@ -7,6 +7,7 @@ use records::Outcome;
 use report::ReportAnswer;
 use slots::SlotsAnswer;
 use spirv::Section;
+use wgsl_read::TextAnswer;
 ghost use mathlib.Core.Path.{_≡_};
 ghost use mathlib.Core.List.{_∷_};
 ghost use Prim.Native.Nat.{_*_, _≤_};
@@ -25,7 +26,8 @@ ghost use Rattle.place.specs.Place.{lookupAnswer};
 ghost use Rattle.plain_types.specs.PlainTypes.{plainAnswer};
 ghost use Rattle.report.specs.Report.{reportAnswer, reportRows, reportWords};
 ghost use Rattle.spirv.specs.Read.{readInto, sectionOf, typesAfter, membersAfter};
-ghost use Rattle.doors.specs.Doors.{slotsOutcome, placeOutcome, totalsOutcome, plainOutcome, touchedOf, partlyOf, byteOf, leafOf, carriedOf, wastedOf, partStart, partLength, withAnswer, withTwo, withNumbers, withMasks, passOf, chosenWord, withPass, withTried, triedIn, passRows, withOne, sectionOutcome, typesRead, membersRead};
+ghost use Rattle.wgsl_read.specs.Text.{textOf, answerOf, typesLeft, membersLeft};
+ghost use Rattle.doors.specs.Doors.{slotsOutcome, placeOutcome, totalsOutcome, plainOutcome, touchedOf, partlyOf, byteOf, leafOf, carriedOf, wastedOf, partStart, partLength, withAnswer, withTwo, withNumbers, withMasks, passOf, chosenWord, withPass, withTried, triedIn, passRows, withOne, sectionOutcome, typesRead, membersRead, textOutcome, textTypes, textMembers};
 
 fn put_four(answer: &mut [u32], a: u32, b: u32, c: u32, d: u32)
     requires { ⌜ 4 ≤ length (now answer) ⌝ }
@@ -673,4 +675,58 @@ pub extern "C" fn wuldazin_read_spirv(
     let section = spirv_reader::read_module(words, types, members);
     put_counts(counts, types_read(section), members_read(section));
     put_answer(answer, section_outcome(section));
+}
+
+fn text_outcome(found: TextAnswer) -> Outcome
+    ensures { λ r. ⌜ r ≡ textOutcome found ⌝ }
+{
+    match found {
+        TextAnswer::Records {
+            types: _,
+            members: _,
+        } => Outcome::Accepted,
+        TextAnswer::Refused(number) => Outcome::Refused {
+            number,
+            ty: 0,
+            member: 0,
+            detail: 0,
+        },
+    }
+}
+
+fn text_types(found: TextAnswer) -> u32
+    ensures { λ r. ⌜ r ≡ textTypes found ⌝ }
+{
+    match found {
+        TextAnswer::Records { types, members: _ } => types,
+        TextAnswer::Refused(_) => 0,
+    }
+}
+
+fn text_members(found: TextAnswer) -> u32
+    ensures { λ r. ⌜ r ≡ textMembers found ⌝ }
+{
+    match found {
+        TextAnswer::Records { types: _, members } => members,
+        TextAnswer::Refused(_) => 0,
+    }
+}
+
+// The records of a WGSL text, and how many there are of each.
+#[no_mangle]
+pub extern "C" fn wuldazin_read_wgsl(
+    text: &[u8],
+    types: &mut [u32],
+    members: &mut [u32],
+    counts: &mut [u32],
+    answer: &mut [u32],
+)
+    ensures { λ _. ⌜ now (types .exit) ≡ typesLeft (textOf (length (now (types .entry))) (length (now (members .entry))) (now (text .entry))) (now (types .entry)) ⌝ }
+    ensures { λ _. ⌜ now (members .exit) ≡ membersLeft (textOf (length (now (types .entry))) (length (now (members .entry))) (now (text .entry))) (now (members .entry)) ⌝ }
+    ensures { λ _. ⌜ now (counts .exit) ≡ withTwo (now (counts .entry)) (textTypes (answerOf (textOf (length (now (types .entry))) (length (now (members .entry))) (now (text .entry))))) (textMembers (answerOf (textOf (length (now (types .entry))) (length (now (members .entry))) (now (text .entry))))) ⌝ }
+    ensures { λ _. ⌜ now (answer .exit) ≡ withAnswer (now (answer .entry)) (textOutcome (answerOf (textOf (length (now (types .entry))) (length (now (members .entry))) (now (text .entry))))) ⌝ }
+{
+    let found = wgsl_read::read(text, types, members);
+    put_counts(counts, text_types(found), text_members(found));
+    put_answer(answer, text_outcome(found));
 }

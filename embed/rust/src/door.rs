@@ -156,4 +156,16 @@ extern "C" {
         part: *mut u64,
         part_length: usize,
     );
+    pub fn wuldazin_read_wgsl(
+        text: *const u8,
+        text_length: usize,
+        types: *mut u32,
+        types_length: usize,
+        members: *mut u32,
+        members_length: usize,
+        counts: *mut u32,
+        counts_length: usize,
+        answer: *mut u32,
+        answer_length: usize,
+    );
 }

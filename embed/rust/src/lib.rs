@@ -464,6 +464,35 @@ pub fn members<'a>(types: &[u32], members: &'a [u32], ty: u32) -> &'a [u32] {
     &members[start..start + length]
 }
 
+/// How many records a text has.
+#[derive(Clone, Copy, Debug, PartialEq, Eq, Hash)]
+pub struct Counts {
+    pub types: usize,
+    pub members: usize,
+}
+
+/// The records of the structs of a WGSL text, at the start of the lent tables. A refusal, 1 or 31 to 33, zeroes both tables.
+pub fn read_wgsl(text: &[u8], types: &mut [u32], members: &mut [u32]) -> Result<Counts, Refusal> {
+    let (mut counts, mut answer) = ([0; 2], [0; 4]);
+    // SAFETY: as in layout.
+    unsafe {
+        door::wuldazin_read_wgsl(
+            text.as_ptr(),
+            text.len(),
+            types.as_mut_ptr(),
+            types.len(),
+            members.as_mut_ptr(),
+            members.len(),
+            counts.as_mut_ptr(),
+            counts.len(),
+            answer.as_mut_ptr(),
+            answer.len(),
+        )
+    }
+    let [types, members] = counts.map(|count: u32| count as usize);
+    Refusal::of(answer).map(|()| Counts { types, members })
+}
+
 #[cfg(test)]
 mod marked;
 #[cfg(test)]

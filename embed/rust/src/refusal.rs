@@ -82,6 +82,15 @@ impl Refusal {
     /// A sentence for a message: what the number stands for.
     pub fn meaning(&self) -> &'static str {
         match self.number {
+            31 => {
+                "a text leaves the grammar, is too deep, or has a vector, matrix or atomic of no scalar"
+            }
+            32 => {
+                "a type's name is unknown or repeated, or a member's name is repeated in its struct"
+            }
+            33 => {
+                "an attribute is one that WGSL forbids, an array's count is 0, or a number or a placement is above 4,294,967,295"
+            }
             34 => "the blend sources of a struct's members are refused",
             36 => "a dispatch has no pipeline, or slots that it needs are not set",
             37 => {
@@ -104,7 +113,7 @@ impl fmt::Display for Refusal {
         } = self;
         write!(f, "{number}: {}", self.meaning())?;
         match number {
-            1 | 25 | 26 | 28..=30 | 36 | 37 => Ok(()),
+            1 | 25 | 26 | 28..=33 | 36 | 37 => Ok(()),
             6 | 17..=21 => write!(f, " (type {ty}, member {member})"),
             8 => write!(f, " (type {ty}, bit {detail})"),
             34 => write!(f, " (type {ty}, detail {detail})"),

@@ -1,0 +1,52 @@
+-- `wgsl_tokens::run_end` meets its contract. The invariant: the run from `at` on ends where the run from i on does. Assumes nothing.
+use mathlib.Core.Path.{_≡_, refl, sym, ap, _∙_}
+use Prim.Native.Nat.{_+_, _-_, _≤_, _<_}
+use native.Mathlib.Omega.{arith}
+use lib.ListN.{length, getD, drop}
+use denote.Ref.{now}
+use borrow.Author.Tests.{not-true, not-false}
+use Rattle.words.specs.Words.{runOf}
+use Rattle.words.proofs.WordLaws.{run-more, run-stop, run-done}
+use Rattle.wgsl_tokens.specs.Lexed.{isIn}
+use borrow.Author.Needs.{needs}
+use Rattle.wgsl_tokens.proofs.run_end.Statement.{statement}
+use Rattle.wgsl_tokens.proofs.run_end.Tie as tie
+
+abbrev Inv-loop : tie.InvT-loop
+Inv-loop s at run i₀ i = (at ≤ i) × (i ≤ length s) × (i + runOf (isIn run) (drop i s) ≡ at + runOf (isIn run) (drop at s))
+
+abbrev μ-loop : tie.MeasureT-loop
+μ-loop s at run i₀ i = length s - i
+
+returns : tie.Need-returns Inv-loop μ-loop
+returns c =
+    let z = run-stop (isIn (c .before .before .before .before .before .before .args .run)) (now (c .before .before .before .before .before .before .args .s)) (c .before .before .before .before .loop .i) (c .before .before .before .loop-test .taken) (sym (c .before .is-in .ensures) ∙ not-true _ (c .if1 .taken)) in
+    let l = c .before .before .before .before .loop in
+    (omega arith, omega arith)
+
+loop-again : tie.Need-loop-again Inv-loop μ-loop
+loop-again c =
+    let z = run-more (isIn (c .before .before .before .before .before .before .args .run)) (now (c .before .before .before .before .before .before .args .s)) (c .before .before .before .before .loop .i) (c .before .before .before .loop-test .taken) (sym (c .before .is-in .ensures) ∙ not-false _ (c .if1 .left)) in
+    let l = c .before .before .before .before .loop in
+    omega arith
+
+returns-2 : tie.Need-returns-2 Inv-loop μ-loop
+returns-2 c =
+    let z = run-done (isIn (c .before .before .before .args .run)) (now (c .before .before .before .args .s)) (c .before .loop .i) (c .loop-test .left) in
+    let l = c .before .loop in
+    (omega arith, omega arith)
+
+pub run-end-spec : {M : Type 1} → statement M
+run-end-spec =
+    tie.close
+    (tie.spec
+    Inv-loop
+    μ-loop
+    (λ c. search needs)
+    (λ c. search needs)
+    (λ c κs. search needs)
+    returns
+    (λ c. search needs)
+    (λ c. search needs)
+    loop-again
+    returns-2)
