@@ -14,7 +14,7 @@ use Rattle.immediates_pass.specs.declared.Tried.{Tried}
 use Rattle.immediates_pass.specs.Pass.{begin, PassStep, SetRange, Choose, Dispatch, tried}
 use Rattle.immediates_pass.specs.History.{Calls, started, called, Dispatched}
 use Rattle.immediates_pass.proofs.CallLaws.{refused-keeps, calls-dispatch}
-use Rattle.doors.specs.Doors.{passOf, chosenWord, withPass, keptWords, triedIn, withTried}
+use Rattle.doors_words.specs.Words.{passOf, chosenWord, withPass, keptWords, triedIn, withTried}
 use Rattle.doors.specs.PassCalls.{WordCalls, begun, then-set, then-chosen, then-dispatched}
 
 -- ---- the words after a step

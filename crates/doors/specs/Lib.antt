@@ -1,3 +1,2 @@
-pub mod Doors
 pub mod PassCalls
 pub mod OtherRule

@@ -4,7 +4,7 @@ use mathlib.Core.List.{List, [], _∷_}
 use Prim.Native.Nat.{ℕ, _≤_}
 use lib.ListN.{length}
 use Rattle.immediates_pass.specs.Pass.{begin, PassStep, SetRange, Choose, Dispatch}
-use Rattle.doors.specs.Doors.{withPass, withTried, triedIn}
+use Rattle.doors_words.specs.Words.{withPass, withTried, triedIn}
 
 pub data WordCalls : List PassStep → List ℕ → Type 0 where
   begun : (words : List ℕ) → 3 ≤ length words → WordCalls [] (withPass words begin)

@@ -1,7 +1,7 @@
 use borrow.Author.Needs.{needs}
 use mathlib.Core.Path.{refl}
 use borrow.Author.Tests.{le-leb, lt-leb}
-use Rattle.doors.specs.Doors.{triedIn, withTried, passRows}
+use Rattle.doors_words.specs.Words.{triedIn, withTried, passRows}
 use Rattle.doors.proofs.wuldazin_pass_choose.Statement.{statement}
 use Rattle.doors.proofs.wuldazin_pass_choose.Tie as tie
 

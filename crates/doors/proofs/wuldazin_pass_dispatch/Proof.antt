@@ -1,6 +1,6 @@
 use borrow.Author.Needs.{needs}
 use borrow.Author.Tests.{le-leb, lt-leb}
-use Rattle.doors.specs.Doors.{triedIn}
+use Rattle.doors_words.specs.Words.{triedIn}
 use Rattle.doors.proofs.wuldazin_pass_dispatch.Statement.{statement}
 use Rattle.doors.proofs.wuldazin_pass_dispatch.Tie as tie
 

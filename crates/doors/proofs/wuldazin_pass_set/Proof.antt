@@ -1,7 +1,7 @@
 use borrow.Author.Needs.{needs}
 use mathlib.Core.Path.{refl}
 use borrow.Author.Tests.{le-leb, lt-leb}
-use Rattle.doors.specs.Doors.{triedIn, withTried}
+use Rattle.doors_words.specs.Words.{triedIn, withTried}
 use Rattle.doors.proofs.wuldazin_pass_set.Statement.{statement}
 use Rattle.doors.proofs.wuldazin_pass_set.Tie as tie
 
