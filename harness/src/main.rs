@@ -87,7 +87,11 @@ mod theorem;
 mod translate;
 mod wgsl;
 #[cfg(feature = "wgsl")]
+mod wgsl_bench;
+#[cfg(feature = "wgsl")]
 mod wgsl_calls;
+#[cfg(feature = "wgsl")]
+mod wgsl_places;
 mod wild;
 
 use std::process::ExitCode;
@@ -102,11 +106,13 @@ const USAGE: &str = "usage: layout COUNT [SEED]
        plain COUNT [SEED]                       (feature plain)
        pass COUNT [SEED]                        (features pass, slots)
        wgsl COUNT [SEED]                        (feature wgsl)
+       wgsl_places COUNT SEED PROGRAM           (feature wgsl)
        renaming COUNT [SEED]                    (features check, slots, place)
        spirv COUNT [SEED]                       (feature spirv)
        replay COUNT [SEED [STDIN STDOUT]]       (features slots, place, members)
        member_records COUNT SEED FOLDER         (features slots, place)
        bench                                    (features check, slots, place)
+       bench_wgsl                               (feature wgsl)
        theorem COUNT [SEED] | histogram COUNT [SEED] | show SEED INDEX";
 
 fn main() -> ExitCode {
@@ -116,6 +122,11 @@ fn main() -> ExitCode {
     #[cfg(all(feature = "check", feature = "slots", feature = "place"))]
     if command == Some("bench") {
         bench::bench();
+        return ExitCode::SUCCESS;
+    }
+    #[cfg(feature = "wgsl")]
+    if command == Some("bench_wgsl") {
+        wgsl_bench::bench();
         return ExitCode::SUCCESS;
     }
     let (Some(command), Some(first)) = (command, number(1)) else {
@@ -147,6 +158,11 @@ fn main() -> ExitCode {
         "pass" => pass_calls::pass(first, seed),
         #[cfg(feature = "wgsl")]
         "wgsl" => wgsl_calls::read_wgsl(first, seed),
+        #[cfg(feature = "wgsl")]
+        "wgsl_places" => match words.get(3) {
+            Some(program) => wgsl_places::places(first, seed, program),
+            None => return usage(),
+        },
         #[cfg(all(feature = "check", feature = "slots", feature = "place"))]
         "renaming" => renaming_calls::renaming(first, seed),
         #[cfg(feature = "spirv")]

@@ -210,7 +210,7 @@ const MARKS: [&str; 24] = [
     "\u{0}",
 ];
 
-fn text(random: &mut Random) -> Vec<u8> {
+pub fn text(random: &mut Random) -> Vec<u8> {
     let mut text = match random.below(8) {
         0 => (0..random.below(40))
             .map(|_| piece(random))

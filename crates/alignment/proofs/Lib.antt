@@ -1,4 +1,4 @@
 pub mod PowerLaws
 pub mod RoundLaws
 pub mod Finite
-mod MaskLaws
+pub mod MaskLaws

@@ -6,8 +6,6 @@ ghost use Prim.Native.Nat.{_≤_};
 ghost use lib.ListN.{length};
 ghost use Rattle.from_spirv.specs.Held.{HeldWithin};
 
-const STDOUT: i32 = 1;
-
 // How the input ended: so many words, no whole number of words, or more than are held.
 enum Held {
     Words(usize),
@@ -15,76 +13,18 @@ enum Held {
     Long,
 }
 
-fn put_word(word: u32) {
-    io::write_all(STDOUT, b" ");
-    io::print_decimal(STDOUT, word as u64);
-}
-
-fn put_end() {
-    io::write_all(STDOUT, b"\n");
-}
-
-fn put_words(words: &[u32]) {
-    let mut j = 0;
-    while j < words.len() {
-        put_word(words[j]);
-        j += 1;
-    }
-    put_end();
-}
-
-fn put_type(words: &[u32]) {
-    io::write_all(STDOUT, b"type");
-    put_words(words);
-}
-
-fn put_member(words: &[u32]) {
-    io::write_all(STDOUT, b"member");
-    put_words(words);
-}
-
-fn put_types(types: &[u32], n: u32) {
-    let mut i: u32 = 0;
-    while i < n {
-        let at = (i as usize) * 6;
-        let end = at + 6;
-        if end <= types.len() {
-            put_type(&types[at..end]);
-        }
-        i += 1;
-    }
-}
-
-// Type and offset of each member; no location and no blend source.
-fn put_members(members: &[u32], n: u32) {
-    let mut i: u32 = 0;
-    while i < n {
-        let at = (i as usize) * 4;
-        let end = at + 2;
-        if end <= members.len() {
-            put_member(&members[at..end]);
-        }
-        i += 1;
-    }
-}
-
 fn answer(words: &[u32]) {
     let mut types = [0u32; 6144];
     let mut members = [0u32; 16384];
-    match spirv_reader::read_module(words, &mut types, &mut members) {
+    let mut out = [0u8; 65536];
+    let end = match spirv_reader::read_module(words, &mut types, &mut members) {
         Section::Read {
             types: t,
             members: m,
-        } => {
-            put_types(&types, t);
-            put_members(&members, m);
-        }
-        Section::Refused { number } => {
-            io::write_all(STDOUT, b"refused ");
-            io::print_decimal(STDOUT, number as u64);
-            io::write_all(STDOUT, b" 0 0 0\n");
-        }
-    }
+        } => record_lines::put_records(&mut out, 0, &types, t, &members, m),
+        Section::Refused { number } => output::put_refusal(&mut out, 0, number, 0, 0, 0),
+    };
+    output::write_out(&out, end);
 }
 
 // What is held with the bytes of one read.
@@ -147,10 +87,10 @@ fn answer_held(words: &[u32], held: Held) {
             }
         }
         Held::Odd => {
-            io::write_all(STDOUT, b"the input is no whole number of words\n");
+            file_input::tell(b"the module is no whole number of words\n");
         }
         Held::Long => {
-            io::write_all(STDOUT, b"the input is longer than 1048576 words\n");
+            file_input::tell(b"the module is longer than 1048576 words\n");
         }
     }
 }
@@ -162,28 +102,12 @@ fn no_words() -> [u32; 1048576]
     [0; 1048576]
 }
 
-fn read_and_answer(fd: i32) {
+fn main() {
+    let fd = file_input::opened();
+    if fd < 0 {
+        return;
+    }
     let mut words = no_words();
     let held = read_all(fd, &mut words);
     answer_held(&words, held);
-}
-
-// The file that argument 1 names.
-fn read_file() {
-    let mut name = io::buffer();
-    let length = os::arg(1, &mut name);
-    let fd = os::open_read(&name[..length]);
-    if fd < 0 {
-        io::write_all(STDOUT, b"the file cannot be opened\n");
-        return;
-    }
-    read_and_answer(fd);
-}
-
-fn main() {
-    if os::arg_count() < 2 {
-        read_and_answer(0);
-    } else {
-        read_file();
-    }
 }

@@ -25,6 +25,11 @@ pub fn flush(out: &[u8], at: usize) -> bool {
     written
 }
 
+// The same for a buffer that a program holds: an array of a known length asks for no proof of it.
+pub fn write_out(out: &Buffer, at: usize) -> bool {
+    flush(out, at)
+}
+
 fn put_byte(out: &mut Buffer, at: usize, b: u8) -> usize {
     if at < out.len() {
         out[at] = b;
@@ -37,7 +42,7 @@ fn put_byte(out: &mut Buffer, at: usize, b: u8) -> usize {
     FAILED
 }
 
-fn put_text(out: &mut Buffer, at: usize, text: &[u8]) -> usize {
+pub fn put_text(out: &mut Buffer, at: usize, text: &[u8]) -> usize {
     let mut end = at;
     let mut i = 0;
     while i < text.len() {
@@ -56,13 +61,13 @@ fn put_number(out: &mut Buffer, at: usize, before: u8, n: u64) -> usize {
 }
 
 // A word and a number.
-fn put_named(out: &mut Buffer, at: usize, name: &[u8], n: u64) -> usize {
+pub fn put_named(out: &mut Buffer, at: usize, name: &[u8], n: u64) -> usize {
     let end = put_text(out, at, name);
     put_number(out, end, b' ', n)
 }
 
 // A line of words after its head. With `rows` each fourteen words are a line of their own, which begins with its number.
-fn put_words(out: &mut Buffer, at: usize, head: &[u8], words: &[u32], rows: bool) -> usize {
+pub fn put_words(out: &mut Buffer, at: usize, head: &[u8], words: &[u32], rows: bool) -> usize {
     let mut end = put_text(out, at, head);
     let mut i = 0;
     while i < words.len() {
@@ -217,9 +222,30 @@ pub fn usage_line(command: arguments::Command) -> u32 {
     }
 }
 
+// A line of a text, with its end. Its lines are numbered from `first` on.
+pub fn put_line_of(out: &mut Buffer, at: usize, text: &[u8], first: u32, number: u32) -> usize {
+    let mut end = at;
+    let mut line = first;
+    let mut i = 0;
+    while i < text.len() {
+        let b = text[i];
+        if line == number {
+            end = put_byte(out, end, b);
+        }
+        if b == b'\n' {
+            line = std::num::wrapping_add_u32(line, 1);
+        }
+        i += 1;
+    }
+    end
+}
+
 // One text for all the reasons is proved sooner than a text in each arm that has one. Its lines are numbered from 2 on.
 fn put_why(out: &mut Buffer, at: usize, why: u32) -> usize {
-    let text = b": longer than 65535 bytes
+    put_line_of(
+        out,
+        at,
+        b": longer than 65535 bytes
 : the input cannot be read
  is not a decimal number
  is above 4294967295
@@ -247,21 +273,10 @@ fn put_why(out: &mut Buffer, at: usize, why: u32) -> usize {
 : run takes no number
 : clear takes no number
 : no such command; there are caps, rule, type, member, layout, judge, check, members, slots, range, place, report, plain, pass, set, choose, run and clear
-";
-    let mut end = at;
-    let mut line: u32 = 2;
-    let mut i = 0;
-    while i < text.len() {
-        let b = text[i];
-        if line == why {
-            end = put_byte(out, end, b);
-        }
-        if b == b'\n' {
-            line = std::num::wrapping_add_u32(line, 1);
-        }
-        i += 1;
-    }
-    end
+",
+        2,
+        why,
+    )
 }
 
 // The line at which a session stops, the word of it that is wrong, unless that is 0, and why.

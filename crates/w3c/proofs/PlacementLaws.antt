@@ -20,7 +20,7 @@ use Rattle.w3c.proofs.PlacedLaws as laws
 
 -- ---- members by their number, in the type and in its placement
 -- there are as many
-last-same : (members : Members) (offset : ℕ → ℕ) → placed.lastMember (placeAt members offset) ≡ lastMember members
+pub last-same : (members : Members) (offset : ℕ → ℕ) → placed.lastMember (placeAt members offset) ≡ lastMember members
 unfolding placement lastMember placed.lastMember
 last-same (last type align size) offset = refl
 last-same (member type align size rest) offset = let e = last-same rest (λ i. offset (suc i)) in rw e refl
@@ -33,7 +33,7 @@ type-same (member type align size rest) offset zero = refl
 type-same (member type align size rest) offset (suc i) = type-same rest (λ i. offset (suc i)) i
 
 -- and stands at the given offset
-offset-same : (members : Members) (offset : ℕ → ℕ) (i : ℕ) → i < memberTotal members → placed.offsetOfMember (placeAt members offset) i ≡ offset i
+pub offset-same : (members : Members) (offset : ℕ → ℕ) (i : ℕ) → i < memberTotal members → placed.offsetOfMember (placeAt members offset) i ≡ offset i
 unfolding placement lastMember placed.offsetOfMember
 offset-same (last type align size) offset i h = let e : i ≡ 0 = omega arith in rw e refl
 offset-same (member type align size rest) offset zero h = refl
@@ -63,7 +63,7 @@ mutual
   align-power (struct members) formed = largest-power (alignOfMember members) (λ i. align-member-power members formed i) (lastMember members)
 
   -- AlignOfMember is a power of two
-  align-member-power : (members : Members) → AllWellFormed members → (i : ℕ) → Power (alignOfMember members i)
+  pub align-member-power : (members : Members) → AllWellFormed members → (i : ℕ) → Power (alignOfMember members i)
   align-member-power (last type align size) formed i = given-power align type (formed .0) (align-power type (formed .2))
   align-member-power (member type align size rest) formed zero = given-power align type (formed .0) (align-power type (formed .2))
   align-member-power (member type align size rest) formed (suc i) = align-member-power rest (formed .3) i

@@ -1,18 +1,17 @@
--- `from_spirv::put_members` meets its contract. Assumes nothing.
+-- `record_lines::put_types` is safe and ends. Assumes nothing.
 use borrow.Author.Needs.{needs}
 use Prim.Native.Nat.{ℕ, _-_, _≤_, _<_}
-use Rattle.from_spirv.proofs.put_members.Statement.{statement}
-use Rattle.from_spirv.proofs.put_members.Tie as tie
+use Rattle.record_lines.proofs.put_types.Statement.{statement}
+use Rattle.record_lines.proofs.put_types.Tie as tie
 
 abbrev Inv-loop : tie.InvT-loop
-Inv-loop members n i₀ i =
-    Unit {0}
+Inv-loop out₀ at types n end₀ i₀ out end i = Unit {0}
 
 abbrev μ-loop : tie.MeasureT-loop
-μ-loop members n i₀ i = n - i
+μ-loop out₀ at types n end₀ i₀ out end i = n - i
 
-pub put-members-spec : {M : Type 1} → statement M
-put-members-spec =
+pub put-types-spec : {M : Type 1} → statement M
+put-types-spec =
     tie.close
     (tie.spec
     Inv-loop

@@ -1,17 +1,17 @@
 use borrow.Author.Needs.{needs}
 use Prim.Native.Nat.{_-_, _≤_}
 use lib.ListN.{length}
-use Rattle.output.proofs.put_why.Statement.{statement}
-use Rattle.output.proofs.put_why.Tie as tie
+use Rattle.output.proofs.put_line_of.Statement.{statement}
+use Rattle.output.proofs.put_line_of.Tie as tie
 
 abbrev Inv-loop : tie.InvT-loop
-Inv-loop out₀ at why text end₀ line₀ i₀ out end line i = i ≤ length text
+Inv-loop out₀ at text first number end₀ line₀ i₀ out end line i = i ≤ length text
 
 abbrev μ-loop : tie.MeasureT-loop
-μ-loop out₀ at why text end₀ line₀ i₀ out end line i = length text - i
+μ-loop out₀ at text first number end₀ line₀ i₀ out end line i = length text - i
 
-pub put-why-spec : {M : Type 1} → statement M
-put-why-spec =
+pub put-line-of-spec : {M : Type 1} → statement M
+put-line-of-spec =
     tie.close
     (tie.spec
     Inv-loop

@@ -1,0 +1,18 @@
+// The answer to a WGSL text: a line for each record, or the refusal and a line that says where it stands and what is wrong.
+use output::Buffer;
+use wgsl_read::TextAt;
+
+pub fn put_answer(out: &mut Buffer, at: usize, text: &[u8]) -> usize {
+    let mut types = [0u32; 6144];
+    let mut members = [0u32; 16384];
+    match wgsl_read::read_at(text, &mut types, &mut members) {
+        TextAt::Records {
+            types: t,
+            members: m,
+        } => record_lines::put_records(out, at, &types, t, &members, m),
+        TextAt::Refused(r) => {
+            let end = output::put_refusal(out, at, r.number, 0, 0, 0);
+            wgsl_messages::put_message(out, end, text, r)
+        }
+    }
+}
