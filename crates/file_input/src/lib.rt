@@ -21,10 +21,10 @@ pub fn tell(why: &[u8]) {
     io::write_all(STDERR, why);
 }
 
-// The file that argument 1 names.
-fn named() -> i32 {
+// The file that argument i names; a negative number where it cannot be opened.
+pub fn named(i: usize) -> i32 {
     let mut name = io::buffer();
-    let length = os::arg(1, &mut name);
+    let length = os::arg(i, &mut name);
     let fd = os::open_read(&name[..length]);
     if fd < 0 {
         tell(b"the file cannot be opened\n");
@@ -42,7 +42,7 @@ pub fn opened() -> i32 {
         tell(b"there is one argument at most, the file to read\n");
         return NO_FILE;
     }
-    named()
+    named(1)
 }
 
 // One read, after the bytes that are held.

@@ -1,6 +1,6 @@
 #version 450
-// storage.spv: glslangValidator -V storage.comp -o storage.spv (glslang 12.0.0). The lines of ../stdout are by hand from what
-// spirv-dis prints of it.
+// Each module NAME.spv here is made once: glslangValidator -V NAME.comp -o NAME.spv (glslang 12.0.0), and NAME.spvasm is what
+// spirv-dis --no-color prints of it (SPIRV-Tools 2023.1). The lines of ../stdout are worked out from that text.
 layout(local_size_x = 1) in;
 struct Particle {
     vec3 position;

@@ -1,10 +1,12 @@
-// The program `from_spirv`: reads a SPIR-V module from standard input, or from the file that its argument names, and writes a line for each
+// The program `from_spirv`: reads a SPIR-V module from standard input, or from each file that an argument names, and writes a line for each
 // type and member that `inspect` takes, or the refusal.
 use spirv::Section;
 ghost use mathlib.Core.Path.{_≡_};
 ghost use Prim.Native.Nat.{_≤_};
 ghost use lib.ListN.{length};
 ghost use Rattle.from_spirv.specs.Held.{HeldWithin};
+
+const STDOUT: i32 = 1;
 
 // How the input ended: so many words, no whole number of words, or more than are held.
 enum Held {
@@ -102,12 +104,46 @@ fn no_words() -> [u32; 1048576]
     [0; 1048576]
 }
 
-fn main() {
-    let fd = file_input::opened();
-    if fd < 0 {
-        return;
-    }
+fn read_and_answer(fd: i32) {
     let mut words = no_words();
     let held = read_all(fd, &mut words);
     answer_held(&words, held);
+}
+
+// The name of a file as a comment.
+fn put_name(i: usize) {
+    let mut name = io::buffer();
+    let length = os::arg(i, &mut name);
+    io::write_all(STDOUT, b"# ");
+    io::write_all(STDOUT, &name[..length]);
+    io::write_all(STDOUT, b"\n");
+}
+
+// The file that argument i names; of several files each after a comment with its name.
+fn read_file(i: usize, several: bool) {
+    if several {
+        put_name(i);
+    }
+    let fd = file_input::named(i);
+    if fd < 0 {
+        return;
+    }
+    read_and_answer(fd);
+}
+
+fn read_files(n: usize) {
+    let mut i: usize = 1;
+    while i < n {
+        read_file(i, 2 < n);
+        i += 1;
+    }
+}
+
+fn main() {
+    let n = os::arg_count();
+    if n < 2 {
+        read_and_answer(0);
+    } else {
+        read_files(n);
+    }
 }

@@ -1,0 +1,2 @@
+pub mod ModulePlace
+pub mod SpirvTerm3

@@ -1,0 +1,6 @@
+pub mod MadeLaws
+pub mod HeldLaws
+pub mod RecordedLaws
+pub mod NumberLaws
+pub mod OrderLaws
+pub mod RecordsProof

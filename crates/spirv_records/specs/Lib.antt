@@ -1,0 +1,2 @@
+pub mod TypesRead
+pub mod Records
