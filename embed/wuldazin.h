@@ -1,5 +1,5 @@
 /* Type tables of naga 30.0.1: layouts, verdicts, immediate slots, passes tried with them, places and a report of bytes; plain types
- * from a table; and type tables from SPIR-V.
+ * from a table; type tables from SPIR-V; and the first order of members that has at most a span.
  *
  * Link with libdoors.a (x86-64 Linux). Nothing is kept between calls, nothing is allocated.
  *
@@ -19,13 +19,14 @@
  * verdict, are the same under both.
  *
  * rows takes WULDAZIN_ROW_WORDS words a type; n types need n * WULDAZIN_ROW_WORDS words, and no word after them is ever written.
- *  - accepted: the row of each type. Also with numbers 25 to 27 and 37, which come after the arena was accepted. Accepted does not mean usable in
+ *  - accepted: the row of each type. Also with numbers 25 to 27 and 37, which come after the arena was accepted, and with those that
+ *    wuldazin_order has for the types it is given. Accepted does not mean usable in
  *    an address space: before a buffer is filled, look at the verdict of its type. A vec3 at offset 4 is accepted, with storage code 3.
  *  - number 1: untouched.
  *  - numbers 2 to 24 and 34: n * WULDAZIN_ROW_WORDS zeros.
  *
- * answer takes WULDAZIN_ANSWER_WORDS words: number, type, member, detail; all 0 when accepted. Numbers 1, 25, 26, 28 to 30, 36 and 37, and 2 of
- * wuldazin_plain, have zeros after the number. member is the position in the struct for 6 and 17 to 21, else 0; detail is the missing
+ * answer takes WULDAZIN_ANSWER_WORDS words: number, type, member, detail; all 0 when accepted. Numbers 1, 25, 26, 28 to 30, 35 to 37, 2 of
+ * wuldazin_plain and those that wuldazin_order has for the types it is given have zeros after the number. member is the position in the struct for 6 and 17 to 21, else 0; detail is the missing
  * capability's bit for 8, what is wrong with a blend source for 34, else 0.
  *
  * mask takes WULDAZIN_MASK_WORDS words, bit k of each for slot k, bytes 4k to 4k + 3: the slots that are touched, then those that a part
@@ -35,7 +36,7 @@
  * chosen, 0 or not. The host keeps them from call to call; any three words are a pass. An accepted step writes all three, 1 for a
  * pipeline; a refused one writes none. On a shorter buffer every step is refused with number 1, before everything else.
  *
- * An answer, place, totals, numbers, counts, missing or part buffer that is too short for its words is left as it was. Words after its own are left in every buffer.
+ * An answer, place, totals, numbers, counts, missing, part or found buffer that is too short for its words is left as it was. Words after its own are left in every buffer.
  */
 #ifndef WULDAZIN_H
 #define WULDAZIN_H
@@ -56,6 +57,8 @@ enum {
     WULDAZIN_MASK_WORDS = 2,
     WULDAZIN_REPORT_WORDS = 2,
     WULDAZIN_PASS_WORDS = 3,
+    WULDAZIN_FOUND_WORDS = 9,
+    WULDAZIN_MOST_GIVEN = 7,
     WULDAZIN_MOST_TYPES = 1024,
     WULDAZIN_MOST_MEMBERS = 4096,
     WULDAZIN_ALL_CAPABILITIES = 16383
@@ -219,6 +222,7 @@ enum {
     WULDAZIN_TEXT_NAME = 32,
     WULDAZIN_TEXT_NUMBER = 33,
     WULDAZIN_BLEND_SOURCE = 34,
+    WULDAZIN_NONE_FITS = 35,
     WULDAZIN_NOT_READY = 36,
     WULDAZIN_NO_IMMEDIATES = 37
 };
@@ -238,7 +242,7 @@ static inline const char *wuldazin_meaning(uint32_t number) {
     switch (number) {
     case WULDAZIN_ACCEPTED: return "accepted";
     case WULDAZIN_TABLE_LENGTH:
-        return "a table is no whole number of records or too long, the rows, the report or the pass are too short, a module has more records than the tables admit, or a capability bit above 13 is set";
+        return "a table is no whole number of records or too long, the rows, the report or the pass are too short, a module has more records than the tables admit, an order has more than seven types or no room for its struct, or a capability bit above 13 is set";
     case WULDAZIN_FIELD:
         return "a field lies outside its set, member rows reach past the table, a blend source has no location, or no plain type has that shape and width";
     case WULDAZIN_BASE_OUTSIDE: return "the base of a pointer or binding array lies outside the arena";
@@ -277,6 +281,7 @@ static inline const char *wuldazin_meaning(uint32_t number) {
     case WULDAZIN_TEXT_NUMBER:
         return "an attribute is one that WGSL forbids, an array's count is 0, or a number or a placement is above 4,294,967,295";
     case WULDAZIN_BLEND_SOURCE: return "the blend sources of a struct's members are refused";
+    case WULDAZIN_NONE_FITS: return "none of the allowed orders of the types has at most that span";
     case WULDAZIN_NOT_READY: return "a dispatch has no pipeline, or slots that it needs are not set";
     case WULDAZIN_NO_IMMEDIATES: return "a type's immediates word is not 0, or a range's offset or size is no multiple of 4";
     default: return "no number of an answer";
@@ -431,6 +436,30 @@ void wuldazin_read_wgsl(const uint8_t *text, size_t text_length,
                         uint32_t *members, size_t members_length,
                         uint32_t *counts, size_t counts_length,
                         uint32_t *answer, size_t answer_length);
+
+/* The first order, by member numbers, of the wanted types as members of a struct whose WGSL placement, by the layout's sizes and alignments,
+ * has at most the span; a runtime array stays last. wanted has one to WULDAZIN_MOST_GIVEN type numbers; a member number is a position in it.
+ * types and members have room: type_count types and member_count member rows at their start are the arena, and the words behind them
+ * are not read. The struct, with its own span, becomes type type_count, its members the rows from member_count on, with no location and no
+ * blend source, and the arena with it is judged.
+ * found: the struct's type number, its span, and the member number at each of WULDAZIN_MOST_GIVEN places, 0 for a place that it has not;
+ * zeros on a refusal.
+ *  - accepted: the record and the rows are written, and rows has those of type_count + 1 types.
+ *  - number 1, tested first: more than WULDAZIN_MOST_GIVEN types, or no room for the record, the member rows or the row of the struct in
+ *    the tables, the limits or rows. Nothing is touched.
+ *  - numbers 1 to 24 and 34 of the arena: as in wuldazin_check, for type_count types.
+ *  - then, over all wanted types, 16: none; 6: one outside the arena; 17: one that is no data; 20: an unsized struct, or a second runtime
+ *    array; 35: no such order has at most the span. The rows of type_count types are kept.
+ *  - then a refusal of the arena with the struct, as number 21 of type type_count: zeros for type_count + 1 types.
+ * No refusal writes a record. Up to 5,040 orders are tried. */
+void wuldazin_order(uint32_t *types, size_t types_length, uint32_t type_count,
+                    uint32_t *members, size_t members_length, uint32_t member_count,
+                    uint32_t capabilities, uint32_t rule,
+                    uint32_t *rows, size_t rows_length,
+                    const uint32_t *wanted, size_t wanted_length,
+                    uint32_t span,
+                    uint32_t *found, size_t found_length,
+                    uint32_t *answer, size_t answer_length);
 
 #ifdef __cplusplus
 }

@@ -32,10 +32,10 @@ enum {
 
 enum { LAST_NUMBER = 37, UNANSWERED }; /* UNANSWERED: the buffer was too short for an answer */
 
-enum { LAYOUT, JUDGE, CHECK, RANGE, SLOTS, CONTAINS, DIFFERENCE, UNION, START, SET, CHOOSE, DISPATCH, PLACE, REPORT, PLAIN, SPIRV, WGSL, MEMBERS, DOORS };
+enum { LAYOUT, JUDGE, CHECK, RANGE, SLOTS, CONTAINS, DIFFERENCE, UNION, START, SET, CHOOSE, DISPATCH, PLACE, REPORT, PLAIN, SPIRV, WGSL, ORDER, MEMBERS, DOORS };
 static const char *const door_names[DOORS] = {"layout", "judge", "check",  "range",    "slots", "contains", "difference", "union",
                                               "start",  "set",   "choose", "dispatch", "place", "report",   "plain",      "spirv",
-                                              "wgsl",   "members"};
+                                              "wgsl",   "order", "members"};
 
 typedef struct {
     size_t types_length, members_length;
@@ -719,10 +719,78 @@ static void wgsl_call(size_t answer_length, size_t counts_length) {
     take_back(&answer, answer_length < 4 ? 0 : 16);
 }
 
+/* Each place has a member of its own, of the wanted type, and the arena with the struct is accepted with the same rows. */
+static void look_at_order(const uint32_t *t, uint32_t n, const uint32_t *m, uint32_t in_use, const uint32_t *list, uint32_t k, uint32_t span,
+                          const uint32_t *found, uint32_t capabilities, uint32_t rule) {
+    static uint32_t own[ROWS_MOST];
+    uint32_t a[4], seen_places = 0;
+    const uint32_t *r = t + 6 * n, *row = m + WULDAZIN_MEMBER_WORDS * in_use;
+    require(r[0] == 8 && r[1] == in_use && r[2] == k && r[3] <= span && (r[4] | r[5]) == 0, "record of an order");
+    if (found) require(found[0] == n && found[1] == r[3], "words of an order");
+    for (uint32_t j = 0; j < WULDAZIN_MOST_GIVEN; j++) {
+        if (found) require(j < k ? found[2 + j] < k : found[2 + j] == 0, "place of an order");
+        if (j >= k) continue;
+        if (found) seen_places |= 1u << found[2 + j];
+        if (found) require(row[4 * j] == list[found[2 + j]], "type at a place");
+        require((row[4 * j + 2] | row[4 * j + 3]) == 0, "location or blend source of an order");
+    }
+    if (found) require(seen_places == (1u << k) - 1, "member at two places");
+    wuldazin_check(t, 6 * (n + 1), m, WULDAZIN_MEMBER_WORDS * (in_use + k), capabilities, rule, own, 14 * (n + 1), a, 4);
+    require(a[0] == 0 && !memcmp(own, rows.data, 56 * (n + 1)), "rows of the arena with an order");
+}
+
+/* Tables with room behind the records in use, mostly enough. */
+static void order_call(size_t answer_length) {
+    static uint32_t list[16];
+    make_tables();
+    uint32_t n = now.types_length / 6, in_use = now.members_length / WULDAZIN_MEMBER_WORDS, k = below(16) ? 1 + below(7) : below(10);
+    size_t tl = 6 * (n + 1) + (below(4) ? 0 : below(12)), ml = WULDAZIN_MEMBER_WORDS * (in_use + k) + (below(4) ? 0 : below(12));
+    size_t rl = 14 * (n + 1) + (below(4) ? 0 : below(30)), fl = below(8) ? WULDAZIN_FOUND_WORDS + below(3) : below(WULDAZIN_FOUND_WORDS);
+    if (below(16) == 0) tl -= 1 + below(6);
+    if (below(16) == 0) ml -= ml ? 1 : 0;
+    if (below(16) == 0) rl -= 1 + below(14);
+    if (tl > TYPES_MOST) tl = TYPES_MOST;
+    if (ml > MEMBERS_MOST) ml = MEMBERS_MOST;
+    if (rl > ROWS_MOST) rl = ROWS_MOST;
+    for (size_t i = 6 * (size_t)n; i < TYPES_MOST; i++) now.types[i] = noise[i];
+    for (size_t i = WULDAZIN_MEMBER_WORDS * (size_t)in_use; i < MEMBERS_MOST; i++) now.members[i] = noise[i];
+    for (uint32_t i = 0; i < 16; i++) list[i] = n && below(32) ? below(n) : wild();
+    if (below(64) == 0) n = wild();
+    if (below(64) == 0) in_use = wild();
+    uint32_t capabilities = capability_word(), rule = rule_word(), span = below(3) ? below(400) : wild();
+    uint32_t *t = lend(&types, now.types, 4 * tl), *m = lend(&members, now.members, 4 * ml), *r = lend(&rows, noise + below(1024), 4 * rl);
+    uint32_t *f = lend(&report, noise + below(1024), 4 * fl), *a = lend(&answer, noise + below(1024), 4 * answer_length);
+    const uint32_t *w = lend(&steps, list, 4 * k);
+    wuldazin_order(t, tl, n, m, ml, in_use, capabilities, rule, r, rl, w, k, span, f, fl, a, answer_length);
+    bool room = k <= 7 && n < 1024 && 6 * ((size_t)n + 1) <= tl && (size_t)in_use + k <= 4096 && WULDAZIN_MEMBER_WORDS * ((size_t)in_use + k) <= ml && 14 * ((size_t)n + 1) <= rl;
+    room = room && capabilities <= WULDAZIN_ALL_CAPABILITIES && rule <= WULDAZIN_NEWER;
+    uint32_t number = UNANSWERED, ty = 0, all = 0;
+    if (answer_length >= 4) number = a[0], ty = a[1];
+    else unanswered++;
+    for (size_t i = 0; i < fl && i < WULDAZIN_FOUND_WORDS; i++) all |= f[i];
+    if (number != UNANSWERED) {
+        require(number <= 24 || number == 34 || number == 35, "number of an order");
+        require((number == 1) == !room, "number 1 given or kept back wrongly");
+        require(number == 0 || fl < WULDAZIN_FOUND_WORDS || all == 0, "words beside a refusal");
+        numbers[number]++;
+    }
+    size_t own = number != 0 && number != UNANSWERED ? 0 : room; /* records written */
+    bool passed_on = number == 21 && ty == n;
+    if (number == 0) look_at_order(t, n, m, in_use, list, k, span, fl < WULDAZIN_FOUND_WORDS ? NULL : f, capabilities, rule);
+    if (passed_on) for (size_t i = 0; i < 14 * ((size_t)n + 1); i++) require(r[i] == 0, "rows of a struct that is refused");
+    if (own) require(!memcmp(t, types.before, 24 * (size_t)n) && !memcmp(m, members.before, 16 * (size_t)in_use), "records in use changed");
+    take_back(&types, own ? 24 * ((size_t)n + 1) : 0);
+    take_back(&members, own ? 16 * ((size_t)in_use + k) : 0);
+    take_back(&rows, !room ? 0 : own || passed_on ? 56 * ((size_t)n + 1) : 56 * (size_t)n);
+    take_back(&report, fl < WULDAZIN_FOUND_WORDS ? 0 : 4 * WULDAZIN_FOUND_WORDS);
+    take_back(&answer, answer_length < 4 ? 0 : 16);
+    take_back(&steps, 0);
+}
+
 static void one_call(void) {
     static uint32_t list[STEPS_MOST];
     static const unsigned char choice[] = {LAYOUT, JUDGE, JUDGE, CHECK,  CHECK,  RANGE,  SLOTS,    SLOTS, SLOTS, CONTAINS, DIFFERENCE, UNION, START,
-                                           SET,    SET,   CHOOSE, CHOOSE, CHOOSE, DISPATCH, PLACE, PLACE, PLACE, REPORT,   REPORT,     PLAIN, SPIRV, SPIRV, SPIRV, WGSL, WGSL, MEMBERS};
+                                           SET,    SET,   CHOOSE, CHOOSE, CHOOSE, DISPATCH, PLACE, PLACE, PLACE, REPORT,   REPORT,     PLAIN, SPIRV, SPIRV, SPIRV, WGSL, WGSL, ORDER, ORDER, MEMBERS};
     size_t answer_length = below(16) ? 4 + below(ANSWER_MOST - 3) : below(4), output_length = below(OUTPUT_MOST + 1);
     uint64_t out[2] = {0, 0};
     door = choice[below(sizeof choice)];
@@ -744,6 +812,11 @@ static void one_call(void) {
     }
     if (door == WGSL) {
         wgsl_call(answer_length, output_length);
+        doors[door]++;
+        return;
+    }
+    if (door == ORDER) {
+        order_call(answer_length);
         doors[door]++;
         return;
     }
@@ -863,7 +936,7 @@ int main(int words, char **word_list) {
     double seconds = (end.tv_sec - start.tv_sec) + 1e-9 * (end.tv_nsec - start.tv_nsec);
 
     for (int d = 0; d < DOORS; d++) printf("%-10s %9llu calls\n", door_names[d], (unsigned long long)doors[d]);
-    for (int n = 0; n <= LAST_NUMBER; n++) if (n != 35) printf("number %2d %9llu\n", n, (unsigned long long)numbers[n]);
+    for (int n = 0; n <= LAST_NUMBER; n++) printf("number %2d %9llu\n", n, (unsigned long long)numbers[n]);
     for (int d = 1; d <= 6; d++) printf("number 34, detail %d %9llu\n", d, (unsigned long long)blend_details[d]);
     printf("answer too short %llu\n", (unsigned long long)unanswered);
     printf("places that are columns %llu\n", (unsigned long long)columns);

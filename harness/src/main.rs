@@ -12,7 +12,8 @@
         feature = "plain",
         feature = "pass",
         feature = "spirv",
-        feature = "wgsl"
+        feature = "wgsl",
+        feature = "order"
     )),
     allow(dead_code)
 )]
@@ -43,6 +44,9 @@ mod members;
 #[cfg(feature = "mock")]
 mod mock;
 mod newer;
+mod order;
+#[cfg(feature = "order")]
+mod order_calls;
 mod panics;
 mod partly;
 mod pass;
@@ -107,6 +111,7 @@ const USAGE: &str = "usage: layout COUNT [SEED]
        pass COUNT [SEED]                        (features pass, slots)
        wgsl COUNT [SEED]                        (feature wgsl)
        wgsl_places COUNT SEED PROGRAM           (feature wgsl)
+       order COUNT [SEED]                       (feature order)
        renaming COUNT [SEED]                    (features check, slots, place)
        spirv COUNT [SEED]                       (feature spirv)
        replay COUNT [SEED [STDIN STDOUT]]       (features slots, place, members)
@@ -163,6 +168,8 @@ fn main() -> ExitCode {
             Some(program) => wgsl_places::places(first, seed, program),
             None => return usage(),
         },
+        #[cfg(feature = "order")]
+        "order" => order_calls::order(first, seed),
         #[cfg(all(feature = "check", feature = "slots", feature = "place"))]
         "renaming" => renaming_calls::renaming(first, seed),
         #[cfg(feature = "spirv")]

@@ -107,6 +107,26 @@ extern "C" {
         answer: *mut u32,
         answer_len: usize,
     );
+    #[cfg(feature = "order")]
+    fn wuldazin_order(
+        types: *mut u32,
+        types_len: usize,
+        type_count: u32,
+        members: *mut u32,
+        members_len: usize,
+        member_count: u32,
+        capabilities: u32,
+        rule: u32,
+        rows: *mut u32,
+        rows_len: usize,
+        wanted: *const u32,
+        wanted_len: usize,
+        span: u32,
+        found: *mut u32,
+        found_len: usize,
+        answer: *mut u32,
+        answer_len: usize,
+    );
     #[cfg(feature = "members")]
     fn wuldazin_members(
         types: *const u32,
@@ -341,6 +361,39 @@ pub fn report(arena: &Arena, report: &mut [u64], lent: Lent) {
             lent.output.len(),
             lent.answer.as_mut_ptr(),
             lent.answer.len(),
+        )
+    }
+}
+
+#[cfg(feature = "order")]
+pub fn order(
+    call: &crate::order::Call,
+    types: &mut [u32],
+    members: &mut [u32],
+    rows: &mut [u32],
+    found: &mut [u32],
+    answer: &mut [u32],
+) {
+    // As above.
+    unsafe {
+        wuldazin_order(
+            types.as_mut_ptr(),
+            types.len(),
+            call.arena.type_count() as u32,
+            members.as_mut_ptr(),
+            members.len(),
+            call.arena.member_count() as u32,
+            call.arena.capabilities,
+            call.arena.rule,
+            rows.as_mut_ptr(),
+            rows.len(),
+            call.wanted.as_ptr(),
+            call.wanted.len(),
+            call.span,
+            found.as_mut_ptr(),
+            found.len(),
+            answer.as_mut_ptr(),
+            answer.len(),
         )
     }
 }

@@ -26,6 +26,7 @@ pub enum Command {
     Choose,
     Run,
     Clear,
+    Order,
     Unknown,
 }
 

@@ -37,6 +37,7 @@ fn put_help() {
   set OFFSET SIZE     set MASK, all slots set so far
   choose T            needs MASK, the slots that the type needs
   run                 passes, or a refusal and missing MASK
+  order SPAN T1 .. Tk order TYPE SPAN N1 .. Nk: the first order of these types that has at most the span, as a struct of the arena
 A refusal is refused NUMBER TYPE MEMBER DETAIL. A line that cannot be read ends the program.
 ",
     );

@@ -88,6 +88,35 @@ fn add(mut s: Session, arena: &mut Arena, at: usize, limit: usize, words: &[u32]
     s
 }
 
+// How many types and how many member rows the arena holds.
+pub fn types_held(s: Session) -> u32 {
+    let end = s.types;
+    if end > MEMBERS_AT {
+        return 0;
+    }
+    (end / records::TYPE_WORDS) as u32
+}
+
+pub fn rows_held(s: Session) -> u32 {
+    let end = s.members;
+    if end > ARENA_WORDS {
+        return 0;
+    }
+    if end < MEMBERS_AT {
+        return 0;
+    }
+    ((end - MEMBERS_AT) / records::MEMBER_WORDS) as u32
+}
+
+// One type and some member rows more than n and m.
+pub fn held(mut s: Session, n: u32, m: u32, more: usize) -> Session {
+    s.types = (n as usize + 1) * records::TYPE_WORDS;
+    if more < 8 {
+        s.members = MEMBERS_AT + (m as usize + more) * records::MEMBER_WORDS;
+    }
+    s
+}
+
 fn stop(mut s: Session, reason: Reason) -> Session {
     match reason {
         Reason::NotANumber(word) => {

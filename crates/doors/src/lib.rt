@@ -16,6 +16,8 @@ ghost use Rattle.plain_types.specs.PlainTypes.{plainAnswer};
 ghost use Rattle.report.specs.Report.{reportAnswer, reportRows, reportWords};
 ghost use Rattle.spirv.specs.Read.{readInto, sectionOf, typesAfter, membersAfter};
 ghost use Rattle.wgsl_read.specs.Text.{textOf, answerOf, typesLeft, membersLeft};
+ghost use Rattle.order.specs.Call.{ordered};
+ghost use Rattle.order_words.specs.Words.{orderOutcome, withFound};
 ghost use Rattle.doors_words.specs.Words.{slotsOutcome, placeOutcome, totalsOutcome, plainOutcome, byteOf, leafOf, carriedOf, wastedOf, partStart, partLength, withAnswer, withTwo, withNumbers, withMasks, withPass, withTried, triedIn, passRows, withOne, sectionOutcome, typesRead, membersRead, textOutcome, textTypes, textMembers};
 
 // Sizes and alignments of an arena, in the first two words of the lent rows.
@@ -337,4 +339,40 @@ pub extern "C" fn wuldazin_read_wgsl(
         doors_words::text_members(found),
     );
     doors_words::put_answer(answer, doors_words::text_outcome(found));
+}
+
+// The first order of the wanted types that has at most the span, as a struct behind the records in use.
+#[no_mangle]
+pub extern "C" fn wuldazin_order(
+    types: &mut [u32],
+    n: u32,
+    members: &mut [u32],
+    m: u32,
+    capabilities: u32,
+    rule: u32,
+    rows: &mut [u32],
+    wanted: &[u32],
+    span: u32,
+    found: &mut [u32],
+    answer: &mut [u32],
+)
+    ensures { λ _. ⌜ now (types .exit) ≡ ordered (ruleOf rule) (capabilitiesBy rule capabilities) (now (types .entry)) n (now (members .entry)) m (now (rows .entry)) (now (wanted .entry)) span .types ⌝ }
+    ensures { λ _. ⌜ now (members .exit) ≡ ordered (ruleOf rule) (capabilitiesBy rule capabilities) (now (types .entry)) n (now (members .entry)) m (now (rows .entry)) (now (wanted .entry)) span .members ⌝ }
+    ensures { λ _. ⌜ now (rows .exit) ≡ ordered (ruleOf rule) (capabilitiesBy rule capabilities) (now (types .entry)) n (now (members .entry)) m (now (rows .entry)) (now (wanted .entry)) span .rows ⌝ }
+    ensures { λ _. ⌜ now (found .exit) ≡ withFound (now (found .entry)) (length (now (wanted .entry))) (ordered (ruleOf rule) (capabilitiesBy rule capabilities) (now (types .entry)) n (now (members .entry)) m (now (rows .entry)) (now (wanted .entry)) span .answer) ⌝ }
+    ensures { λ _. ⌜ now (answer .exit) ≡ withAnswer (now (answer .entry)) (orderOutcome (ordered (ruleOf rule) (capabilitiesBy rule capabilities) (now (types .entry)) n (now (members .entry)) m (now (rows .entry)) (now (wanted .entry)) span .answer)) ⌝ }
+{
+    order_door::order_into(
+        types,
+        n,
+        members,
+        m,
+        capabilities,
+        rule,
+        rows,
+        wanted,
+        span,
+        found,
+        answer,
+    );
 }

@@ -33,6 +33,10 @@ pub fn five(name: &[u8], five: &[u32; 5]) {
     words(name, five);
 }
 
+pub fn ten(name: &[u8], ten: &[u32; 10]) {
+    words(name, ten);
+}
+
 // The answer of an arena that is made for a number.
 pub fn refusal(number: u32, answer: &[u32; 5]) {
     io::write_all(STDOUT, b"made for");

@@ -55,6 +55,7 @@ fn last_usage() {
     stop(b"choose");
     stop(b"run 0");
     stop(b"clear 0");
+    stop(b"order");
 }
 
 // Tables that are full: 1,024 types, 4,096 members.

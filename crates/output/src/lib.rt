@@ -149,6 +149,11 @@ pub fn put_plain(out: &mut Buffer, at: usize, size: u32, alignment: u32, step: u
     put_words(out, at, b"plain", &[size, alignment, step], false)
 }
 
+// The struct's type number and its span, and the member at each place.
+pub fn put_order(out: &mut Buffer, at: usize, words: &[u32]) -> usize {
+    put_words(out, at, b"order", words, false)
+}
+
 // The slots after a step of a pass that was accepted.
 pub fn put_step(out: &mut Buffer, at: usize, name: &[u8], mask: u64, outcome: Outcome) -> usize {
     match outcome {
@@ -218,7 +223,8 @@ pub fn usage_line(command: arguments::Command) -> u32 {
         arguments::Command::Choose => 26,
         arguments::Command::Run => 27,
         arguments::Command::Clear => 28,
-        arguments::Command::Unknown => 29,
+        arguments::Command::Order => 29,
+        arguments::Command::Unknown => 30,
     }
 }
 
@@ -272,7 +278,8 @@ fn put_why(out: &mut Buffer, at: usize, why: u32) -> usize {
 : choose takes a type
 : run takes no number
 : clear takes no number
-: no such command; there are caps, rule, type, member, layout, judge, check, members, slots, range, place, report, plain, pass, set, choose, run and clear
+: order takes a span and at most 1024 types
+: no such command; there are caps, rule, type, member, layout, judge, check, members, slots, range, place, report, plain, pass, set, choose, run, clear and order
 ",
         2,
         why,

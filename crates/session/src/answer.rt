@@ -3,6 +3,7 @@ use commands::Arena;
 use commands::Rows;
 use commands::Session;
 use immediates_pass::Tried;
+use order::OrderAnswer;
 use output::Buffer;
 use place::PlaceAnswer;
 use plain_types::PlainAnswer;
@@ -10,6 +11,8 @@ use records::Outcome;
 use report::ReportAnswer;
 use text::Line;
 use type_info::UniformRule;
+ghost use mathlib.Core.Path.{_≡_};
+ghost use lib.ListN.{length};
 
 fn put_rows(out: &mut Buffer, at: usize, outcome: Outcome, types: &[u32], rows: &Rows) -> usize {
     let end = records::type_count(types) * records::ROW_WORDS;
@@ -230,6 +233,66 @@ fn put_answer(
     }
 }
 
+// The member rows of the arena.
+fn take_members(members: &mut [u32], arena: &[u32])
+    requires { ⌜ (length (now members) ≡ 16384) × (length (now arena) ≡ 22528) ⌝ }
+{
+    order_struct::put(members, 0, &arena[commands::MEMBERS_AT..], 16384);
+}
+
+// The members are copied for the call, since both tables stand in one run of words; a struct that was found is then part of the arena.
+fn put_order(
+    given: &[u32],
+    span: u32,
+    mut s: Session,
+    arena: &mut Arena,
+    rows: &mut Rows,
+    out: &mut Buffer,
+) -> Session {
+    let mut members = [0u32; 16384];
+    take_members(&mut members, arena);
+    let n = commands::types_held(s);
+    let m = commands::rows_held(s);
+    let capabilities = rule_word::capabilities_by(s.rule, s.capabilities);
+    let rule = rule_word::rule_of(s.rule);
+    let made = order::order(
+        arena,
+        n,
+        &mut members,
+        m,
+        capabilities,
+        rule,
+        rows,
+        given,
+        span,
+    );
+    match made {
+        OrderAnswer::Found {
+            ty: _,
+            span: _,
+            order: _,
+        } => {
+            let words = order_words::found_words(given.len(), made);
+            s.waiting = output::put_order(
+                out,
+                s.waiting,
+                commands::part(&words, 0, given.len() + 2),
+            );
+            order_struct::put(arena, commands::MEMBERS_AT, &members, 16384);
+            commands::held(s, n, m, given.len())
+        }
+        OrderAnswer::Refused {
+            number,
+            ty,
+            member,
+            detail,
+        } => {
+            s.waiting = output::put_refusal(out, s.waiting, number, ty, member, detail);
+            s
+        }
+    }
+}
+
 // Answers a line.
 pub fn answer(
     line: &[u8],
@@ -247,5 +310,15 @@ pub fn answer(
     s.waiting = put_step(read, tried, s.waiting, out);
     let waiting = put_answer(read, &numbers, s, arena, rows, out);
     s.waiting = waiting;
-    s
+    match read {
+        Line::Order { span, given } => put_order(
+            commands::part(&numbers, 1, given as usize + 1),
+            span,
+            s,
+            arena,
+            rows,
+            out,
+        ),
+        _ => s,
+    }
 }

@@ -24,7 +24,7 @@ same [] (y ∷ t) = false
 same (x ∷ s) [] = false
 same (x ∷ s) (y ∷ t) = eqb x y && same s t
 
--- pass, set, choose, run, clear
+-- pass, set, choose, run, clear, order
 unfoldable pub lastCommandOf : List ℕ → Command
 lastCommandOf w =
     pick (same w (112 ∷ 97 ∷ 115 ∷ 115 ∷ [])) command.Pass
@@ -32,7 +32,8 @@ lastCommandOf w =
     (pick (same w (99 ∷ 104 ∷ 111 ∷ 111 ∷ 115 ∷ 101 ∷ [])) command.Choose
     (pick (same w (114 ∷ 117 ∷ 110 ∷ [])) command.Run
     (pick (same w (99 ∷ 108 ∷ 101 ∷ 97 ∷ 114 ∷ [])) command.Clear
-    command.Unknown))))
+    (pick (same w (111 ∷ 114 ∷ 100 ∷ 101 ∷ 114 ∷ [])) command.Order
+    command.Unknown)))))
 
 -- range, place, report, plain, and those above
 unfoldable pub answerCommandOf : List ℕ → Command
@@ -82,6 +83,7 @@ leastOf command.SetRange = 2
 leastOf command.Choose = 1
 leastOf command.Run = 0
 leastOf command.Clear = 0
+leastOf command.Order = 1
 leastOf command.Unknown = 1
 
 abbrev pub mostOf : Command → ℕ
@@ -103,6 +105,7 @@ mostOf command.SetRange = 2
 mostOf command.Choose = 1
 mostOf command.Run = 0
 mostOf command.Clear = 0
+mostOf command.Order = 1025
 mostOf command.Unknown = 0
 
 -- ---- the numbers after a command, and not too few
@@ -117,7 +120,7 @@ abbrev pub listOf : Arguments → List ℕ
 listOf (read ns) = ns
 listOf (wrong r) = []
 
--- ---- the line. Words left off are 0; the steps of a place are the numbers after the first
+-- ---- the line. Words left off are 0; the steps of a place and the types given for an order are the numbers after the first
 abbrev pub lineBy : Command → List ℕ → Line
 lineBy command.Capabilities ns = line.Capabilities (getD ns 0 0)
 lineBy command.Rule ns = line.Rule (getD ns 0 0)
@@ -137,6 +140,7 @@ lineBy command.SetRange ns = line.SetRange (getD ns 0 0) (getD ns 1 0)
 lineBy command.Choose ns = line.Choose (getD ns 0 0)
 lineBy command.Run ns = line.Run
 lineBy command.Clear ns = line.Clear
+lineBy command.Order ns = line.Order (getD ns 0 0) (length ns - 1)
 lineBy command.Unknown ns = line.Nothing
 
 abbrev pub lineWith : Command → Arguments → Line

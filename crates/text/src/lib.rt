@@ -58,6 +58,11 @@ pub enum Line {
     Choose(u32),
     Run,
     Clear,
+    // The given types stand after the span among the numbers read.
+    Order {
+        span: u32,
+        given: u32,
+    },
     Wrong(Reason),
 }
 
@@ -117,6 +122,8 @@ pub fn command_of(word: &[u8]) -> Command
         0x16e7572 => Command::Run,
         // clear
         0x17261656c63 => Command::Clear,
+        // order
+        0x1726564726f => Command::Order,
         _ => Command::Unknown,
     }
 }
@@ -152,6 +159,10 @@ fn usage_of(command: Command) -> Usage
         Command::Choose => Usage { least: 1, most: 1 },
         Command::Run => Usage { least: 0, most: 0 },
         Command::Clear => Usage { least: 0, most: 0 },
+        Command::Order => Usage {
+            least: 1,
+            most: 1025,
+        },
         Command::Unknown => Usage { least: 1, most: 0 },
     }
 }
@@ -197,6 +208,10 @@ fn line_by(command: Command, numbers: &[u32]) -> Line
         Command::Choose => Line::Choose(a),
         Command::Run => Line::Run,
         Command::Clear => Line::Clear,
+        Command::Order => {
+            let given = (numbers.len() - 1) as u32;
+            Line::Order { span: a, given }
+        }
         Command::Unknown => Line::Nothing,
     }
 }

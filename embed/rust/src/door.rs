@@ -168,4 +168,23 @@ extern "C" {
         answer: *mut u32,
         answer_length: usize,
     );
+    pub fn wuldazin_order(
+        types: *mut u32,
+        types_length: usize,
+        type_count: u32,
+        members: *mut u32,
+        members_length: usize,
+        member_count: u32,
+        capabilities: u32,
+        rule: u32,
+        rows: *mut u32,
+        rows_length: usize,
+        wanted: *const u32,
+        wanted_length: usize,
+        span: u32,
+        found: *mut u32,
+        found_length: usize,
+        answer: *mut u32,
+        answer_length: usize,
+    );
 }

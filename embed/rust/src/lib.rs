@@ -493,8 +493,78 @@ pub fn read_wgsl(text: &[u8], types: &mut [u32], members: &mut [u32]) -> Result<
     Refusal::of(answer).map(|()| Counts { types, members })
 }
 
+/// The most types that an order may have.
+pub const MOST_GIVEN: usize = 7;
+
+/// The struct of an order: its type number, its span, and which of the wanted types stands at each place.
+#[derive(Clone, Copy, Debug, PartialEq, Eq, Hash)]
+pub struct Order {
+    pub ty: u32,
+    pub span: u32,
+    count: usize,
+    places: [u32; MOST_GIVEN],
+}
+
+impl Order {
+    /// The member number at each place: a position among the wanted types.
+    pub fn places(&self) -> &[u32] {
+        &self.places[..self.count]
+    }
+}
+
+/// The first order, by member numbers, of the wanted types as members of a struct that has at most the span; a runtime
+/// array stays last. The first `type_count` types and `member_count` member rows are the arena; the struct and its rows are
+/// written behind them, and `rows` has those of `type_count + 1` types. No refusal writes a record: 1 (more than
+/// [`MOST_GIVEN`] types, or no room) and the arena's own, then 16, 6, 17, 20 and 35, which keep the rows of the arena, then
+/// those of the arena with the struct.
+#[allow(clippy::too_many_arguments)]
+pub fn order(
+    types: &mut [u32],
+    type_count: u32,
+    members: &mut [u32],
+    member_count: u32,
+    capabilities: u32,
+    rule: UniformRule,
+    rows: &mut [u32],
+    wanted: &[u32],
+    span: u32,
+) -> Result<Order, Refusal> {
+    let (mut found, mut answer) = ([0; 2 + MOST_GIVEN], [0; 4]);
+    // SAFETY: as in layout.
+    unsafe {
+        door::wuldazin_order(
+            types.as_mut_ptr(),
+            types.len(),
+            type_count,
+            members.as_mut_ptr(),
+            members.len(),
+            member_count,
+            capabilities,
+            rule as u32,
+            rows.as_mut_ptr(),
+            rows.len(),
+            wanted.as_ptr(),
+            wanted.len(),
+            span,
+            found.as_mut_ptr(),
+            found.len(),
+            answer.as_mut_ptr(),
+            answer.len(),
+        )
+    }
+    let [ty, span, places @ ..] = found;
+    Refusal::of(answer).map(|()| Order {
+        ty,
+        span,
+        count: wanted.len(),
+        places,
+    })
+}
+
 #[cfg(test)]
 mod marked;
+#[cfg(test)]
+mod smallest_orders;
 #[cfg(test)]
 mod smallest_passes;
 #[cfg(test)]

@@ -34,7 +34,7 @@ pub mod blend {
 /// As in `wuldazin_meaning` of wuldazin.h.
 const MEANINGS: [&str; 31] = [
     "accepted",
-    "a table is no whole number of records or too long, the rows, the report or the pass are too short, a module has more records than the tables admit, or a capability bit above 13 is set",
+    "a table is no whole number of records or too long, the rows, the report or the pass are too short, a module has more records than the tables admit, an order has more than seven types or no room for its struct, or a capability bit above 13 is set",
     "a field lies outside its set, member rows reach past the table, a blend source has no location, or no plain type has that shape and width",
     "the base of a pointer or binding array lies outside the arena",
     "an array's count or size is above 2,147,483,647",
@@ -92,6 +92,7 @@ impl Refusal {
                 "an attribute is one that WGSL forbids, an array's count is 0, or a number or a placement is above 4,294,967,295"
             }
             34 => "the blend sources of a struct's members are refused",
+            35 => "none of the allowed orders of the types has at most that span",
             36 => "a dispatch has no pipeline, or slots that it needs are not set",
             37 => {
                 "a type's immediates word is not 0, or a range's offset or size is no multiple of 4"
@@ -113,7 +114,7 @@ impl fmt::Display for Refusal {
         } = self;
         write!(f, "{number}: {}", self.meaning())?;
         match number {
-            1 | 25 | 26 | 28..=33 | 36 | 37 => Ok(()),
+            1 | 25 | 26 | 28..=33 | 35..=37 => Ok(()),
             6 | 17..=21 => write!(f, " (type {ty}, member {member})"),
             8 => write!(f, " (type {ty}, bit {detail})"),
             34 => write!(f, " (type {ty}, detail {detail})"),

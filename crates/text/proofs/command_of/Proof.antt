@@ -81,12 +81,16 @@ unfolding same packed lastCommandOf answerCommandOf laterCommandOf commandOf
 returns-18 c = named _ (99 ∷ 108 ∷ 101 ∷ 97 ∷ 114 ∷ []) (c .before .before .shared-slice-known .given) refl (sym (c .before .name-of .ensures) ∙ c .match .keys18)
 
 returns-19 : tie.Need-returns-19
+unfolding same packed lastCommandOf answerCommandOf laterCommandOf commandOf
+returns-19 c = named _ (111 ∷ 114 ∷ 100 ∷ 101 ∷ 114 ∷ []) (c .before .before .shared-slice-known .given) refl (sym (c .before .name-of .ensures) ∙ c .match .keys19)
+
+returns-20 : tie.Need-returns-20
 unfolding packed nameOf lastCommandOf answerCommandOf laterCommandOf commandOf
-returns-19 c =
+returns-20 c =
     let w = now (c .before .before .before .args .word) in
     let n = c .before .name-of .ensures in
     let r = c .match .rest in
-    rw (unnamed w (99 ∷ 97 ∷ 112 ∷ 115 ∷ []) (λ e. r .0 .0 .0 .0 .0 .0 .0 .0 .0 .0 .0 .0 .0 .0 .0 .0 .0 .1 (n ∙ e)), unnamed w (114 ∷ 117 ∷ 108 ∷ 101 ∷ []) (λ e. r .0 .0 .0 .0 .0 .0 .0 .0 .0 .0 .0 .0 .0 .0 .0 .0 .1 (n ∙ e)), unnamed w (116 ∷ 121 ∷ 112 ∷ 101 ∷ []) (λ e. r .0 .0 .0 .0 .0 .0 .0 .0 .0 .0 .0 .0 .0 .0 .0 .1 (n ∙ e)), unnamed w (109 ∷ 101 ∷ 109 ∷ 98 ∷ 101 ∷ 114 ∷ []) (λ e. r .0 .0 .0 .0 .0 .0 .0 .0 .0 .0 .0 .0 .0 .0 .1 (n ∙ e)), unnamed w (108 ∷ 97 ∷ 121 ∷ 111 ∷ 117 ∷ 116 ∷ []) (λ e. r .0 .0 .0 .0 .0 .0 .0 .0 .0 .0 .0 .0 .0 .1 (n ∙ e)), unnamed w (106 ∷ 117 ∷ 100 ∷ 103 ∷ 101 ∷ []) (λ e. r .0 .0 .0 .0 .0 .0 .0 .0 .0 .0 .0 .0 .1 (n ∙ e)), unnamed w (99 ∷ 104 ∷ 101 ∷ 99 ∷ 107 ∷ []) (λ e. r .0 .0 .0 .0 .0 .0 .0 .0 .0 .0 .0 .1 (n ∙ e)), unnamed w (109 ∷ 101 ∷ 109 ∷ 98 ∷ 101 ∷ 114 ∷ 115 ∷ []) (λ e. r .0 .0 .0 .0 .0 .0 .0 .0 .0 .0 .1 (n ∙ e)), unnamed w (115 ∷ 108 ∷ 111 ∷ 116 ∷ 115 ∷ []) (λ e. r .0 .0 .0 .0 .0 .0 .0 .0 .0 .1 (n ∙ e)), unnamed w (114 ∷ 97 ∷ 110 ∷ 103 ∷ 101 ∷ []) (λ e. r .0 .0 .0 .0 .0 .0 .0 .0 .1 (n ∙ e)), unnamed w (112 ∷ 108 ∷ 97 ∷ 99 ∷ 101 ∷ []) (λ e. r .0 .0 .0 .0 .0 .0 .0 .1 (n ∙ e)), unnamed w (114 ∷ 101 ∷ 112 ∷ 111 ∷ 114 ∷ 116 ∷ []) (λ e. r .0 .0 .0 .0 .0 .0 .1 (n ∙ e)), unnamed w (112 ∷ 108 ∷ 97 ∷ 105 ∷ 110 ∷ []) (λ e. r .0 .0 .0 .0 .0 .1 (n ∙ e)), unnamed w (112 ∷ 97 ∷ 115 ∷ 115 ∷ []) (λ e. r .0 .0 .0 .0 .1 (n ∙ e)), unnamed w (115 ∷ 101 ∷ 116 ∷ []) (λ e. r .0 .0 .0 .1 (n ∙ e)), unnamed w (99 ∷ 104 ∷ 111 ∷ 111 ∷ 115 ∷ 101 ∷ []) (λ e. r .0 .0 .1 (n ∙ e)), unnamed w (114 ∷ 117 ∷ 110 ∷ []) (λ e. r .0 .1 (n ∙ e)), unnamed w (99 ∷ 108 ∷ 101 ∷ 97 ∷ 114 ∷ []) (λ e. r .1 (n ∙ e)))
+    rw (unnamed w (99 ∷ 97 ∷ 112 ∷ 115 ∷ []) (λ e. r .0 .0 .0 .0 .0 .0 .0 .0 .0 .0 .0 .0 .0 .0 .0 .0 .0 .0 .1 (n ∙ e)), unnamed w (114 ∷ 117 ∷ 108 ∷ 101 ∷ []) (λ e. r .0 .0 .0 .0 .0 .0 .0 .0 .0 .0 .0 .0 .0 .0 .0 .0 .0 .1 (n ∙ e)), unnamed w (116 ∷ 121 ∷ 112 ∷ 101 ∷ []) (λ e. r .0 .0 .0 .0 .0 .0 .0 .0 .0 .0 .0 .0 .0 .0 .0 .0 .1 (n ∙ e)), unnamed w (109 ∷ 101 ∷ 109 ∷ 98 ∷ 101 ∷ 114 ∷ []) (λ e. r .0 .0 .0 .0 .0 .0 .0 .0 .0 .0 .0 .0 .0 .0 .0 .1 (n ∙ e)), unnamed w (108 ∷ 97 ∷ 121 ∷ 111 ∷ 117 ∷ 116 ∷ []) (λ e. r .0 .0 .0 .0 .0 .0 .0 .0 .0 .0 .0 .0 .0 .0 .1 (n ∙ e)), unnamed w (106 ∷ 117 ∷ 100 ∷ 103 ∷ 101 ∷ []) (λ e. r .0 .0 .0 .0 .0 .0 .0 .0 .0 .0 .0 .0 .0 .1 (n ∙ e)), unnamed w (99 ∷ 104 ∷ 101 ∷ 99 ∷ 107 ∷ []) (λ e. r .0 .0 .0 .0 .0 .0 .0 .0 .0 .0 .0 .0 .1 (n ∙ e)), unnamed w (109 ∷ 101 ∷ 109 ∷ 98 ∷ 101 ∷ 114 ∷ 115 ∷ []) (λ e. r .0 .0 .0 .0 .0 .0 .0 .0 .0 .0 .0 .1 (n ∙ e)), unnamed w (115 ∷ 108 ∷ 111 ∷ 116 ∷ 115 ∷ []) (λ e. r .0 .0 .0 .0 .0 .0 .0 .0 .0 .0 .1 (n ∙ e)), unnamed w (114 ∷ 97 ∷ 110 ∷ 103 ∷ 101 ∷ []) (λ e. r .0 .0 .0 .0 .0 .0 .0 .0 .0 .1 (n ∙ e)), unnamed w (112 ∷ 108 ∷ 97 ∷ 99 ∷ 101 ∷ []) (λ e. r .0 .0 .0 .0 .0 .0 .0 .0 .1 (n ∙ e)), unnamed w (114 ∷ 101 ∷ 112 ∷ 111 ∷ 114 ∷ 116 ∷ []) (λ e. r .0 .0 .0 .0 .0 .0 .0 .1 (n ∙ e)), unnamed w (112 ∷ 108 ∷ 97 ∷ 105 ∷ 110 ∷ []) (λ e. r .0 .0 .0 .0 .0 .0 .1 (n ∙ e)), unnamed w (112 ∷ 97 ∷ 115 ∷ 115 ∷ []) (λ e. r .0 .0 .0 .0 .0 .1 (n ∙ e)), unnamed w (115 ∷ 101 ∷ 116 ∷ []) (λ e. r .0 .0 .0 .0 .1 (n ∙ e)), unnamed w (99 ∷ 104 ∷ 111 ∷ 111 ∷ 115 ∷ 101 ∷ []) (λ e. r .0 .0 .0 .1 (n ∙ e)), unnamed w (114 ∷ 117 ∷ 110 ∷ []) (λ e. r .0 .0 .1 (n ∙ e)), unnamed w (99 ∷ 108 ∷ 101 ∷ 97 ∷ 114 ∷ []) (λ e. r .0 .1 (n ∙ e)), unnamed w (111 ∷ 114 ∷ 100 ∷ 101 ∷ 114 ∷ []) (λ e. r .1 (n ∙ e)))
 
 pub command-of-spec : {M : Type 1} → statement M
 command-of-spec =
@@ -111,4 +115,5 @@ command-of-spec =
     returns-16
     returns-17
     returns-18
-    returns-19)
+    returns-19
+    returns-20)

@@ -6,6 +6,9 @@ use Rattle.text.proofs.line_by.Tie as tie
 sub-steps : tie.Need-sub-steps
 sub-steps c = rw (c .enum-told11 .given .1) at (c .before .before .before .before .before .pre .0)
 
+sub-given : tie.Need-sub-given
+sub-given c = rw (c .enum-told19 .given .1) at (c .before .before .before .before .before .pre .0)
+
 returns : tie.Need-returns
 returns c = rw (c .enum-told .given .1, c .before .before .before .word-at .ensures)
 
@@ -38,6 +41,9 @@ returns-15 c = rw (c .enum-told15 .given .1, c .before .before .word-at2 .ensure
 
 returns-16 : tie.Need-returns-16
 returns-16 c = rw (c .enum-told16 .given .1, c .before .before .before .word-at .ensures)
+
+returns-19 : tie.Need-returns-19
+returns-19 c = rw (c .enum-told19 .given .1, c .before .before .before .word-at .ensures)
 
 pub line-by-spec : {M : Type 1} → statement M
 line-by-spec =
@@ -72,6 +78,9 @@ line-by-spec =
     (λ c. search needs)
     (λ c. search needs)
     (λ c. search needs)
+    sub-given
+    (λ c. search needs)
+    (λ c. search needs)
     returns
     returns-2
     returns-3
@@ -90,4 +99,5 @@ line-by-spec =
     returns-16
     (λ c. rw (c .enum-told17 .given .1))
     (λ c. rw (c .enum-told18 .given .1))
-    (λ c. rw (c .enum-told19 .given .1)))
+    returns-19
+    (λ c. rw (c .enum-told20 .given .1)))

@@ -1,0 +1,4 @@
+pub mod SearchLaws
+pub mod OrderLaws
+pub mod NumberLaws
+pub mod SkipLaws
