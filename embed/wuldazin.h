@@ -25,8 +25,12 @@
  *  - number 1: untouched.
  *  - numbers 2 to 24 and 34: n * WULDAZIN_ROW_WORDS zeros.
  *
- * answer takes WULDAZIN_ANSWER_WORDS words: number, type, member, detail; all 0 when accepted. Numbers 1, 25, 26, 28 to 30, 35 to 37, 2 of
- * wuldazin_plain and those that wuldazin_order has for the types it is given have zeros after the number. member is the position in the struct for 6 and 17 to 21, else 0; detail is the missing
+ * scratch takes WULDAZIN_SHORT_WORDS words a type, the first three of a row: size, alignment, flags. It is filled, zeroed and left as rows are.
+ * The calls that take it make no verdict, and take no rule.
+ *
+ * answer takes WULDAZIN_ANSWER_WORDS words: number, type, member, detail; all 0 when accepted. Numbers 1, 25, 26, 28 to 33, 35 to 37, 2 of
+ * wuldazin_plain and those that wuldazin_order has for the types it is given have zeros after the number. member is the position in the struct
+ * for 6 and 17 to 21, else 0; detail is the missing
  * capability's bit for 8, what is wrong with a blend source for 34, else 0.
  *
  * mask takes WULDAZIN_MASK_WORDS words, bit k of each for slot k, bytes 4k to 4k + 3: the slots that are touched, then those that a part
@@ -53,8 +57,10 @@ enum {
     WULDAZIN_TYPE_WORDS = 6,
     WULDAZIN_MEMBER_WORDS = 4,
     WULDAZIN_ROW_WORDS = 14,
+    WULDAZIN_SHORT_WORDS = 3,
     WULDAZIN_ANSWER_WORDS = 4,
     WULDAZIN_MASK_WORDS = 2,
+    WULDAZIN_PLACE_WORDS = 2,
     WULDAZIN_REPORT_WORDS = 2,
     WULDAZIN_PASS_WORDS = 3,
     WULDAZIN_FOUND_WORDS = 9,
@@ -242,7 +248,7 @@ static inline const char *wuldazin_meaning(uint32_t number) {
     switch (number) {
     case WULDAZIN_ACCEPTED: return "accepted";
     case WULDAZIN_TABLE_LENGTH:
-        return "a table is no whole number of records or too long, the rows, the report or the pass are too short, a module has more records than the tables admit, an order has more than seven types or no room for its struct, or a capability bit above 13 is set";
+        return "a table is no whole number of records or too long, the rows, the scratch, the places, the report or the pass are too short, a run of steps is cut short, a module has more records than the tables admit, an order has more than seven types or no room for its struct, or a capability bit above 13 is set";
     case WULDAZIN_FIELD:
         return "a field lies outside its set, member rows reach past the table, a blend source has no location, or no plain type has that shape and width";
     case WULDAZIN_BASE_OUTSIDE: return "the base of a pointer or binding array lies outside the arena";
@@ -380,6 +386,33 @@ void wuldazin_place(const uint32_t *types, size_t types_length,
                     const uint32_t *steps, size_t steps_length,
                     uint64_t *place, size_t place_length,
                     uint32_t *answer, size_t answer_length);
+
+/* The same by three words for each type: the answer and the place of wuldazin_place for the same tables, capabilities, start and steps. A scratch
+ * of fewer words is number 1. Numbers 1 to 24, 26 and 34. */
+void wuldazin_place_short(const uint32_t *types, size_t types_length,
+                          const uint32_t *members, size_t members_length,
+                          uint32_t capabilities,
+                          uint32_t *scratch, size_t scratch_length,
+                          uint32_t start,
+                          const uint32_t *steps, size_t steps_length,
+                          uint64_t *place, size_t place_length,
+                          uint32_t *answer, size_t answer_length);
+
+/* Many places with one judging. runs: one after the other, each its start, how many steps it has, and the steps. Numbers 1 to 24 and 34; a run
+ * that is cut short, or places for fewer runs than there are, is number 1.
+ * places takes WULDAZIN_PLACE_WORDS words for each run, what wuldazin_place_short answers for it: the leaf's first byte and its type; both
+ * 2^64 - 1 where there is no place.
+ *  - accepted: the words of each run. That a run has no place refuses no other.
+ *  - number 1: untouched.
+ *  - every other number: 2^64 - 1 in all words of the runs.
+ * No earlier call is trusted: the arena is judged in this one. */
+void wuldazin_places(const uint32_t *types, size_t types_length,
+                     const uint32_t *members, size_t members_length,
+                     uint32_t capabilities,
+                     uint32_t *scratch, size_t scratch_length,
+                     const uint32_t *runs, size_t runs_length,
+                     uint64_t *places, size_t places_length,
+                     uint32_t *answer, size_t answer_length);
 
 /* The bytes that lie in leaves and those of the span that lie in none, for each struct with WULDAZIN_HOST_SHAREABLE. A runtime array
  * counts as one element. Judges the arena first. Numbers 1 to 24, 27 and 34.

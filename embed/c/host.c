@@ -1,4 +1,4 @@
-/* A host that fills a storage buffer by place lookups:
+/* A host that fills a storage buffer by place lookups, all in one call:
  *
  *   struct Cell { temperature: vec3<f32>, moisture: f32 }
  *   struct Kernel { turn: mat3x3<f32>, steps: u32, cells: array<Cell, 4>, tail: array<f32> }
@@ -16,7 +16,7 @@
 
 enum { F32, VEC3, CELL, CELLS, U32, TAIL, MAT3X3, KERNEL, TYPES };
 enum { COLUMNS = 3, COLUMN_STEP = 16, STEPS_START = 48, CELLS_START = 64, CELL_COUNT = 4, TAIL_START = 128, TAIL_COUNT = 8 };
-enum { BYTES = TAIL_START + 4 * TAIL_COUNT };
+enum { BYTES = TAIL_START + 4 * TAIL_COUNT, LEAVES = COLUMNS + 1 + 2 * CELL_COUNT + TAIL_COUNT, RUN_MOST = 2 + 3 };
 
 static uint32_t types[] = {
     WULDAZIN_SCALAR, WULDAZIN_FLOAT, 4, 0, 0, 0,
@@ -65,41 +65,70 @@ static uint32_t leaf_size(uint32_t leaf) {
     return type[0] == WULDAZIN_MATRIX ? type[2] * type[4] : row(leaf)[WULDAZIN_ROW_SIZE];
 }
 
-/* Copies a value to the leaf that steps lead to, if it lies within the buffer. */
-static void put(const char *name, const uint32_t *steps, size_t count, uint32_t leaf, uint64_t byte, const void *value) {
-    uint64_t place[2];
-    wuldazin_place(types, LENGTH(types), members, LENGTH(members), 0, WULDAZIN_OLDER, rows, LENGTH(rows), KERNEL, steps, count, place,
-                   LENGTH(place), answer, LENGTH(answer));
-    expect(name, answer[0], WULDAZIN_ACCEPTED);
-    expect(name, place[0], byte);
-    expect(name, place[1], leaf);
-    uint32_t size = leaf_size(leaf);
-    expect(name, place[0] <= BYTES && size <= BYTES - place[0], 1);
-    memcpy(buffer + place[0], value, size);
-    printf("%-22s byte %3u, %2u bytes\n", name, (unsigned)place[0], size);
+/* A leaf to be filled: its value, and the place that is expected. The steps to it are the next run. */
+static struct {
+    char name[32];
+    uint32_t leaf;
+    uint64_t byte;
+    unsigned char value[12];
+} leaves[LEAVES];
+static uint32_t runs[LEAVES * RUN_MOST];
+static size_t leaf_count, runs_length;
+
+static void add(const char *name, const uint32_t *steps, uint32_t count, uint32_t leaf, uint64_t byte, const void *value) {
+    snprintf(leaves[leaf_count].name, sizeof leaves[leaf_count].name, "%s", name);
+    leaves[leaf_count].leaf = leaf;
+    leaves[leaf_count].byte = byte;
+    memcpy(leaves[leaf_count++].value, value, leaf_size(leaf));
+    runs[runs_length++] = KERNEL;
+    runs[runs_length++] = count;
+    memcpy(runs + runs_length, steps, count * sizeof *steps);
+    runs_length += count;
+}
+
+/* One call for the places of all leaves; each value is copied if its leaf lies within the buffer. */
+static void fill(void) {
+    uint32_t scratch[TYPES * WULDAZIN_SHORT_WORDS];
+    uint64_t places[LEAVES * WULDAZIN_PLACE_WORDS];
+    wuldazin_places(types, LENGTH(types), members, LENGTH(members), 0, scratch, LENGTH(scratch), runs, runs_length, places, LENGTH(places), answer,
+                    LENGTH(answer));
+    expect("places", answer[0], WULDAZIN_ACCEPTED);
+    expect("leaves", leaf_count, LEAVES);
+    for (size_t i = 0; i < LEAVES; i++) {
+        const uint64_t *place = places + i * WULDAZIN_PLACE_WORDS;
+        uint32_t size = leaf_size(leaves[i].leaf);
+        expect(leaves[i].name, place[0], leaves[i].byte);
+        expect(leaves[i].name, place[1], leaves[i].leaf);
+        expect(leaves[i].name, place[0] <= BYTES && size <= BYTES - place[0], 1);
+        memcpy(buffer + place[0], leaves[i].value, size);
+        printf("%-22s byte %3u, %2u bytes\n", leaves[i].name, (unsigned)place[0], size);
+    }
 }
 
 /* The byte after a column, which is in no leaf. */
 static unsigned char *flag(uint32_t column) { return buffer + COLUMN_STEP * column + leaf_size(MAT3X3); }
 
-/* Flags first: the columns spare them. */
-static void fill_turn(void) {
-    char name[64];
-    for (uint32_t i = 0; i < COLUMNS; i++) *flag(i) = 0xf0 + i;
+static void add_turn(void) {
+    char name[32];
     for (uint32_t i = 0; i < COLUMNS; i++) {
         float column[3] = {0};
         column[i] = 1;
         snprintf(name, sizeof name, "turn[%u]", i);
-        put(name, (uint32_t[]){0, i}, 2, MAT3X3, COLUMN_STEP * i, column);
+        add(name, (uint32_t[]){0, i}, 2, MAT3X3, COLUMN_STEP * i, column);
     }
-    for (uint32_t i = 0; i < COLUMNS; i++) expect("flag", *flag(i), 0xf0 + i);
 }
 
+/* No place, by one lookup with a row for each type and by one with three words. */
 static void refuse_place(const char *name, const uint32_t *steps, size_t count) {
-    uint64_t place[2];
+    uint32_t scratch[TYPES * WULDAZIN_SHORT_WORDS];
+    uint64_t place[WULDAZIN_PLACE_WORDS];
     wuldazin_place(types, LENGTH(types), members, LENGTH(members), 0, WULDAZIN_OLDER, rows, LENGTH(rows), KERNEL, steps, count, place,
                    LENGTH(place), answer, LENGTH(answer));
     expect(name, answer[0], WULDAZIN_NO_SUCH_PLACE);
+    wuldazin_place_short(types, LENGTH(types), members, LENGTH(members), 0, scratch, LENGTH(scratch), KERNEL, steps, count, place, LENGTH(place),
+                         answer, LENGTH(answer));
+    expect(name, answer[0], WULDAZIN_NO_SUCH_PLACE);
+    expect(name, scratch[KERNEL * WULDAZIN_SHORT_WORDS + WULDAZIN_ROW_FLAGS], row(KERNEL)[WULDAZIN_ROW_FLAGS]);
 }
 
 static void dispatch(const uint64_t *pass, uint32_t number, uint64_t slots) {
@@ -190,24 +219,28 @@ static void try_other_cells(void) {
 }
 
 int main(void) {
-    char name[64];
+    char name[32];
     judge(WULDAZIN_ACCEPTED);
     expect("usable in storage", is_usable_in_storage(KERNEL), true);
     expect("storage alignment", row(KERNEL)[WULDAZIN_ROW_STORAGE + 1], 16);
 
-    fill_turn();
-    put("steps", (uint32_t[]){1}, 1, U32, STEPS_START, &(uint32_t){1000});
+    add_turn();
+    add("steps", (uint32_t[]){1}, 1, U32, STEPS_START, &(uint32_t){1000});
     for (uint32_t i = 0; i < CELL_COUNT; i++) {
         float temperature[3] = {20 + i, 30 + i, 40 + i}, moisture = 0.25f * i;
         snprintf(name, sizeof name, "cells[%u].temperature", i);
-        put(name, (uint32_t[]){2, i, 0}, 3, VEC3, CELLS_START + 16 * i, temperature);
+        add(name, (uint32_t[]){2, i, 0}, 3, VEC3, CELLS_START + 16 * i, temperature);
         snprintf(name, sizeof name, "cells[%u].moisture", i);
-        put(name, (uint32_t[]){2, i, 1}, 3, F32, CELLS_START + 12 + 16 * i, &moisture);
+        add(name, (uint32_t[]){2, i, 1}, 3, F32, CELLS_START + 12 + 16 * i, &moisture);
     }
     for (uint32_t i = 0; i < TAIL_COUNT; i++) {
         snprintf(name, sizeof name, "tail[%u]", i);
-        put(name, (uint32_t[]){3, i}, 2, F32, TAIL_START + 4 * i, &(float){i});
+        add(name, (uint32_t[]){3, i}, 2, F32, TAIL_START + 4 * i, &(float){i});
     }
+    /* Flags first: the columns spare them. */
+    for (uint32_t i = 0; i < COLUMNS; i++) *flag(i) = 0xf0 + i;
+    fill();
+    for (uint32_t i = 0; i < COLUMNS; i++) expect("flag", *flag(i), 0xf0 + i);
     for (size_t i = 0; i < BYTES; i++) printf("%02x%s", buffer[i], i % 16 == 15 ? "\n" : i % 4 == 3 ? "  " : " ");
     refuse_place("cells[4]", (uint32_t[]){2, CELL_COUNT, 0}, 3);
     refuse_place("turn[3]", (uint32_t[]){0, COLUMNS}, 2);

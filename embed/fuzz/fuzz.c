@@ -23,6 +23,8 @@ enum {
     ROWS_MOST = 14 * (TYPES_MOST / 6) + 64,
     LENT_MOST = MEMBERS_MOST > ROWS_MOST ? MEMBERS_MOST : ROWS_MOST, /* the longest buffer */
     STEPS_MOST = 2048,
+    RUNS = 6, /* of steps in one call */
+    RUNS_MOST = RUNS * (STEPS_MOST + 2),
     REPORT_MOST = 2 * (TYPES_MOST / 6) + 64, /* 64-bit words */
     OUTPUT_MOST = 5, /* mask, pass, place, totals or part: 64-bit words; numbers: 32-bit words */
     ANSWER_MOST = 8,
@@ -32,10 +34,10 @@ enum {
 
 enum { LAST_NUMBER = 37, UNANSWERED }; /* UNANSWERED: the buffer was too short for an answer */
 
-enum { LAYOUT, JUDGE, CHECK, RANGE, SLOTS, CONTAINS, DIFFERENCE, UNION, START, SET, CHOOSE, DISPATCH, PLACE, REPORT, PLAIN, SPIRV, WGSL, ORDER, MEMBERS, DOORS };
+enum { LAYOUT, JUDGE, CHECK, RANGE, SLOTS, CONTAINS, DIFFERENCE, UNION, START, SET, CHOOSE, DISPATCH, PLACE, SHORT, PLACES, REPORT, PLAIN, SPIRV, WGSL, ORDER, MEMBERS, DOORS };
 static const char *const door_names[DOORS] = {"layout", "judge", "check",  "range",    "slots", "contains", "difference", "union",
-                                              "start",  "set",   "choose", "dispatch", "place", "report",   "plain",      "spirv",
-                                              "wgsl",   "order", "members"};
+                                              "start",  "set",   "choose", "dispatch", "place", "short",    "places",     "report",
+                                              "plain",  "spirv", "wgsl",   "order",    "members"};
 
 typedef struct {
     size_t types_length, members_length;
@@ -593,6 +595,92 @@ static void look_at_check(uint32_t capabilities, uint32_t rule, size_t length, u
     require(!memcmp(rows.data, row, 56 * count), "the other rule changes more than uniform verdicts");
 }
 
+/* ---- three words for each type */
+/* The place lookup, with a row for each type: its answer, its place, and the words of each type in the lent scratch. */
+static void look_at_place(uint32_t capabilities, uint32_t ty, const uint32_t *list, size_t length, uint64_t *place, uint32_t *found) {
+    static uint32_t row[ROWS_MOST];
+    uint32_t zeros[3] = {0, 0, 0}, count = now.types_length / 6;
+    wuldazin_place(now.types, now.types_length, now.members, now.members_length, capabilities, WULDAZIN_OLDER, row, ROWS_MOST, ty, list, length,
+                   place, 2, found, 4);
+    bool kept = found[0] == 0 || found[0] == 26;
+    for (uint32_t i = 0; i < count; i++) require(!memcmp(rows.data + 12 * i, kept ? row + 14 * i : zeros, 12), "words of a type");
+}
+
+/* One place: the answer, the place and the words are those of the place lookup. */
+static void short_call(size_t answer_length, size_t output_length, uint32_t capabilities, bool fits) {
+    static uint32_t list[STEPS_MOST];
+    uint32_t ty = type_number(), count = now.types_length / 6, found[4];
+    uint64_t place[2] = {0, 0};
+    size_t length = make_steps(list, ty);
+    const uint32_t *s = lend(&steps, list, 4 * length);
+    uint64_t *o = lend(&output, noise + below(1024), 8 * output_length);
+    wuldazin_place_short((uint32_t *)types.data, now.types_length, (uint32_t *)members.data, now.members_length, capabilities, (uint32_t *)rows.data,
+                         rows.bytes / 4, ty, s, length, o, output_length, (uint32_t *)answer.data, answer_length);
+    uint32_t number = number_of(fits, count);
+    if (fits) {
+        look_at_place(capabilities, ty, list, length, place, found);
+        require(number == UNANSWERED || !memcmp(answer.data, found, 16), "the place lookup answers otherwise");
+    }
+    require(output_length < 2 || !memcmp(output.data, place, 16), "place");
+    take_back(&output, output_length < 2 ? 0 : 16);
+    take_back(&steps, 0);
+}
+
+/* Many places: each run is answered as alone; a run cut short or too few words are 1. */
+static void places_call(uint32_t capabilities, bool fits) {
+    static uint32_t list[RUNS_MOST];
+    uint32_t starts[RUNS_MOST], runs = 0, count = now.types_length / 6, found[4];
+    size_t length = 0, at = 0;
+    for (uint32_t n = below(RUNS + 1); n > 0; n--) {
+        list[length] = type_number();
+        list[length + 1] = make_steps(list + length + 2, list[length]);
+        length += 2 + list[length + 1];
+    }
+    if (below(8) == 0) length = below(length + 1);
+    if (below(8) == 0 && length) list[below(length)] = wild();
+    for (; at < length && length - at >= 2 && list[at + 1] <= length - at - 2; at += 2 + (size_t)list[at + 1]) starts[runs++] = at;
+    size_t room = below(8) ? 2 * runs + (below(2) ? 0 : below(5)) : below(2 * runs + 1);
+    if (room > REPORT_MOST) room = REPORT_MOST;
+    fits = fits && at == length && room / 2 >= runs;
+    const uint32_t *s = lend(&steps, list, 4 * length);
+    uint64_t *p = lend(&report, noise + below(1024), 8 * room);
+    wuldazin_places((uint32_t *)types.data, now.types_length, (uint32_t *)members.data, now.members_length, capabilities, (uint32_t *)rows.data,
+                    rows.bytes / 4, s, length, p, room, (uint32_t *)answer.data, answer.bytes / 4);
+    uint32_t number = number_of(fits, count);
+    for (uint32_t i = 0; fits && i < runs; i++) {
+        uint64_t place[2], none[2] = {UINT64_MAX, UINT64_MAX};
+        const uint32_t *run = list + starts[i];
+        look_at_place(capabilities, run[0], run + 2, run[1], place, found);
+        require(!memcmp(report.data + 16 * i, found[0] ? none : place, 16), "place of a run");
+        require(number == UNANSWERED || found[0] == 26 || !memcmp(answer.data, found, 16), "the place lookup answers otherwise");
+        require(found[0] != 26 || number == 0 || number == UNANSWERED, "a run without a place refuses the call");
+    }
+    take_back(&report, fits ? 16 * runs : 0);
+    take_back(&steps, 0);
+    take_back(&rows, fits ? 12 * count : 0);
+}
+
+/* Tables, a scratch that is too short, exact or longer, and an answer. */
+static void three_words_call(size_t answer_length, size_t output_length) {
+    make_tables();
+    size_t tl = now.types_length, ml = now.members_length, needed = 3 * (tl / 6);
+    size_t length = below(8) ? needed + (below(2) ? 0 : below(40)) : below(needed + 1);
+    uint32_t capabilities = capability_word();
+    bool fits = tl % 6 == 0 && tl <= 6 * 1024 && ml % WULDAZIN_MEMBER_WORDS == 0 && ml <= WULDAZIN_MEMBER_WORDS * 4096 && length >= needed
+        && capabilities <= WULDAZIN_ALL_CAPABILITIES;
+    lend(&types, now.types, 4 * tl), lend(&members, now.members, 4 * ml);
+    lend(&rows, noise + below(1024), 4 * length), lend(&answer, noise + below(1024), 4 * answer_length);
+    if (door == SHORT) {
+        short_call(answer_length, output_length, capabilities, fits);
+        take_back(&rows, fits ? 4 * needed : 0);
+    } else {
+        places_call(capabilities, fits);
+    }
+    take_back(&answer, answer_length < 4 ? 0 : 16);
+    take_back(&types, 0);
+    take_back(&members, 0);
+}
+
 /* ---- modules */
 static uint32_t *put(uint32_t *w, uint32_t opcode, uint32_t count, const uint32_t *operands) {
     *w++ = count << 16 | opcode;
@@ -790,7 +878,7 @@ static void order_call(size_t answer_length) {
 static void one_call(void) {
     static uint32_t list[STEPS_MOST];
     static const unsigned char choice[] = {LAYOUT, JUDGE, JUDGE, CHECK,  CHECK,  RANGE,  SLOTS,    SLOTS, SLOTS, CONTAINS, DIFFERENCE, UNION, START,
-                                           SET,    SET,   CHOOSE, CHOOSE, CHOOSE, DISPATCH, PLACE, PLACE, PLACE, REPORT,   REPORT,     PLAIN, SPIRV, SPIRV, SPIRV, WGSL, WGSL, ORDER, ORDER, MEMBERS};
+                                           SET,    SET,   CHOOSE, CHOOSE, CHOOSE, DISPATCH, PLACE, PLACE, PLACE, SHORT, SHORT, PLACES, PLACES, REPORT,   REPORT,     PLAIN, SPIRV, SPIRV, SPIRV, WGSL, WGSL, ORDER, ORDER, MEMBERS};
     size_t answer_length = below(16) ? 4 + below(ANSWER_MOST - 3) : below(4), output_length = below(OUTPUT_MOST + 1);
     uint64_t out[2] = {0, 0};
     door = choice[below(sizeof choice)];
@@ -817,6 +905,11 @@ static void one_call(void) {
     }
     if (door == ORDER) {
         order_call(answer_length);
+        doors[door]++;
+        return;
+    }
+    if (door == SHORT || door == PLACES) {
+        three_words_call(answer_length, output_length);
         doors[door]++;
         return;
     }
@@ -917,7 +1010,7 @@ int main(int words, char **word_list) {
     build(&types, 4 * TYPES_MOST);
     build(&members, 4 * MEMBERS_MOST);
     build(&rows, 4 * ROWS_MOST);
-    build(&steps, 4 * STEPS_MOST);
+    build(&steps, 4 * RUNS_MOST);
     build(&report, 8 * REPORT_MOST);
     build(&output, 8 * OUTPUT_MOST);
     build(&answer, 4 * ANSWER_MOST);

@@ -7,6 +7,7 @@
         feature = "slots",
         feature = "masks",
         feature = "place",
+        feature = "short",
         feature = "members",
         feature = "report",
         feature = "plain",
@@ -75,6 +76,10 @@ mod report;
 mod report_calls;
 #[cfg(all(feature = "check", feature = "slots", feature = "place"))]
 mod shapes;
+#[cfg(feature = "short")]
+mod short_bench;
+#[cfg(feature = "short")]
+mod short_calls;
 #[cfg(all(feature = "check", feature = "slots", feature = "place"))]
 mod sides;
 mod sized;
@@ -105,6 +110,7 @@ const USAGE: &str = "usage: layout COUNT [SEED]
        range COUNT [SEED] | slots COUNT [SEED]  (feature slots)
        masks COUNT [SEED]                       (feature masks)
        place COUNT [SEED]                       (feature place)
+       short COUNT [SEED] | places COUNT [SEED] (feature short)
        members COUNT [SEED]                     (feature members)
        report COUNT [SEED]                      (feature report)
        plain COUNT [SEED]                       (feature plain)
@@ -118,6 +124,7 @@ const USAGE: &str = "usage: layout COUNT [SEED]
        member_records COUNT SEED FOLDER         (features slots, place)
        bench                                    (features check, slots, place)
        bench_wgsl                               (feature wgsl)
+       bench_short                              (feature short)
        theorem COUNT [SEED] | histogram COUNT [SEED] | show SEED INDEX";
 
 fn main() -> ExitCode {
@@ -132,6 +139,11 @@ fn main() -> ExitCode {
     #[cfg(feature = "wgsl")]
     if command == Some("bench_wgsl") {
         wgsl_bench::bench();
+        return ExitCode::SUCCESS;
+    }
+    #[cfg(feature = "short")]
+    if command == Some("bench_short") {
+        short_bench::bench();
         return ExitCode::SUCCESS;
     }
     let (Some(command), Some(first)) = (command, number(1)) else {
@@ -153,6 +165,10 @@ fn main() -> ExitCode {
         "masks" => mask_calls::masks(first, seed),
         #[cfg(feature = "place")]
         "place" => place_calls::place(first, seed),
+        #[cfg(feature = "short")]
+        "short" => short_calls::short(first, seed),
+        #[cfg(feature = "short")]
+        "places" => short_calls::places(first, seed),
         #[cfg(feature = "members")]
         "members" => member_calls::members(first, seed),
         #[cfg(feature = "report")]

@@ -187,6 +187,102 @@ unsafe extern "C" fn wuldazin_place(
     deliver(owed, types, rows, place, answer);
 }
 
+#[cfg(feature = "short")]
+#[no_mangle]
+unsafe extern "C" fn wuldazin_place_short(
+    types: *const u32,
+    types_len: usize,
+    members: *const u32,
+    members_len: usize,
+    capabilities: u32,
+    scratch: *mut u32,
+    scratch_len: usize,
+    start: u32,
+    steps: *const u32,
+    steps_len: usize,
+    place: *mut u64,
+    place_len: usize,
+    answer: *mut u32,
+    answer_len: usize,
+) {
+    let types = from_raw_parts(types, types_len);
+    let members = from_raw_parts(members, members_len);
+    let scratch = from_raw_parts_mut(scratch, scratch_len);
+    let steps = from_raw_parts(steps, steps_len);
+    let outcome = short_outcome(types, members, capabilities, scratch);
+    let owed = crate::place::look_up(outcome, types, members, start, steps);
+    from_raw_parts_mut(place, place_len).copy_from_slice(&owed.output);
+    from_raw_parts_mut(answer, answer_len).copy_from_slice(&owed.answer);
+}
+
+#[cfg(feature = "short")]
+#[no_mangle]
+unsafe extern "C" fn wuldazin_places(
+    types: *const u32,
+    types_len: usize,
+    members: *const u32,
+    members_len: usize,
+    capabilities: u32,
+    scratch: *mut u32,
+    scratch_len: usize,
+    runs: *const u32,
+    runs_len: usize,
+    found: *mut u64,
+    found_len: usize,
+    answer: *mut u32,
+    answer_len: usize,
+) {
+    let types = from_raw_parts(types, types_len);
+    let members = from_raw_parts(members, members_len);
+    let scratch = from_raw_parts_mut(scratch, scratch_len);
+    let found = from_raw_parts_mut(found, found_len);
+    let answer = from_raw_parts_mut(answer, answer_len);
+    answer.copy_from_slice(&crate::records::WRONG_LENGTH);
+    let Some(runs) = crate::short_calls::read(from_raw_parts(runs, runs_len)) else {
+        return;
+    };
+    if found.len() < 2 * runs.len() {
+        return;
+    }
+    let outcome = short_outcome(types, members, capabilities, scratch);
+    answer.copy_from_slice(&outcome.answer);
+    if outcome.answer == crate::records::WRONG_LENGTH {
+        return;
+    }
+    for (pair, (start, steps)) in found.chunks_exact_mut(2).zip(runs) {
+        let accepted = outcome.rows.is_some();
+        let place = accepted.then(|| crate::place::of(types, members, start, &steps));
+        let words = place.flatten().map(|(byte, leaf)| [byte, u64::from(leaf)]);
+        pair.copy_from_slice(&words.unwrap_or([u64::MAX; 2]));
+    }
+}
+
+/// By the reference, and the scratch that it owes.
+#[cfg(feature = "short")]
+fn short_outcome(
+    types: &[u32],
+    members: &[u32],
+    capabilities: u32,
+    scratch: &mut [u32],
+) -> reference::Outcome {
+    use crate::records::{OLDER, ROW_WORDS, TYPE_WORDS};
+    let count = types.len() / TYPE_WORDS;
+    let rows_len = match scratch.len() < 3 * count {
+        true => 0,
+        false => ROW_WORDS * count,
+    };
+    let outcome = reference::check(types, members, capabilities, OLDER, rows_len);
+    if outcome.answer != crate::records::WRONG_LENGTH {
+        let words = &mut scratch[..3 * count];
+        words.fill(0);
+        let rows = outcome.rows.iter().flatten();
+        for (three, row) in words.chunks_exact_mut(3).zip(rows) {
+            three.copy_from_slice(&row[..3]);
+        }
+    }
+    outcome
+}
+
 #[cfg(feature = "report")]
 #[no_mangle]
 unsafe extern "C" fn wuldazin_report(

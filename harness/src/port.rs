@@ -2,6 +2,8 @@
 
 use crate::compare::Lent;
 use crate::records::Arena;
+#[cfg(feature = "short")]
+use crate::short_calls::ManyLent;
 
 extern "C" {
     fn wuldazin_layout(
@@ -87,6 +89,39 @@ extern "C" {
         steps_len: usize,
         place: *mut u64,
         place_len: usize,
+        answer: *mut u32,
+        answer_len: usize,
+    );
+    #[cfg(feature = "short")]
+    fn wuldazin_place_short(
+        types: *const u32,
+        types_len: usize,
+        members: *const u32,
+        members_len: usize,
+        capabilities: u32,
+        scratch: *mut u32,
+        scratch_len: usize,
+        start: u32,
+        steps: *const u32,
+        steps_len: usize,
+        place: *mut u64,
+        place_len: usize,
+        answer: *mut u32,
+        answer_len: usize,
+    );
+    #[cfg(feature = "short")]
+    fn wuldazin_places(
+        types: *const u32,
+        types_len: usize,
+        members: *const u32,
+        members_len: usize,
+        capabilities: u32,
+        scratch: *mut u32,
+        scratch_len: usize,
+        runs: *const u32,
+        runs_len: usize,
+        found: *mut u64,
+        found_len: usize,
         answer: *mut u32,
         answer_len: usize,
     );
@@ -336,6 +371,52 @@ pub fn place(arena: &Arena, start: u32, steps: &[u32], lent: Lent) {
             steps.len(),
             lent.output.as_mut_ptr(),
             lent.output.len(),
+            lent.answer.as_mut_ptr(),
+            lent.answer.len(),
+        )
+    }
+}
+
+/// With the scratch in the place of the rows.
+#[cfg(feature = "short")]
+pub fn place_short(arena: &Arena, start: u32, steps: &[u32], lent: Lent) {
+    // As above.
+    unsafe {
+        wuldazin_place_short(
+            arena.types.as_ptr(),
+            arena.types.len(),
+            arena.members.as_ptr(),
+            arena.members.len(),
+            arena.capabilities,
+            lent.rows.as_mut_ptr(),
+            lent.rows.len(),
+            start,
+            steps.as_ptr(),
+            steps.len(),
+            lent.output.as_mut_ptr(),
+            lent.output.len(),
+            lent.answer.as_mut_ptr(),
+            lent.answer.len(),
+        )
+    }
+}
+
+#[cfg(feature = "short")]
+pub fn places(arena: &Arena, runs: &[u32], lent: ManyLent) {
+    // As above.
+    unsafe {
+        wuldazin_places(
+            arena.types.as_ptr(),
+            arena.types.len(),
+            arena.members.as_ptr(),
+            arena.members.len(),
+            arena.capabilities,
+            lent.scratch.as_mut_ptr(),
+            lent.scratch.len(),
+            runs.as_ptr(),
+            runs.len(),
+            lent.found.as_mut_ptr(),
+            lent.found.len(),
             lent.answer.as_mut_ptr(),
             lent.answer.len(),
         )

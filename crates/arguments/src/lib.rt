@@ -19,6 +19,7 @@ pub enum Command {
     Slots,
     Range,
     Place,
+    Short,
     Report,
     Plain,
     Pass,

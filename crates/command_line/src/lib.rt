@@ -31,6 +31,7 @@ fn put_help() {
   slots T OFFSET      slots TOUCHED PARTLY, two masks
   range OFFSET SIZE   the same
   place T S1 .. Sk    place BYTE TYPE
+  short T S1 .. Sk    the same, by three words for each type
   report              report CARRIED WASTED, and a line for each type: its number and its two counts
   plain SHAPE WIDTH   plain SIZE ALIGNMENT STEP
   pass                starts a pass: no slot set, no pipeline

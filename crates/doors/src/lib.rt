@@ -12,6 +12,8 @@ ghost use Rattle.slots.specs.Slots.{rangeSlots, partAnswer, contains, differenc
 ghost use Rattle.immediates.specs.Immediates.{slotsAnswer};
 ghost use Rattle.immediates_pass.specs.Pass.{begin, SetRange, Choose, Dispatch};
 ghost use Rattle.place.specs.Place.{lookupAnswer};
+ghost use Rattle.place_short.specs.Short.{shortLookup, shortWords};
+ghost use Rattle.places.specs.Places.{placesAnswer, placesScratch, placesWords};
 ghost use Rattle.plain_types.specs.PlainTypes.{plainAnswer};
 ghost use Rattle.report.specs.Report.{reportAnswer, reportRows, reportWords};
 ghost use Rattle.spirv.specs.Read.{readInto, sectionOf, typesAfter, membersAfter};
@@ -158,6 +160,50 @@ pub extern "C" fn wuldazin_place(
         doors_words::leaf_of(found) as u64,
     );
     doors_words::put_answer(answer, doors_words::place_outcome(found));
+}
+
+// The same by three words for each type.
+#[no_mangle]
+pub extern "C" fn wuldazin_place_short(
+    types: &[u32],
+    members: &[u32],
+    capabilities: u32,
+    scratch: &mut [u32],
+    start: u32,
+    steps: &[u32],
+    place: &mut [u64],
+    answer: &mut [u32],
+)
+    ensures { λ _. ⌜ now (scratch .exit) ≡ shortWords capabilities (now (types .entry)) (now (members .entry)) (now (scratch .entry)) ⌝ }
+    ensures { λ _. ⌜ now (place .exit) ≡ withTwo (now (place .entry)) (byteOf (shortLookup capabilities (now (types .entry)) (now (members .entry)) (now (scratch .entry)) start (now (steps .entry)))) (leafOf (shortLookup capabilities (now (types .entry)) (now (members .entry)) (now (scratch .entry)) start (now (steps .entry)))) ⌝ }
+    ensures { λ _. ⌜ now (answer .exit) ≡ withAnswer (now (answer .entry)) (placeOutcome (shortLookup capabilities (now (types .entry)) (now (members .entry)) (now (scratch .entry)) start (now (steps .entry)))) ⌝ }
+{
+    let found = place_short::lookup(types, members, capabilities, scratch, start, steps);
+    doors_words::put_two(
+        place,
+        doors_words::byte_of(found),
+        doors_words::leaf_of(found) as u64,
+    );
+    doors_words::put_answer(answer, doors_words::place_outcome(found));
+}
+
+// The places of many runs of steps, two words for each in `found`.
+#[no_mangle]
+pub extern "C" fn wuldazin_places(
+    types: &[u32],
+    members: &[u32],
+    capabilities: u32,
+    scratch: &mut [u32],
+    runs: &[u32],
+    found: &mut [u64],
+    answer: &mut [u32],
+)
+    ensures { λ _. ⌜ now (scratch .exit) ≡ placesScratch capabilities (now (types .entry)) (now (members .entry)) (now (scratch .entry)) (now (runs .entry)) (now (found .entry)) ⌝ }
+    ensures { λ _. ⌜ now (found .exit) ≡ placesWords capabilities (now (types .entry)) (now (members .entry)) (now (scratch .entry)) (now (runs .entry)) (now (found .entry)) ⌝ }
+    ensures { λ _. ⌜ now (answer .exit) ≡ withAnswer (now (answer .entry)) (placesAnswer capabilities (now (types .entry)) (now (members .entry)) (now (scratch .entry)) (now (runs .entry)) (now (found .entry))) ⌝ }
+{
+    let outcome = places::places(types, members, capabilities, scratch, runs, found);
+    doors_words::put_answer(answer, outcome);
 }
 
 // The bytes carried and the bytes wasted of each host-shareable struct, two words a type, and the totals over all.

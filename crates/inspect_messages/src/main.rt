@@ -45,6 +45,7 @@ fn later_usage() {
     stop(b"slots 0");
     stop(b"range 0");
     stop(b"place");
+    stop(b"short");
     stop(b"report 0");
     stop(b"plain 0 4 0");
 }

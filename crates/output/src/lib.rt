@@ -216,15 +216,16 @@ pub fn usage_line(command: arguments::Command) -> u32 {
         arguments::Command::Slots => 19,
         arguments::Command::Range => 20,
         arguments::Command::Place => 21,
-        arguments::Command::Report => 22,
-        arguments::Command::Plain => 23,
-        arguments::Command::Pass => 24,
-        arguments::Command::SetRange => 25,
-        arguments::Command::Choose => 26,
-        arguments::Command::Run => 27,
-        arguments::Command::Clear => 28,
-        arguments::Command::Order => 29,
-        arguments::Command::Unknown => 30,
+        arguments::Command::Short => 22,
+        arguments::Command::Report => 23,
+        arguments::Command::Plain => 24,
+        arguments::Command::Pass => 25,
+        arguments::Command::SetRange => 26,
+        arguments::Command::Choose => 27,
+        arguments::Command::Run => 28,
+        arguments::Command::Clear => 29,
+        arguments::Command::Order => 30,
+        arguments::Command::Unknown => 31,
     }
 }
 
@@ -271,6 +272,7 @@ fn put_why(out: &mut Buffer, at: usize, why: u32) -> usize {
 : slots takes a type and an offset
 : range takes an offset and a size
 : place takes a type and at most 1024 steps
+: short takes a type and at most 1024 steps
 : report takes no number
 : plain takes a shape and a width
 : pass takes no number
@@ -279,7 +281,7 @@ fn put_why(out: &mut Buffer, at: usize, why: u32) -> usize {
 : run takes no number
 : clear takes no number
 : order takes a span and at most 1024 types
-: no such command; there are caps, rule, type, member, layout, judge, check, members, slots, range, place, report, plain, pass, set, choose, run, clear and order
+: no such command; there are caps, rule, type, member, layout, judge, check, members, slots, range, place, short, report, plain, pass, set, choose, run, clear and order
 ",
         2,
         why,

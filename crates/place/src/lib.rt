@@ -19,7 +19,7 @@ pub enum PlaceAnswer {
     },
 }
 
-fn place_answer(place: Place) -> PlaceAnswer
+pub fn place_answer(place: Place) -> PlaceAnswer
     ensures { λ r. ⌜ r ≡ placeAnswer place ⌝ }
 {
     match place {

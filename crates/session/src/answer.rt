@@ -93,6 +93,28 @@ fn put_place(
     }
 }
 
+// The same by three words for each type; they take the first words of the rows.
+fn put_short(
+    out: &mut Buffer,
+    at: usize,
+    types: &[u32],
+    members: &[u32],
+    capabilities: u32,
+    rows: &mut Rows,
+    start: u32,
+    steps: &[u32],
+) -> usize {
+    match place_short::lookup(types, members, capabilities, rows, start, steps) {
+        PlaceAnswer::Found { byte, leaf } => output::put_place(out, at, byte, leaf),
+        PlaceAnswer::Refused {
+            number,
+            ty,
+            member,
+            detail,
+        } => output::put_refusal(out, at, number, ty, member, detail),
+    }
+}
+
 // The first words of a report.
 fn first_words(report: &[u64], count: usize) -> &[u64] {
     if report.len() < count {
@@ -222,6 +244,18 @@ fn put_answer(
                 members,
                 capabilities,
                 rule,
+                rows,
+                start,
+                commands::part(numbers, 1, steps as usize + 1),
+            )
+        }
+        Line::Short { start, steps } => {
+            put_short(
+                out,
+                at,
+                types,
+                members,
+                capabilities,
                 rows,
                 start,
                 commands::part(numbers, 1, steps as usize + 1),

@@ -35,14 +35,15 @@ lastCommandOf w =
     (pick (same w (111 ∷ 114 ∷ 100 ∷ 101 ∷ 114 ∷ [])) command.Order
     command.Unknown)))))
 
--- range, place, report, plain, and those above
+-- range, place, short, report, plain, and those above
 unfoldable pub answerCommandOf : List ℕ → Command
 answerCommandOf w =
     pick (same w (114 ∷ 97 ∷ 110 ∷ 103 ∷ 101 ∷ [])) command.Range
     (pick (same w (112 ∷ 108 ∷ 97 ∷ 99 ∷ 101 ∷ [])) command.Place
+    (pick (same w (115 ∷ 104 ∷ 111 ∷ 114 ∷ 116 ∷ [])) command.Short
     (pick (same w (114 ∷ 101 ∷ 112 ∷ 111 ∷ 114 ∷ 116 ∷ [])) command.Report
     (pick (same w (112 ∷ 108 ∷ 97 ∷ 105 ∷ 110 ∷ [])) command.Plain
-    (lastCommandOf w))))
+    (lastCommandOf w)))))
 
 -- layout, judge, check, members, slots, and those above
 unfoldable pub laterCommandOf : List ℕ → Command
@@ -76,6 +77,7 @@ leastOf command.Members = 1
 leastOf command.Slots = 2
 leastOf command.Range = 2
 leastOf command.Place = 1
+leastOf command.Short = 1
 leastOf command.Report = 0
 leastOf command.Plain = 2
 leastOf command.Pass = 0
@@ -98,6 +100,7 @@ mostOf command.Members = 1
 mostOf command.Slots = 2
 mostOf command.Range = 2
 mostOf command.Place = 1025
+mostOf command.Short = 1025
 mostOf command.Report = 0
 mostOf command.Plain = 2
 mostOf command.Pass = 0
@@ -133,6 +136,7 @@ lineBy command.Members ns = line.Members (getD ns 0 0)
 lineBy command.Slots ns = line.Slots (getD ns 0 0) (getD ns 1 0)
 lineBy command.Range ns = line.Range (getD ns 0 0) (getD ns 1 0)
 lineBy command.Place ns = line.Place (getD ns 0 0) (length ns - 1)
+lineBy command.Short ns = line.Short (getD ns 0 0) (length ns - 1)
 lineBy command.Report ns = line.Report
 lineBy command.Plain ns = line.Plain (getD ns 0 0) (getD ns 1 0)
 lineBy command.Pass ns = line.Pass

@@ -45,6 +45,10 @@ pub enum Line {
         start: u32,
         steps: u32,
     },
+    Short {
+        start: u32,
+        steps: u32,
+    },
     Report,
     Plain {
         shape: u32,
@@ -108,6 +112,8 @@ pub fn command_of(word: &[u8]) -> Command
         0x165676e6172 => Command::Range,
         // place
         0x16563616c70 => Command::Place,
+        // short
+        0x174726f6873 => Command::Short,
         // report
         0x174726f706572 => Command::Report,
         // plain
@@ -149,6 +155,10 @@ fn usage_of(command: Command) -> Usage
         Command::Slots => Usage { least: 2, most: 2 },
         Command::Range => Usage { least: 2, most: 2 },
         Command::Place => Usage {
+            least: 1,
+            most: 1025,
+        },
+        Command::Short => Usage {
             least: 1,
             most: 1025,
         },
@@ -200,6 +210,10 @@ fn line_by(command: Command, numbers: &[u32]) -> Line
         Command::Place => {
             let steps = (numbers.len() - 1) as u32;
             Line::Place { start: a, steps }
+        }
+        Command::Short => {
+            let steps = (numbers.len() - 1) as u32;
+            Line::Short { start: a, steps }
         }
         Command::Report => Line::Report,
         Command::Plain => Line::Plain { shape: a, width: b },

@@ -9,6 +9,7 @@ ghost use lib.ListN.{length};
 ghost use Rattle.records.specs.Record.{memberWords, memberCount, typeInner, memberType, Sourceless};
 ghost use Rattle.flags.specs.Flags.{bit};
 ghost use Rattle.width.specs.Width.{dualSourceBlending};
+ghost use Rattle.type_info.specs.declared.Row as row;
 ghost use Rattle.type_info.specs.TypeInfo.{rowsIn};
 ghost use Rattle.valid_blend.specs.Blend.{sourceAt, sourceResult, sourcesAfter, sourcesBefore, otherLocation, leafWords, innerWords, sameWords, sameType, pairOf, structBlend, blendedFlags, sourceAnswer, blendAnswer};
 
@@ -24,7 +25,7 @@ pub enum Blend {
 }
 
 // The number plus one of the last of the first n members whose blend source is stored as this word; 0 for none.
-fn source_at(part: &[u32], word: u32, n: u32) -> u32
+pub fn source_at(part: &[u32], word: u32, n: u32) -> u32
     requires { ⌜ n * memberWords ≤ length (now part) ⌝ }
     ensures { λ r. ⌜ r ≡ sourceAt (now (part .entry)) word n ⌝ }
 {
@@ -89,7 +90,7 @@ fn source_of(dual: bool, part: &[u32], j: u32) -> Source
 }
 
 // The same of the first n members, one after the other.
-fn sources_of(dual: bool, part: &[u32], n: u32) -> Source
+pub fn sources_of(dual: bool, part: &[u32], n: u32) -> Source
     requires { ⌜ n * memberWords ≤ length (now part) ⌝ }
     ensures { λ r. ⌜ sourceAnswer r ≡ sourcesAfter dual (now (part .entry)) n ⌝ }
 {
@@ -170,10 +171,10 @@ fn same_type(types: &[u32], s: u32, t: u32) -> bool
     same_words(v, w)
 }
 
-// Number 34 with detail 3 to 5, or the flags, of the struct whose members a and b have source 0 and 1.
-fn pair_of(
+// Number 34 with detail 3 to 5, or the flags, of the struct whose members a and b have source 0 and 1. own: the flags of a's type.
+pub fn pair_of(
     types: &[u32],
-    rows: &[u32],
+    own: u32,
     part: &[u32],
     count: u32,
     flags: u32,
@@ -181,8 +182,7 @@ fn pair_of(
     b: u32,
 ) -> Blend
     requires { ⌜ count * memberWords ≤ length (now part) ⌝ }
-    requires { ⌜ memberType (now part) a * 14 + 14 ≤ length (now rows) ⌝ }
-    ensures { λ r. ⌜ blendAnswer r ≡ pairOf (typeInner (now (types .entry))) (rowsIn (now (rows .entry))) (now (part .entry)) (otherLocation (now (part .entry)) count) flags a b ⌝ }
+    ensures { λ r. ⌜ ((rows : ℕ → row.Row) → rows (memberType (now (part .entry)) a) .flags ≡ own → blendAnswer r ≡ pairOf (typeInner (now (types .entry))) rows (now (part .entry)) (otherLocation (now (part .entry)) count) flags a b) ⌝ }
 {
     if other_location(part, count) {
         return Blend::Refused {
@@ -198,7 +198,7 @@ fn pair_of(
             detail: 4,
         };
     }
-    if !flags::is_io_shareable(rows::own_word(rows, s, rows::FLAGS)) {
+    if !flags::is_io_shareable(own) {
         return Blend::Refused {
             number: 34,
             detail: 5,
@@ -233,7 +233,9 @@ fn struct_blend(types: &[u32], rows: &[u32], i: u32, part: &[u32], count: u32, f
     }
     let a = first - 1;
     let b = second - 1;
-    pair_of(types, rows, part, count, flags, a, b)
+    let s = records::member_type(part, a);
+    let own = rows::own_word(rows, s, rows::FLAGS);
+    pair_of(types, own, part, count, flags, a, b)
 }
 
 // All rules of blend sources, of a struct whose members leave these flags. sourced: a member may have one.

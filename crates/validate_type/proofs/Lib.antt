@@ -3,4 +3,5 @@ pub mod StructFlags
 pub mod TypeRowLaws
 pub mod CapabilityLaws
 pub mod JudgeLaws
+pub mod FlagsRead
 pub mod CommonLaws

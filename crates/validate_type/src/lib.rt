@@ -91,7 +91,7 @@ fn joined(laid: Laid, flagged: Flagged, verdict: u32, immediates: u32) -> PlainR
 }
 
 // The flags of a scalar or a vector.
-fn numeric_flags(capabilities: u32, kind: usize, scalar_kind: u32, width: u32) -> Flagged
+pub fn numeric_flags(capabilities: u32, kind: usize, scalar_kind: u32, width: u32) -> Flagged
     requires { ⌜ kind < 14 ⌝ }
     ensures { λ r. ⌜ flaggedResult r ≡ withWidth (checkWidth capabilities «scalar_kind» width) (scalarFlags «scalar_kind» (startingFlags kind)) ⌝ }
 {

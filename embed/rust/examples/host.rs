@@ -1,4 +1,4 @@
-//! A host that fills a storage buffer by place lookups:
+//! A host that fills a storage buffer by place lookups, all in one call:
 //!
 //!   struct Cell { temperature: vec3<f32>, moisture: f32 }
 //!   struct Kernel { turn: mat3x3<f32>, steps: u32, cells: array<Cell, 4>, tail: array<f32> }
@@ -7,7 +7,7 @@
 //! Before it fills the buffer it looks at the storage verdict: an accepted type may be one that no storage buffer can hold.
 
 use std::ops::Range;
-use wuldazin::{flags, form, kind, scalar, verdict, Refusal, Row, UniformRule};
+use wuldazin::{flags, form, kind, scalar, verdict, Place, Refusal, Row, UniformRule};
 
 const F32: u32 = 0;
 const VEC3: u32 = 1;
@@ -39,25 +39,36 @@ const BYTES: usize = 128 + 4 * TAIL_COUNT as usize;
 /// The first byte after each column.
 const FLAGS: [usize; 3] = [12, 28, 44];
 
-/// The bytes of the leaf that steps lead to: of a matrix a column, rows times width; of another type its size.
-fn bytes(steps: &[u32]) -> Result<Range<usize>, Refusal> {
-    let mut rows = [0; 8 * wuldazin::ROW_WORDS];
-    let place = wuldazin::place(
-        &TYPES,
-        &MEMBERS,
-        0,
-        UniformRule::Older,
-        &mut rows,
-        KERNEL,
-        steps,
-    )?;
+/// The bytes of a leaf: of a matrix a column, rows times width; of another type its size, the first of its three words.
+fn bytes_of(place: Place, scratch: &[u32]) -> Range<usize> {
     let record = &TYPES[place.leaf as usize * wuldazin::TYPE_WORDS..];
     let size = match record[0] {
         kind::MATRIX => record[2] * record[4],
-        _ => Row::of(&rows, place.leaf).unwrap().size(),
+        _ => scratch[place.leaf as usize * wuldazin::SHORT_WORDS],
     };
     let start = place.byte as usize;
-    Ok(start..start + size as usize)
+    start..start + size as usize
+}
+
+/// The bytes of the leaf that steps lead to.
+fn bytes(steps: &[u32]) -> Result<Range<usize>, Refusal> {
+    let mut scratch = [0; 8 * wuldazin::SHORT_WORDS];
+    let place = wuldazin::place_short(&TYPES, &MEMBERS, 0, &mut scratch, KERNEL, steps)?;
+    Ok(bytes_of(place, &scratch))
+}
+
+/// The bytes of all leaves, with one judging.
+fn all_bytes(leaves: &[(Vec<u32>, Vec<u8>)]) -> Result<Vec<Range<usize>>, Refusal> {
+    let run =
+        |(steps, _): &(Vec<u32>, Vec<u8>)| [&[KERNEL, steps.len() as u32], &steps[..]].concat();
+    let runs: Vec<u32> = leaves.iter().flat_map(run).collect();
+    let mut scratch = [0; 8 * wuldazin::SHORT_WORDS];
+    let mut places = vec![0; 2 * leaves.len()];
+    wuldazin::places(&TYPES, &MEMBERS, 0, &mut scratch, &runs, &mut places)?;
+    let place = |run| Place::of(&places, run).expect("every leaf has a place");
+    Ok((0..leaves.len())
+        .map(|run| bytes_of(place(run), &scratch))
+        .collect())
 }
 
 fn floats(values: [f32; 3]) -> Vec<u8> {
@@ -137,8 +148,8 @@ fn main() -> Result<(), Refusal> {
         buffer[at] = 0xff;
     }
     let leaves = leaves();
-    for (steps, value) in &leaves {
-        let at = bytes(steps)?;
+    for ((steps, value), at) in leaves.iter().zip(all_bytes(&leaves)?) {
+        assert_eq!(at, bytes(steps)?);
         println!("{steps:?}: bytes {at:?}");
         buffer[at].copy_from_slice(value);
     }

@@ -79,6 +79,37 @@ extern "C" {
         answer: *mut u32,
         answer_length: usize,
     );
+    pub fn wuldazin_place_short(
+        types: *const u32,
+        types_length: usize,
+        members: *const u32,
+        members_length: usize,
+        capabilities: u32,
+        scratch: *mut u32,
+        scratch_length: usize,
+        start: u32,
+        steps: *const u32,
+        steps_length: usize,
+        place: *mut u64,
+        place_length: usize,
+        answer: *mut u32,
+        answer_length: usize,
+    );
+    pub fn wuldazin_places(
+        types: *const u32,
+        types_length: usize,
+        members: *const u32,
+        members_length: usize,
+        capabilities: u32,
+        scratch: *mut u32,
+        scratch_length: usize,
+        runs: *const u32,
+        runs_length: usize,
+        places: *mut u64,
+        places_length: usize,
+        answer: *mut u32,
+        answer_length: usize,
+    );
     pub fn wuldazin_report(
         types: *const u32,
         types_length: usize,

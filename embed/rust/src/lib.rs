@@ -17,6 +17,7 @@ pub use row::{flags, verdict, Row, Verdict};
 pub const TYPE_WORDS: usize = 6;
 pub const MEMBER_WORDS: usize = 4;
 pub const ROW_WORDS: usize = 14;
+pub const SHORT_WORDS: usize = 3;
 pub const REPORT_WORDS: usize = 2;
 pub const MOST_TYPES: usize = 1024;
 pub const MOST_MEMBERS: usize = 4096;
@@ -120,6 +121,17 @@ pub enum UniformRule {
 pub struct Place {
     pub byte: u64,
     pub leaf: u32,
+}
+
+impl Place {
+    /// The place of run `run` in what [`places`] left; none where it has none, or where there are fewer words.
+    pub fn of(places: &[u64], run: usize) -> Option<Self> {
+        let &[byte, leaf] = places.get(2 * run..2 * run + 2)? else {
+            return None;
+        };
+        let leaf = u32::try_from(leaf).ok()?;
+        Some(Self { byte, leaf })
+    }
 }
 
 /// Immediate slots, bit k for bytes 4k to 4k + 3.
@@ -352,6 +364,77 @@ pub fn place(
         byte,
         leaf: leaf as u32,
     })
+}
+
+/// The same by [`SHORT_WORDS`] words for each type, size, alignment and flags, in the place of a row: the result of [`place`] for
+/// the same tables, capabilities, start and steps. `scratch` is filled where the arena is accepted, zeros on numbers 2 to 24 and 34,
+/// untouched on number 1, which a shorter one gives. No verdict is made, so no rule is asked for.
+pub fn place_short(
+    types: &[u32],
+    members: &[u32],
+    capabilities: u32,
+    scratch: &mut [u32],
+    start: u32,
+    steps: &[u32],
+) -> Result<Place, Refusal> {
+    let (mut place, mut answer) = ([0; 2], [0; 4]);
+    // SAFETY: as in layout.
+    unsafe {
+        door::wuldazin_place_short(
+            types.as_ptr(),
+            types.len(),
+            members.as_ptr(),
+            members.len(),
+            capabilities,
+            scratch.as_mut_ptr(),
+            scratch.len(),
+            start,
+            steps.as_ptr(),
+            steps.len(),
+            place.as_mut_ptr(),
+            place.len(),
+            answer.as_mut_ptr(),
+            answer.len(),
+        )
+    }
+    let [byte, leaf] = place;
+    Refusal::of(answer).map(|()| Place {
+        byte,
+        leaf: leaf as u32,
+    })
+}
+
+/// Many places with one judging, and `scratch` as in [`place_short`]. `runs` are a start, how many steps it has, and the steps, one
+/// after the other. `places` is lent for two words a run, which [`Place::of`] reads. A run that is cut short, or places for fewer
+/// runs, is number 1, which touches nothing; after another refusal there is no place. Words after those of the runs are never written.
+pub fn places(
+    types: &[u32],
+    members: &[u32],
+    capabilities: u32,
+    scratch: &mut [u32],
+    runs: &[u32],
+    places: &mut [u64],
+) -> Result<(), Refusal> {
+    let mut answer = [0; 4];
+    // SAFETY: as in layout.
+    unsafe {
+        door::wuldazin_places(
+            types.as_ptr(),
+            types.len(),
+            members.as_ptr(),
+            members.len(),
+            capabilities,
+            scratch.as_mut_ptr(),
+            scratch.len(),
+            runs.as_ptr(),
+            runs.len(),
+            places.as_mut_ptr(),
+            places.len(),
+            answer.as_mut_ptr(),
+            answer.len(),
+        )
+    }
+    Refusal::of(answer)
 }
 
 /// The bytes that lie in leaves and those of the span that lie in none, for each struct with [`flags::HOST_SHAREABLE`]; a

@@ -34,7 +34,7 @@ pub mod blend {
 /// As in `wuldazin_meaning` of wuldazin.h.
 const MEANINGS: [&str; 31] = [
     "accepted",
-    "a table is no whole number of records or too long, the rows, the report or the pass are too short, a module has more records than the tables admit, an order has more than seven types or no room for its struct, or a capability bit above 13 is set",
+    "a table is no whole number of records or too long, the rows, the scratch, the places, the report or the pass are too short, a run of steps is cut short, a module has more records than the tables admit, an order has more than seven types or no room for its struct, or a capability bit above 13 is set",
     "a field lies outside its set, member rows reach past the table, a blend source has no location, or no plain type has that shape and width",
     "the base of a pointer or binding array lies outside the arena",
     "an array's count or size is above 2,147,483,647",

@@ -54,43 +54,47 @@ returns-11 c = named _ (112 ∷ 108 ∷ 97 ∷ 99 ∷ 101 ∷ []) (c .before .be
 
 returns-12 : tie.Need-returns-12
 unfolding same packed lastCommandOf answerCommandOf laterCommandOf commandOf
-returns-12 c = named _ (114 ∷ 101 ∷ 112 ∷ 111 ∷ 114 ∷ 116 ∷ []) (c .before .before .shared-slice-known .given) refl (sym (c .before .name-of .ensures) ∙ c .match .keys12)
+returns-12 c = named _ (115 ∷ 104 ∷ 111 ∷ 114 ∷ 116 ∷ []) (c .before .before .shared-slice-known .given) refl (sym (c .before .name-of .ensures) ∙ c .match .keys12)
 
 returns-13 : tie.Need-returns-13
 unfolding same packed lastCommandOf answerCommandOf laterCommandOf commandOf
-returns-13 c = named _ (112 ∷ 108 ∷ 97 ∷ 105 ∷ 110 ∷ []) (c .before .before .shared-slice-known .given) refl (sym (c .before .name-of .ensures) ∙ c .match .keys13)
+returns-13 c = named _ (114 ∷ 101 ∷ 112 ∷ 111 ∷ 114 ∷ 116 ∷ []) (c .before .before .shared-slice-known .given) refl (sym (c .before .name-of .ensures) ∙ c .match .keys13)
 
 returns-14 : tie.Need-returns-14
 unfolding same packed lastCommandOf answerCommandOf laterCommandOf commandOf
-returns-14 c = named _ (112 ∷ 97 ∷ 115 ∷ 115 ∷ []) (c .before .before .shared-slice-known .given) refl (sym (c .before .name-of .ensures) ∙ c .match .keys14)
+returns-14 c = named _ (112 ∷ 108 ∷ 97 ∷ 105 ∷ 110 ∷ []) (c .before .before .shared-slice-known .given) refl (sym (c .before .name-of .ensures) ∙ c .match .keys14)
 
 returns-15 : tie.Need-returns-15
 unfolding same packed lastCommandOf answerCommandOf laterCommandOf commandOf
-returns-15 c = named _ (115 ∷ 101 ∷ 116 ∷ []) (c .before .before .shared-slice-known .given) refl (sym (c .before .name-of .ensures) ∙ c .match .keys15)
+returns-15 c = named _ (112 ∷ 97 ∷ 115 ∷ 115 ∷ []) (c .before .before .shared-slice-known .given) refl (sym (c .before .name-of .ensures) ∙ c .match .keys15)
 
 returns-16 : tie.Need-returns-16
 unfolding same packed lastCommandOf answerCommandOf laterCommandOf commandOf
-returns-16 c = named _ (99 ∷ 104 ∷ 111 ∷ 111 ∷ 115 ∷ 101 ∷ []) (c .before .before .shared-slice-known .given) refl (sym (c .before .name-of .ensures) ∙ c .match .keys16)
+returns-16 c = named _ (115 ∷ 101 ∷ 116 ∷ []) (c .before .before .shared-slice-known .given) refl (sym (c .before .name-of .ensures) ∙ c .match .keys16)
 
 returns-17 : tie.Need-returns-17
 unfolding same packed lastCommandOf answerCommandOf laterCommandOf commandOf
-returns-17 c = named _ (114 ∷ 117 ∷ 110 ∷ []) (c .before .before .shared-slice-known .given) refl (sym (c .before .name-of .ensures) ∙ c .match .keys17)
+returns-17 c = named _ (99 ∷ 104 ∷ 111 ∷ 111 ∷ 115 ∷ 101 ∷ []) (c .before .before .shared-slice-known .given) refl (sym (c .before .name-of .ensures) ∙ c .match .keys17)
 
 returns-18 : tie.Need-returns-18
 unfolding same packed lastCommandOf answerCommandOf laterCommandOf commandOf
-returns-18 c = named _ (99 ∷ 108 ∷ 101 ∷ 97 ∷ 114 ∷ []) (c .before .before .shared-slice-known .given) refl (sym (c .before .name-of .ensures) ∙ c .match .keys18)
+returns-18 c = named _ (114 ∷ 117 ∷ 110 ∷ []) (c .before .before .shared-slice-known .given) refl (sym (c .before .name-of .ensures) ∙ c .match .keys18)
 
 returns-19 : tie.Need-returns-19
 unfolding same packed lastCommandOf answerCommandOf laterCommandOf commandOf
-returns-19 c = named _ (111 ∷ 114 ∷ 100 ∷ 101 ∷ 114 ∷ []) (c .before .before .shared-slice-known .given) refl (sym (c .before .name-of .ensures) ∙ c .match .keys19)
+returns-19 c = named _ (99 ∷ 108 ∷ 101 ∷ 97 ∷ 114 ∷ []) (c .before .before .shared-slice-known .given) refl (sym (c .before .name-of .ensures) ∙ c .match .keys19)
 
 returns-20 : tie.Need-returns-20
+unfolding same packed lastCommandOf answerCommandOf laterCommandOf commandOf
+returns-20 c = named _ (111 ∷ 114 ∷ 100 ∷ 101 ∷ 114 ∷ []) (c .before .before .shared-slice-known .given) refl (sym (c .before .name-of .ensures) ∙ c .match .keys20)
+
+returns-21 : tie.Need-returns-21
 unfolding packed nameOf lastCommandOf answerCommandOf laterCommandOf commandOf
-returns-20 c =
+returns-21 c =
     let w = now (c .before .before .before .args .word) in
     let n = c .before .name-of .ensures in
     let r = c .match .rest in
-    rw (unnamed w (99 ∷ 97 ∷ 112 ∷ 115 ∷ []) (λ e. r .0 .0 .0 .0 .0 .0 .0 .0 .0 .0 .0 .0 .0 .0 .0 .0 .0 .0 .1 (n ∙ e)), unnamed w (114 ∷ 117 ∷ 108 ∷ 101 ∷ []) (λ e. r .0 .0 .0 .0 .0 .0 .0 .0 .0 .0 .0 .0 .0 .0 .0 .0 .0 .1 (n ∙ e)), unnamed w (116 ∷ 121 ∷ 112 ∷ 101 ∷ []) (λ e. r .0 .0 .0 .0 .0 .0 .0 .0 .0 .0 .0 .0 .0 .0 .0 .0 .1 (n ∙ e)), unnamed w (109 ∷ 101 ∷ 109 ∷ 98 ∷ 101 ∷ 114 ∷ []) (λ e. r .0 .0 .0 .0 .0 .0 .0 .0 .0 .0 .0 .0 .0 .0 .0 .1 (n ∙ e)), unnamed w (108 ∷ 97 ∷ 121 ∷ 111 ∷ 117 ∷ 116 ∷ []) (λ e. r .0 .0 .0 .0 .0 .0 .0 .0 .0 .0 .0 .0 .0 .0 .1 (n ∙ e)), unnamed w (106 ∷ 117 ∷ 100 ∷ 103 ∷ 101 ∷ []) (λ e. r .0 .0 .0 .0 .0 .0 .0 .0 .0 .0 .0 .0 .0 .1 (n ∙ e)), unnamed w (99 ∷ 104 ∷ 101 ∷ 99 ∷ 107 ∷ []) (λ e. r .0 .0 .0 .0 .0 .0 .0 .0 .0 .0 .0 .0 .1 (n ∙ e)), unnamed w (109 ∷ 101 ∷ 109 ∷ 98 ∷ 101 ∷ 114 ∷ 115 ∷ []) (λ e. r .0 .0 .0 .0 .0 .0 .0 .0 .0 .0 .0 .1 (n ∙ e)), unnamed w (115 ∷ 108 ∷ 111 ∷ 116 ∷ 115 ∷ []) (λ e. r .0 .0 .0 .0 .0 .0 .0 .0 .0 .0 .1 (n ∙ e)), unnamed w (114 ∷ 97 ∷ 110 ∷ 103 ∷ 101 ∷ []) (λ e. r .0 .0 .0 .0 .0 .0 .0 .0 .0 .1 (n ∙ e)), unnamed w (112 ∷ 108 ∷ 97 ∷ 99 ∷ 101 ∷ []) (λ e. r .0 .0 .0 .0 .0 .0 .0 .0 .1 (n ∙ e)), unnamed w (114 ∷ 101 ∷ 112 ∷ 111 ∷ 114 ∷ 116 ∷ []) (λ e. r .0 .0 .0 .0 .0 .0 .0 .1 (n ∙ e)), unnamed w (112 ∷ 108 ∷ 97 ∷ 105 ∷ 110 ∷ []) (λ e. r .0 .0 .0 .0 .0 .0 .1 (n ∙ e)), unnamed w (112 ∷ 97 ∷ 115 ∷ 115 ∷ []) (λ e. r .0 .0 .0 .0 .0 .1 (n ∙ e)), unnamed w (115 ∷ 101 ∷ 116 ∷ []) (λ e. r .0 .0 .0 .0 .1 (n ∙ e)), unnamed w (99 ∷ 104 ∷ 111 ∷ 111 ∷ 115 ∷ 101 ∷ []) (λ e. r .0 .0 .0 .1 (n ∙ e)), unnamed w (114 ∷ 117 ∷ 110 ∷ []) (λ e. r .0 .0 .1 (n ∙ e)), unnamed w (99 ∷ 108 ∷ 101 ∷ 97 ∷ 114 ∷ []) (λ e. r .0 .1 (n ∙ e)), unnamed w (111 ∷ 114 ∷ 100 ∷ 101 ∷ 114 ∷ []) (λ e. r .1 (n ∙ e)))
+    rw (unnamed w (99 ∷ 97 ∷ 112 ∷ 115 ∷ []) (λ e. r .0 .0 .0 .0 .0 .0 .0 .0 .0 .0 .0 .0 .0 .0 .0 .0 .0 .0 .0 .1 (n ∙ e)), unnamed w (114 ∷ 117 ∷ 108 ∷ 101 ∷ []) (λ e. r .0 .0 .0 .0 .0 .0 .0 .0 .0 .0 .0 .0 .0 .0 .0 .0 .0 .0 .1 (n ∙ e)), unnamed w (116 ∷ 121 ∷ 112 ∷ 101 ∷ []) (λ e. r .0 .0 .0 .0 .0 .0 .0 .0 .0 .0 .0 .0 .0 .0 .0 .0 .0 .1 (n ∙ e)), unnamed w (109 ∷ 101 ∷ 109 ∷ 98 ∷ 101 ∷ 114 ∷ []) (λ e. r .0 .0 .0 .0 .0 .0 .0 .0 .0 .0 .0 .0 .0 .0 .0 .0 .1 (n ∙ e)), unnamed w (108 ∷ 97 ∷ 121 ∷ 111 ∷ 117 ∷ 116 ∷ []) (λ e. r .0 .0 .0 .0 .0 .0 .0 .0 .0 .0 .0 .0 .0 .0 .0 .1 (n ∙ e)), unnamed w (106 ∷ 117 ∷ 100 ∷ 103 ∷ 101 ∷ []) (λ e. r .0 .0 .0 .0 .0 .0 .0 .0 .0 .0 .0 .0 .0 .0 .1 (n ∙ e)), unnamed w (99 ∷ 104 ∷ 101 ∷ 99 ∷ 107 ∷ []) (λ e. r .0 .0 .0 .0 .0 .0 .0 .0 .0 .0 .0 .0 .0 .1 (n ∙ e)), unnamed w (109 ∷ 101 ∷ 109 ∷ 98 ∷ 101 ∷ 114 ∷ 115 ∷ []) (λ e. r .0 .0 .0 .0 .0 .0 .0 .0 .0 .0 .0 .0 .1 (n ∙ e)), unnamed w (115 ∷ 108 ∷ 111 ∷ 116 ∷ 115 ∷ []) (λ e. r .0 .0 .0 .0 .0 .0 .0 .0 .0 .0 .0 .1 (n ∙ e)), unnamed w (114 ∷ 97 ∷ 110 ∷ 103 ∷ 101 ∷ []) (λ e. r .0 .0 .0 .0 .0 .0 .0 .0 .0 .0 .1 (n ∙ e)), unnamed w (112 ∷ 108 ∷ 97 ∷ 99 ∷ 101 ∷ []) (λ e. r .0 .0 .0 .0 .0 .0 .0 .0 .0 .1 (n ∙ e)), unnamed w (115 ∷ 104 ∷ 111 ∷ 114 ∷ 116 ∷ []) (λ e. r .0 .0 .0 .0 .0 .0 .0 .0 .1 (n ∙ e)), unnamed w (114 ∷ 101 ∷ 112 ∷ 111 ∷ 114 ∷ 116 ∷ []) (λ e. r .0 .0 .0 .0 .0 .0 .0 .1 (n ∙ e)), unnamed w (112 ∷ 108 ∷ 97 ∷ 105 ∷ 110 ∷ []) (λ e. r .0 .0 .0 .0 .0 .0 .1 (n ∙ e)), unnamed w (112 ∷ 97 ∷ 115 ∷ 115 ∷ []) (λ e. r .0 .0 .0 .0 .0 .1 (n ∙ e)), unnamed w (115 ∷ 101 ∷ 116 ∷ []) (λ e. r .0 .0 .0 .0 .1 (n ∙ e)), unnamed w (99 ∷ 104 ∷ 111 ∷ 111 ∷ 115 ∷ 101 ∷ []) (λ e. r .0 .0 .0 .1 (n ∙ e)), unnamed w (114 ∷ 117 ∷ 110 ∷ []) (λ e. r .0 .0 .1 (n ∙ e)), unnamed w (99 ∷ 108 ∷ 101 ∷ 97 ∷ 114 ∷ []) (λ e. r .0 .1 (n ∙ e)), unnamed w (111 ∷ 114 ∷ 100 ∷ 101 ∷ 114 ∷ []) (λ e. r .1 (n ∙ e)))
 
 pub command-of-spec : {M : Type 1} → statement M
 command-of-spec =
@@ -116,4 +120,5 @@ command-of-spec =
     returns-17
     returns-18
     returns-19
-    returns-20)
+    returns-20
+    returns-21)

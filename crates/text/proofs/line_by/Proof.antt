@@ -6,8 +6,11 @@ use Rattle.text.proofs.line_by.Tie as tie
 sub-steps : tie.Need-sub-steps
 sub-steps c = rw (c .enum-told11 .given .1) at (c .before .before .before .before .before .pre .0)
 
+sub-steps-2 : tie.Need-sub-steps-2
+sub-steps-2 c = rw (c .enum-told12 .given .1) at (c .before .before .before .before .before .pre .0)
+
 sub-given : tie.Need-sub-given
-sub-given c = rw (c .enum-told19 .given .1) at (c .before .before .before .before .before .pre .0)
+sub-given c = rw (c .enum-told20 .given .1) at (c .before .before .before .before .before .pre .0)
 
 returns : tie.Need-returns
 returns c = rw (c .enum-told .given .1, c .before .before .before .word-at .ensures)
@@ -33,17 +36,20 @@ returns-10 c = rw (c .enum-told10 .given .1, c .before .before .word-at2 .ensure
 returns-11 : tie.Need-returns-11
 returns-11 c = rw (c .enum-told11 .given .1, c .before .before .before .word-at .ensures)
 
-returns-13 : tie.Need-returns-13
-returns-13 c = rw (c .enum-told13 .given .1, c .before .before .word-at2 .ensures, c .before .before .before .word-at .ensures)
+returns-12 : tie.Need-returns-12
+returns-12 c = rw (c .enum-told12 .given .1, c .before .before .before .word-at .ensures)
 
-returns-15 : tie.Need-returns-15
-returns-15 c = rw (c .enum-told15 .given .1, c .before .before .word-at2 .ensures, c .before .before .before .word-at .ensures)
+returns-14 : tie.Need-returns-14
+returns-14 c = rw (c .enum-told14 .given .1, c .before .before .word-at2 .ensures, c .before .before .before .word-at .ensures)
 
 returns-16 : tie.Need-returns-16
-returns-16 c = rw (c .enum-told16 .given .1, c .before .before .before .word-at .ensures)
+returns-16 c = rw (c .enum-told16 .given .1, c .before .before .word-at2 .ensures, c .before .before .before .word-at .ensures)
 
-returns-19 : tie.Need-returns-19
-returns-19 c = rw (c .enum-told19 .given .1, c .before .before .before .word-at .ensures)
+returns-17 : tie.Need-returns-17
+returns-17 c = rw (c .enum-told17 .given .1, c .before .before .before .word-at .ensures)
+
+returns-20 : tie.Need-returns-20
+returns-20 c = rw (c .enum-told20 .given .1, c .before .before .before .word-at .ensures)
 
 pub line-by-spec : {M : Type 1} → statement M
 line-by-spec =
@@ -71,6 +77,9 @@ line-by-spec =
     sub-steps
     (λ c. search needs)
     (λ c. search needs)
+    sub-steps-2
+    (λ c. search needs)
+    (λ c. search needs)
     (λ c. search needs)
     (λ c. search needs)
     (λ c. search needs)
@@ -92,12 +101,13 @@ line-by-spec =
     returns-9
     returns-10
     returns-11
-    (λ c. rw (c .enum-told12 .given .1))
-    returns-13
-    (λ c. rw (c .enum-told14 .given .1))
-    returns-15
+    returns-12
+    (λ c. rw (c .enum-told13 .given .1))
+    returns-14
+    (λ c. rw (c .enum-told15 .given .1))
     returns-16
-    (λ c. rw (c .enum-told17 .given .1))
+    returns-17
     (λ c. rw (c .enum-told18 .given .1))
-    returns-19
-    (λ c. rw (c .enum-told20 .given .1)))
+    (λ c. rw (c .enum-told19 .given .1))
+    returns-20
+    (λ c. rw (c .enum-told21 .given .1)))

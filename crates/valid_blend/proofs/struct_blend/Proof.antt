@@ -30,21 +30,27 @@ returns-3 c =
     let second = c .before .before .source-at2 in
     sym (first-alone (typeInner (now (a .types))) (rowsIn (now (a .rows))) (now (a .part)) (a .count) (a .flags) (first .result) (second .result) (sym (first .ensures)) (sym (second .ensures)) (omega (arith, c .before .if1 .left)) (c .if3 .taken))
 
-pair-of-requires : tie.Need-pair-of-requires
-pair-of-requires c κs =
-    let a = c .before .before .before .before .before .before .before .args in
-    let p = c .before .before .before .before .before .before .before .pre in
-    let first = c .before .before .before .source-at in
-    let below : first .result - 1 < a .count = omega (arith, c .before .if1 .left, first .ensures, source-within (now (a .part)) 1 (a .count)) in
+own-word-requires : tie.Need-own-word-requires
+unfolding rowsIn
+own-word-requires c κs =
+    let a = c .before .before .before .before .before .before .before .before .args in
+    let p = c .before .before .before .before .before .before .before .before .pre in
+    let first = c .before .before .before .before .source-at in
+    let below : first .result - 1 < a .count = omega (arith, c .before .before .if1 .left, first .ensures, source-within (now (a .part)) 1 (a .count)) in
     let earlier = p .1 .1 (first .result - 1) below in
-    (omega (arith, p .1 .0), omega (arith, earlier, p .0))
+    rw (c .member-type .ensures) (omega (arith, earlier, p .0))
+
+pair-of-requires : tie.Need-pair-of-requires
+pair-of-requires c κs = omega (arith, c .before .before .before .before .before .before .before .before .before .pre .1 .0)
 
 returns-4 : tie.Need-returns-4
+unfolding rowsIn
 returns-4 c =
-    let a = c .before .before .before .before .before .before .before .before .args in
-    let first = c .before .before .before .before .source-at in
-    let second = c .before .before .before .source-at2 in
-    c .pair-of .ensures ∙ sym (both-there (typeInner (now (a .types))) (rowsIn (now (a .rows))) (now (a .part)) (a .count) (a .flags) (first .result) (second .result) (sym (first .ensures)) (sym (second .ensures)) (omega (arith, c .before .before .if1 .left)) (omega (arith, c .before .if3 .left)))
+    let a = c .before .before .before .before .before .before .before .before .before .before .args in
+    let first = c .before .before .before .before .before .before .source-at in
+    let second = c .before .before .before .before .before .source-at2 in
+    let own = sym (rw (c .before .before .member-type .ensures) at (c .before .own-word .ensures)) in
+    c .pair-of .ensures (rowsIn (now (a .rows))) own ∙ sym (both-there (typeInner (now (a .types))) (rowsIn (now (a .rows))) (now (a .part)) (a .count) (a .flags) (first .result) (second .result) (sym (first .ensures)) (sym (second .ensures)) (omega (arith, c .before .before .before .before .if1 .left)) (omega (arith, c .before .before .before .if3 .left)))
 
 pub struct-blend-spec : {M : Type 1} → statement M
 struct-blend-spec =
@@ -57,5 +63,7 @@ struct-blend-spec =
     returns-3
     (λ c. search needs)
     (λ c. search needs)
+    (λ c κs. search needs)
+    own-word-requires
     pair-of-requires
     returns-4)

@@ -1,0 +1,4 @@
+pub mod RecordParts
+pub mod ShortLaws
+pub mod OutcomeLaws
+pub mod SamePlacesProof
