@@ -70,3 +70,12 @@ pub record InOrder (flags running offset end span : ℕ) (previous : Previous) :
 abbrev pub orderedStep : Ordered → Result State → Type 0
 orderedStep (ordered.Took s) step = step ≡ ok s
 orderedStep Other step = Unit {0}
+
+-- what the code answers of all members: the parts of the state after them, but for the struct right before the next one, or the refusal
+abbrev pub Told : (least : ℕ) (inner : ℕ → TypeInner) (rows : ℕ → Row) (i count span : ℕ) (part : List ℕ) → Members → Type 0
+Told least inner rows i count span part (Taken s) =
+    (boundsAfter inner rows count span part count ≡ ok (s .bounds))
+    × (uniformAfter least inner rows i part count ≡ s .uniform)
+    × (storageAfter rows i part count ≡ s .storage)
+    × (immediatesAfter rows part count ≡ s .immediates)
+Told least inner rows i count span part (members.Refused number member) = boundsAfter inner rows count span part count ≡ err number member 0

@@ -1,6 +1,6 @@
 -- The state after a struct's members, part by part.
 -- Assumes nothing.
-use mathlib.Core.Path.{_≡_, refl, _∙_, ap}
+use mathlib.Core.Path.{_≡_, refl, sym, _∙_, ap}
 use mathlib.Core.List.{List}
 use Prim.Native.Nat.{ℕ}
 use native.Mathlib.Omega.{arith}
@@ -12,7 +12,10 @@ use Rattle.member_bounds.specs.declared.Bounds.{Bounds}
 use Rattle.member_bounds.specs.MemberBounds.{boundsAfter}
 use Rattle.member_rules.specs.MemberRules.{uniformAfter, storageAfter, immediatesAfter}
 use Rattle.members.specs.declared.State.{State}
-use Rattle.members.specs.Members.{stateAfter}
+use Rattle.members.specs.declared.Members.{Members}
+use Rattle.members.specs.declared.Members.the-variants as members
+use Rattle.members.specs.declared.Members.the-variants.{Taken}
+use Rattle.members.specs.Members.{stateAfter, membersResult, Told}
 use Rattle.plain_members.specs.declared.PlainState.{PlainState}
 use Rattle.plain_members.specs.PlainMembers.{plainBounds, PlainAfter}
 
@@ -70,3 +73,11 @@ module _ (least : ℕ) (inner : ℕ → TypeInner) (rows : ℕ → Row) (i count
           → boundsAfter inner rows count span part j ≡ err n m d
       go (err x y w) p q = p ∙ (let t : (x ≡ n) × (y ≡ m) × (w ≡ d) = (cc, cc, cc) in rw (t .0, t .1, t .2) refl)
       go (ok b) p q = let z : _≡_ {A = ℕ} 0 1 = cc in absurd (omega arith)
+
+-- the state after all members, or the refusal, tells its parts
+pub told : (least : ℕ) (inner : ℕ → TypeInner) (rows : ℕ → Row) (i count span : ℕ) (part : List ℕ) (m : Members)
+    → membersResult m ≡ stateAfter least inner rows i count span part count → Told least inner rows i count span part m
+told least inner rows i count span part (Taken s) e =
+    let p = state-parts least inner rows i count span part count s (sym e) in
+    (p .bounds, p .uniform, p .storage, p .immediates)
+told least inner rows i count span part (members.Refused number member) e = state-error least inner rows i count span part count (sym e)

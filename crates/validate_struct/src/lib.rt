@@ -1,6 +1,9 @@
 // validate_type of naga's valid/type.rs: the row of a struct, and of any type by its kind, with numbers 2 to 7 of its record before it.
+use member_bounds::Bounds;
 use members::Members;
+use members::State;
 use type_alignment::Located;
+use type_info::Previous;
 use type_info::UniformRule;
 use valid_blend::Blend;
 use valid_blend::Source;
@@ -15,11 +18,12 @@ ghost use Rattle.records.specs.Fields.{sourcesLocated};
 ghost use Rattle.records.specs.declared.TypeInner.the-variants.{Struct};
 ghost use Rattle.type_info.specs.TypeInfo.{rowsIn};
 ghost use Rattle.type_info.specs.Verdict.{leastFor};
-ghost use Rattle.members.specs.Members.{stateAfter, membersResult};
+ghost use Rattle.members.specs.Members.{Told};
 ghost use Rattle.validate_type.specs.ValidateType.{judge, Settled};
 ghost use Rattle.validate_type.specs.TypeRow.{wordsRow, recordRow};
 
-// All members of struct i, by the rules that do not read blend sources.
+// All members of struct i, by the rules that do not read blend sources. Where none breaks a rule, no member comes next, and the struct right before it
+// is not looked for.
 fn members_of(
     rule: UniformRule,
     types: &[u32],
@@ -33,11 +37,24 @@ fn members_of(
     requires { ⌜ i * 6 ≤ length (now types) ⌝ }
     requires { ⌜ length (now part) ≡ count * memberWords ⌝ }
     requires { ⌜ ((j : ℕ) → j < count → memberType (now part) j < i) ⌝ }
-    ensures { λ r. ⌜ membersResult r ≡ stateAfter (leastFor rule) (typeInner (now (types .entry))) (rowsIn (now (rows .entry))) i count span (now (part .entry)) count ⌝ }
+    ensures { λ r. ⌜ Told (leastFor rule) (typeInner (now (types .entry))) (rowsIn (now (rows .entry))) i count span (now (part .entry)) r ⌝ }
 {
     let reached = plain_members::plain_members(rule, types, rows, i, part, count, span);
     let taken = reached.taken;
     let plain = reached.state;
+    if taken == count {
+        let bounds = Bounds {
+            end: plain.end,
+            flags: plain.flags,
+        };
+        return Members::Taken(State {
+            bounds,
+            uniform: type_info::ok_verdict(plain.uniform),
+            storage: type_info::ok_verdict(plain.storage),
+            immediates: 0,
+            previous: Previous::NoStruct,
+        });
+    }
     let state = members::carried(
         types,
         part,

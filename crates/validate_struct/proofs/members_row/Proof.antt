@@ -10,11 +10,9 @@ use Rattle.records.specs.Record.{typeInner}
 use Rattle.flags.specs.Flags.{bit}
 use Rattle.width.specs.Width.{dualSourceBlending}
 use Rattle.type_info.specs.TypeInfo.{rowsIn}
-use Rattle.type_info.specs.Verdict.{leastFor}
 use Rattle.valid_blend.specs.Blend.{sourceAnswer, blendAnswer}
 use Rattle.valid_blend.proofs.BlendLaws.{blended-refused, flags-taken, flags-refused}
 use Rattle.validate_type.specs.ValidateType.{judge, flagsOf, rowOf, uniformOf, storageOf, immediatesOf}
-use Rattle.validate_struct.proofs.StateParts.{state-parts, state-error}
 use Rattle.validate_struct.proofs.members_row.Statement.{statement}
 use Rattle.validate_struct.proofs.members_row.Tie as tie
 
@@ -47,7 +45,7 @@ source-before-requires : tie.Need-source-before-requires
 source-before-requires c κs =
     let a = c .before .before .before .before .before .before .before .before .before .args in
     let p = c .before .before .before .before .before .before .before .before .before .pre in
-    let error = state-error (leastFor (a .rule)) (typeInner (now (a .types))) (rowsIn (take (a .i * 14) (a .rows .now))) (a .i) (a .count) (a .span) (now (a .part)) (a .count) (sym (rw (c .before .number2 .given .1) at (c .before .before .before .members-of .ensures))) in
+    let error = rw (c .before .number2 .given .1) at (c .before .before .before .members-of .ensures) in
     let below = blended-refused (bit (a .capabilities) dualSourceBlending) (typeInner (now (a .types))) (rowsIn (take (a .i * 14) (a .rows .now))) (a .count) (a .span) (now (a .part)) (a .count) _ _ _ error .0 in
     (omega (arith, below, p .1 .1 .0), (omega (arith, below), p .1 .1 .1 .1))
 
@@ -59,9 +57,9 @@ returns-2 c =
     let inner = typeInner (now (a .types)) in
     let rows = rowsIn (take (a .i * 14) (a .rows .now)) in
     let dual = bit (a .capabilities) dualSourceBlending in
-    let parts = state-parts (leastFor (a .rule)) inner rows (a .i) (a .count) (a .span) (now (a .part)) (a .count) (c .before .before .before .before .before .before .before .before .before .before .before .before .before .state .given .0 .0) (sym (rw (c .before .before .before .before .before .before .before .before .before .before .before .before .before .state .given .1) at (c .before .before .before .before .before .before .before .before .before .before .before .before .before .before .before .members-of .ensures))) in
-    let flags = flags-taken dual inner rows (a .count) (a .span) (now (a .part)) _ (parts .bounds) ∙ sym (c .before .before .before .before .before .before .before .before .before .blended-flags .ensures) ∙ ap blendAnswer (c .before .before .before .before .before .before .before .flags .given .1) in
-    rw (lt-ltb 0 (a .count) some, flags, parts .uniform, parts .storage, parts .immediates)
+    let parts = rw (c .before .before .before .before .before .before .before .before .before .before .before .before .before .state .given .1) at (c .before .before .before .before .before .before .before .before .before .before .before .before .before .before .before .members-of .ensures) in
+    let flags = flags-taken dual inner rows (a .count) (a .span) (now (a .part)) _ (parts .0) ∙ sym (c .before .before .before .before .before .before .before .before .before .blended-flags .ensures) ∙ ap blendAnswer (c .before .before .before .before .before .before .before .flags .given .1) in
+    rw (lt-ltb 0 (a .count) some, flags, parts .1, parts .2, parts .3)
     (refl, rw (c .before .before .before .before .before .span-verdict .ensures, c .before .before .before .before .span-verdict2 .ensures) at (c .before .before .put .ensures))
 
 returns-3 : tie.Need-returns-3
@@ -72,8 +70,8 @@ returns-3 c =
     let inner = typeInner (now (a .types)) in
     let rows = rowsIn (take (a .i * 14) (a .rows .now)) in
     let dual = bit (a .capabilities) dualSourceBlending in
-    let parts = state-parts (leastFor (a .rule)) inner rows (a .i) (a .count) (a .span) (now (a .part)) (a .count) (c .before .before .before .before .before .before .before .state .given .0 .0) (sym (rw (c .before .before .before .before .before .before .before .state .given .1) at (c .before .before .before .before .before .before .before .before .before .members-of .ensures))) in
-    let flags = flags-taken dual inner rows (a .count) (a .span) (now (a .part)) _ (parts .bounds) ∙ sym (c .before .before .before .blended-flags .ensures) ∙ ap blendAnswer (c .before .number .given .1) in
+    let parts = rw (c .before .before .before .before .before .before .before .state .given .1) at (c .before .before .before .before .before .before .before .before .before .members-of .ensures) in
+    let flags = flags-taken dual inner rows (a .count) (a .span) (now (a .part)) _ (parts .0) ∙ sym (c .before .before .before .blended-flags .ensures) ∙ ap blendAnswer (c .before .number .given .1) in
     rw (lt-ltb 0 (a .count) some, flags) (refl, refl)
 
 returns-4 : tie.Need-returns-4
@@ -84,7 +82,7 @@ returns-4 c =
     let inner = typeInner (now (a .types)) in
     let rows = rowsIn (take (a .i * 14) (a .rows .now)) in
     let dual = bit (a .capabilities) dualSourceBlending in
-    let error = state-error (leastFor (a .rule)) inner rows (a .i) (a .count) (a .span) (now (a .part)) (a .count) (sym (rw (c .before .before .before .before .number2 .given .1) at (c .before .before .before .before .before .before .members-of .ensures))) in
+    let error = rw (c .before .before .before .before .number2 .given .1) at (c .before .before .before .before .before .before .members-of .ensures) in
     let source = sym (c .before .before .source-before .ensures) ∙ ap sourceAnswer (c .enum-told .given .1) in
     let flags = flags-refused dual inner rows (a .count) (a .span) (now (a .part)) _ _ _ error in
     rw (lt-ltb 0 (a .count) some, flags, source) (refl, refl)
@@ -97,7 +95,7 @@ returns-5 c =
     let inner = typeInner (now (a .types)) in
     let rows = rowsIn (take (a .i * 14) (a .rows .now)) in
     let dual = bit (a .capabilities) dualSourceBlending in
-    let error = state-error (leastFor (a .rule)) inner rows (a .i) (a .count) (a .span) (now (a .part)) (a .count) (sym (rw (c .before .before .before .before .before .number2 .given .1) at (c .before .before .before .before .before .before .before .members-of .ensures))) in
+    let error = rw (c .before .before .before .before .before .number2 .given .1) at (c .before .before .before .before .before .before .before .members-of .ensures) in
     let source = sym (c .before .before .before .source-before .ensures) ∙ ap sourceAnswer (c .before .first .given .1) in
     let flags = flags-refused dual inner rows (a .count) (a .span) (now (a .part)) _ _ _ error in
     rw (lt-ltb 0 (a .count) some, flags, source) (refl, refl)
