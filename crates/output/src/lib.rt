@@ -30,7 +30,7 @@ pub fn write_out(out: &Buffer, at: usize) -> bool {
     flush(out, at)
 }
 
-fn put_byte(out: &mut Buffer, at: usize, b: u8) -> usize {
+pub fn put_byte(out: &mut Buffer, at: usize, b: u8) -> usize {
     if at < out.len() {
         out[at] = b;
         return at + 1;

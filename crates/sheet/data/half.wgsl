@@ -1,0 +1,1 @@
+struct Half { scale: f16, rest: array<vec2<f16>> }

@@ -1,0 +1,4 @@
+struct Cells {
+    count: u32,
+    cells array<f32>,
+}

@@ -1,0 +1,4 @@
+struct Tail {
+    rest: array<u32>,
+    count: u32,
+}
