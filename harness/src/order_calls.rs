@@ -114,7 +114,7 @@ fn wanted(random: &mut Random, arena: &Arena, long: bool) -> Vec<u32> {
 /// As much as is needed, more, or too little.
 fn room(random: &mut Random, needed: usize, width: usize) -> usize {
     match random.below(32) {
-        0 => needed - 1,
+        0 => needed.saturating_sub(1),
         1 => needed.saturating_sub(width),
         2..=9 => needed + random.below(3 * width as u32) as usize,
         _ => needed,

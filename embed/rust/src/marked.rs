@@ -451,7 +451,7 @@ fn the_header_has_the_same_sentences() {
     let (_, function) = header.split_once("*wuldazin_meaning(").unwrap();
     let (function, _) = function.split_once("\n}").unwrap();
     let sentences = function.split('"').skip(1).step_by(2);
-    let numbers = (0..35).chain([36, 37, 38]);
+    let numbers = 0..39;
     let meanings = numbers.map(|number| refused(number, 0, 0, 0).meaning());
     assert!(sentences.eq(meanings));
 }
