@@ -1,12 +1,13 @@
 -- Laws of a struct's members: one member more, a refusal that stays.
 -- Assumes nothing.
-use mathlib.Core.Path.{_≡_, refl}
+use mathlib.Core.Path.{_≡_, refl, sym, _∙_, ap}
 use mathlib.Core.Bool.{Bool, true, _&&_}
 use mathlib.Core.List.{List}
 use Prim.Native.Nat.{ℕ, suc, _+_, _≤_}
 use native.Mathlib.Omega.{arith}
 use native.Mathlib.Decide.{le-ind}
 use lib.Bits.{bitAnd}
+use lib.Dec.{eqb, eqb→eq}
 use borrow.Author.Tests.{le-leb}
 use Rattle.records.specs.Result.{Result, err, ok, andThen}
 use Rattle.records.specs.Record.{memberType, memberOffset}
@@ -20,10 +21,15 @@ use Rattle.member_bounds.specs.declared.Bounds.{Bounds}
 use Rattle.members.specs.declared.State.{State}
 use Rattle.records.proofs.ResultLaws.{true-T, T-true, and-left, and-right}
 use Rattle.flags.specs.Flags.{bit, dataBit, sizedBit, hostShareableBit, creationResolvedBit, isSizedData}
-use Rattle.type_info.specs.Verdict.{structAt, previousOf}
+use Rattle.type_info.specs.Verdict.{structAt, previousOf, okVerdict}
 use Rattle.member_bounds.specs.MemberBounds.{isArray, memberBounds, boundsAfter}
 use Rattle.member_rules.specs.MemberRules.{uniformAfter, storageAfter, immediatesAfter, memberImmediates}
-use Rattle.members.specs.Members.{stateAfter, memberStep}
+use Rattle.plain_members.specs.declared.PlainState.{PlainState}
+use Rattle.plain_members.specs.PlainMembers.{leastOf, plainBounds, PlainAfter}
+use Rattle.members.specs.declared.Members.{Members}
+use Rattle.members.specs.declared.Members.the-variants as members
+use Rattle.members.specs.declared.Members.the-variants.{Taken}
+use Rattle.members.specs.Members.{stateAfter, memberStep, membersResult, isClean, Told}
 
 module _ (least : ℕ) (inner : ℕ → TypeInner) (rows : ℕ → Row) (i count span : ℕ) (part : List ℕ) where
   -- one member more
@@ -84,3 +90,91 @@ ordered-step least i count span j t offset array next r s in-order apart within 
     let is-sized : sized ≡ true = T-true sized (and-right holds sized two) in
     let is-resolved : resolved ≡ true = T-true resolved (and-right (holds && sized) resolved all) in
     rw (is-data, is-sized, is-resolved, le-leb (s .bounds .end) offset apart, le-leb (offset + r .size) most (omega arith), le-leb (offset + r .size) span within, distant, far) refl
+
+-- ---- the state part by part
+module _ (least : ℕ) (inner : ℕ → TypeInner) (rows : ℕ → Row) (i count span : ℕ) (part : List ℕ) (j : ℕ) where
+  pub record Parts (s : State) : Type 0 where
+    pub bounds : boundsAfter inner rows count span part j ≡ ok (s .bounds)
+    pub uniform : uniformAfter least inner rows i part j ≡ s .uniform
+    pub storage : storageAfter rows i part j ≡ s .storage
+    pub immediates : immediatesAfter rows part j ≡ s .immediates
+
+  made : Bounds → State
+  made b =
+      record {
+        bounds = b;
+        uniform = uniformAfter least inner rows i part j;
+        storage = storageAfter rows i part j;
+        immediates = immediatesAfter rows part j;
+        previous = previousOf inner part j;
+      }
+
+  pub state-parts : (s : State) → stateAfter least inner rows i count span part j ≡ ok s → Parts s
+  unfolding stateAfter made
+  state-parts s e = go (boundsAfter inner rows count span part j) refl e
+    where
+      go : (o : Result Bounds) → boundsAfter inner rows count span part j ≡ o → andThen o (λ b. ok (made b)) ≡ ok s → Parts s
+      go (err n m d) p q = let z : _≡_ {A = ℕ} 0 1 = cc in absurd (omega arith)
+      go (ok b) p q =
+          let t : _≡_ {A = State} (made b) s = cc in
+          record {
+            bounds = p ∙ ap (λ (x : State). ok (x .bounds)) t;
+            uniform = ap (λ (x : State). x .uniform) t;
+            storage = ap (λ (x : State). x .storage) t;
+            immediates = ap (λ (x : State). x .immediates) t;
+          }
+
+  pub state-error : {n m d : ℕ} → stateAfter least inner rows i count span part j ≡ err n m d → boundsAfter inner rows count span part j ≡ err n m d
+  unfolding stateAfter made
+  state-error {n} {m} {d} e = go (boundsAfter inner rows count span part j) refl e
+    where
+      go : (o : Result Bounds) → boundsAfter inner rows count span part j ≡ o → andThen o (λ b. ok (made b)) ≡ err n m d
+          → boundsAfter inner rows count span part j ≡ err n m d
+      go (err x y w) p q = p ∙ (let t : (x ≡ n) × (y ≡ m) × (w ≡ d) = (cc, cc, cc) in rw (t .0, t .1, t .2) refl)
+      go (ok b) p q = let z : _≡_ {A = ℕ} 0 1 = cc in absurd (omega arith)
+
+  -- to the loops of plain_members and back
+  pub plain-before : (s : State) (u : Verdict) → stateAfter least inner rows i count span part j ≡ ok s → s .uniform ≡ u → s .storage ≡ okVerdict (s .storage .ty)
+      → PlainAfter least inner rows i count span part j u (s .immediates)
+      (record { end = s .bounds .end; flags = s .bounds .flags; uniform = s .uniform .ty; storage = s .storage .ty; least = leastOf (s .bounds .end) (previousOf inner part j) })
+  plain-before s u e uniform storage =
+      let p = state-parts s e in
+      (p .bounds, p .uniform ∙ uniform, p .storage ∙ storage, p .immediates, refl)
+
+  pub plain-state : (s : PlainState) (u : Verdict) (immediates : ℕ) → PlainAfter least inner rows i count span part j u immediates s
+      → stateAfter least inner rows i count span part j
+      ≡ ok (record {
+        bounds = plainBounds s;
+        uniform = u;
+        storage = okVerdict (s .storage);
+        immediates = immediates;
+        previous = previousOf inner part j;
+      })
+  unfolding stateAfter
+  plain-state s u immediates p = rw (p .0, p .1, p .2, p .3) refl
+
+-- the state after all members, or the refusal, tells its parts
+pub told : (least : ℕ) (inner : ℕ → TypeInner) (rows : ℕ → Row) (i count span : ℕ) (part : List ℕ) (m : Members)
+    → membersResult m ≡ stateAfter least inner rows i count span part count → Told least inner rows i count span part m
+told least inner rows i count span part (Taken s) e =
+    let p = state-parts least inner rows i count span part count s (sym e) in
+    (p .bounds, p .uniform, p .storage, p .immediates)
+told least inner rows i count span part (members.Refused number member) e = state-error least inner rows i count span part count (sym e)
+
+-- ---- a verdict that is Ok with its alignment alone
+abbrev verdict : (code ty index value bound : ℕ) → Verdict
+verdict code ty index value bound = record { code = code; ty = ty; index = index; value = value; bound = bound }
+
+pub clean : (v : Verdict) → isClean v ≡ true → v ≡ okVerdict (v .ty)
+clean v e =
+    let a = eqb (v .code) 0 in
+    let b = eqb (v .index) 0 in
+    let c = eqb (v .value) 0 in
+    let d = eqb (v .bound) 0 in
+    let all = true-T e in
+    let three = and-left (a && b && c) d all in
+    let two = and-left (a && b) c three in
+    ap (λ (x : ℕ). verdict x (v .ty) (v .index) (v .value) (v .bound)) (eqb→eq (v .code) 0 (and-left a b two))
+    ∙ ap (λ (x : ℕ). verdict 0 (v .ty) x (v .value) (v .bound)) (eqb→eq (v .index) 0 (and-right a b two))
+    ∙ ap (λ (x : ℕ). verdict 0 (v .ty) 0 x (v .bound)) (eqb→eq (v .value) 0 (and-right (a && b) c three))
+    ∙ ap (λ (x : ℕ). verdict 0 (v .ty) 0 0 x) (eqb→eq (v .bound) 0 (and-right (a && b && c) d all))

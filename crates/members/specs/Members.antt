@@ -1,10 +1,11 @@
 -- 01, 'The result row': a struct, member by member. What the code carries from member to member, by the rules of one member
 -- (member_rules: MemberRules), and what it answers. `rows` are the rows of the types before type i.
 -- Assumes nothing.
-use mathlib.Core.Bool.{Bool, true}
+use mathlib.Core.Bool.{Bool, true, false, _&&_}
 use mathlib.Core.List.{List}
 use mathlib.Core.Path.{_≡_}
 use Prim.Native.Nat.{ℕ, _≤_}
+use lib.Dec.{eqb}
 use Rattle.records.specs.Result.{Result, err, ok, andThen}
 use Rattle.records.specs.declared.TypeInner.{TypeInner}
 use Rattle.flags.specs.Flags.{isSizedData}
@@ -12,7 +13,7 @@ use Rattle.type_info.specs.declared.Previous.{Previous}
 use Rattle.type_info.specs.declared.Row.{Row}
 use Rattle.type_info.specs.declared.Verdict.{Verdict}
 use Rattle.type_info.specs.declared.UniformRule.{UniformRule}
-use Rattle.type_info.specs.Verdict.{leastFor, previousOf, distanceVerdict, distanceOk}
+use Rattle.type_info.specs.Verdict.{leastFor, okVerdict, isOk, previousOf, distanceVerdict, distanceOk}
 use Rattle.member_bounds.specs.MemberBounds.{boundsBy, boundsAfter}
 use Rattle.member_rules.specs.MemberRules.{memberUniform, memberStorage, memberImmediates, uniformAfter, storageAfter, immediatesAfter}
 use Rattle.members.specs.declared.State.{State}
@@ -22,6 +23,8 @@ use Rattle.members.specs.declared.Stepped.the-variants.{Took}
 use Rattle.members.specs.declared.Ordered.{Ordered}
 use Rattle.members.specs.declared.Ordered.the-variants as ordered
 use Rattle.members.specs.declared.Ordered.the-variants.{Other}
+use Rattle.members.specs.declared.Way.{Way}
+use Rattle.members.specs.declared.Way.the-variants as way
 use Rattle.members.specs.declared.Members.{Members}
 use Rattle.members.specs.declared.Members.the-variants as members
 use Rattle.members.specs.declared.Members.the-variants.{Taken}
@@ -71,7 +74,7 @@ abbrev pub orderedStep : Ordered → Result State → Type 0
 orderedStep (ordered.Took s) step = step ≡ ok s
 orderedStep Other step = Unit {0}
 
--- what the code answers of all members: the parts of the state after them, but for the struct right before the next one, or the refusal
+-- what the code answers of all members: the parts of the state after them, but for the member right before, or the refusal
 abbrev pub Told : (least : ℕ) (inner : ℕ → TypeInner) (rows : ℕ → Row) (i count span : ℕ) (part : List ℕ) → Members → Type 0
 Told least inner rows i count span part (Taken s) =
     (boundsAfter inner rows count span part count ≡ ok (s .bounds))
@@ -79,3 +82,13 @@ Told least inner rows i count span part (Taken s) =
     × (storageAfter rows i part count ≡ s .storage)
     × (immediatesAfter rows part count ≡ s .immediates)
 Told least inner rows i count span part (members.Refused number member) = boundsAfter inner rows count span part count ≡ err number member 0
+
+-- a verdict that is Ok, with its alignment and nothing else
+abbrev pub isClean : Verdict → Bool
+isClean v = eqb (v .code) 0 && eqb (v .index) 0 && eqb (v .value) 0 && eqb (v .bound) 0
+
+-- what is known of the uniform verdict u and the storage verdict s where a way is taken
+abbrev pub WayFits : Way → (u s : Verdict) → Type 0
+WayFits way.Ordered u s = Unit {0}
+WayFits way.Plain u s = (u ≡ okVerdict (u .ty)) × (s ≡ okVerdict (s .ty))
+WayFits way.Storage u s = (isOk u ≡ false) × (s ≡ okVerdict (s .ty))

@@ -1,6 +1,7 @@
 // The members of a struct, one after the other: the member loop of validate_type in naga's valid/type.rs.
 use member_bounds::Bounded;
 use member_bounds::Bounds;
+use plain_members::PlainState;
 use type_info::Previous;
 use type_info::Row;
 use type_info::UniformRule;
@@ -13,9 +14,11 @@ ghost use Rattle.records.specs.Record.{memberWords, memberType, typeInner};
 ghost use Rattle.records.specs.Result.{ok};
 ghost use Rattle.type_info.specs.declared.UniformRule as rule;
 ghost use Rattle.type_info.specs.TypeInfo.{rowsIn, verdictIn};
-ghost use Rattle.type_info.specs.Verdict.{leastFor, okVerdict, shareVerdict, memberVerdict, structAt, previousOf};
+ghost use mathlib.Core.Bool.{false};
+ghost use Rattle.type_info.specs.Verdict.{leastFor, okVerdict, isOk, shareVerdict, memberVerdict, structAt, previousOf};
+ghost use Rattle.plain_members.specs.PlainMembers.{leastOf};
 ghost use Rattle.member_bounds.specs.MemberBounds.{isArray};
-ghost use Rattle.members.specs.Members.{memberStep, stateAfter, steppedResult, membersResult, InOrder, orderedStep};
+ghost use Rattle.members.specs.Members.{memberStep, stateAfter, steppedResult, membersResult, InOrder, orderedStep, isClean, WayFits};
 
 // What is known after some members.
 pub struct State {
@@ -41,6 +44,13 @@ pub enum Ordered {
 pub struct Reached {
     pub taken: u32,
     pub state: State,
+}
+
+// How the next members are taken: with all that is known of both verdicts, or by a loop of plain_members.
+pub enum Way {
+    Ordered,
+    Plain,
+    Storage,
 }
 
 pub enum Members {
@@ -98,24 +108,25 @@ fn member(
     }
 }
 
-// After the first `taken` members, none of which broke a rule: both verdicts are Ok, with these alignments.
+// After the first `taken` members: the storage verdict is Ok, with this alignment.
 pub fn carried(
     types: &[u32],
     part: &[u32],
     taken: u32,
     end: u32,
     flags: u32,
-    uniform: u32,
+    uniform: Verdict,
     storage: u32,
+    immediates: u32,
 ) -> State
-    ensures { λ r. ⌜ r ≡ record { bounds = record { end = end; flags = flags }; uniform = okVerdict uniform; storage = okVerdict storage; immediates = 0; previous = previousOf (typeInner (now (types .entry))) (now (part .entry)) taken } ⌝ }
+    ensures { λ r. ⌜ r ≡ record { bounds = record { end = end; flags = flags }; uniform = «uniform»; storage = okVerdict storage; immediates = «immediates»; previous = previousOf (typeInner (now (types .entry))) (now (part .entry)) taken } ⌝ }
 {
     let bounds = Bounds { end, flags };
     State {
         bounds,
-        uniform: type_info::ok_verdict(uniform),
+        uniform,
         storage: type_info::ok_verdict(storage),
-        immediates: 0,
+        immediates,
         previous: previous_of(types, part, taken),
     }
 }
@@ -259,6 +270,188 @@ fn ordered_members(
     Reached { taken: j, state }
 }
 
+// Where member j may begin that overlaps none before it and keeps the distance; end: the end of the member before it.
+fn least_at(types: &[u32], i: u32, part: &[u32], count: u32, j: u32, end: u32) -> u64
+    requires { ⌜ i * 6 ≤ length (now types) ⌝ }
+    requires { ⌜ length (now part) ≡ count * memberWords ⌝ }
+    requires { ⌜ ((k : ℕ) → k < count → memberType (now part) k < i) ⌝ }
+    requires { ⌜ j ≤ count ⌝ }
+    ensures { λ r. ⌜ r ≡ leastOf end (previousOf (typeInner (now (types .entry))) (now (part .entry)) j) ⌝ }
+{
+    if j == 0 {
+        return end as u64;
+    }
+    let before = (j - 1) as usize;
+    let t = records::own_type(part, before);
+    let offset = records::own_offset(part, before);
+    plain_members::least_after(types, t, offset, end as u64)
+}
+
+// The same state for the loops of plain_members.
+fn from_state(
+    types: &[u32],
+    i: u32,
+    part: &[u32],
+    count: u32,
+    taken: u32,
+    before: State,
+) -> PlainState
+    requires { ⌜ i * 6 ≤ length (now types) ⌝ }
+    requires { ⌜ length (now part) ≡ count * memberWords ⌝ }
+    requires { ⌜ ((k : ℕ) → k < count → memberType (now part) k < i) ⌝ }
+    requires { ⌜ taken ≤ count ⌝ }
+    ensures { λ r. ⌜ r ≡ record { end = before .bounds .end; flags = before .bounds .flags; uniform = before .uniform .ty; storage = before .storage .ty; least = leastOf (before .bounds .end) (previousOf (typeInner (now (types .entry))) (now (part .entry)) taken) } ⌝ }
+{
+    let bounds = before.bounds;
+    let uniform = before.uniform;
+    let storage = before.storage;
+    let least = least_at(types, i, part, count, taken, bounds.end);
+    PlainState {
+        end: bounds.end,
+        flags: bounds.flags,
+        uniform: uniform.ty,
+        storage: storage.ty,
+        least,
+    }
+}
+
+// Whether a verdict is Ok with its alignment and nothing else in it.
+fn is_clean(v: Verdict) -> bool
+    ensures { λ r. ⌜ r ≡ isClean v ⌝ }
+{
+    (v.code == 0) & (v.index == 0) & (v.value == 0) & (v.bound == 0)
+}
+
+// By how many members are left and by the verdicts u, uniform, and s, storage. To change from one loop to another costs more than a few members do.
+fn way_of(left: u32, u: Verdict, s: Verdict) -> Way
+    ensures { λ r. ⌜ WayFits r u s ⌝ }
+{
+    if left < plain_members::LONG {
+        return Way::Ordered;
+    }
+    if !is_clean(s) {
+        return Way::Ordered;
+    }
+    if is_clean(u) {
+        return Way::Plain;
+    }
+    let code = u.code;
+    if code == 0 {
+        return Way::Ordered;
+    }
+    Way::Storage
+}
+
+// The members of struct i from `taken` on as long as none breaks a rule; both verdicts are Ok.
+fn plain_from(
+    types: &[u32],
+    rows: &[u32],
+    i: u32,
+    part: &[u32],
+    count: u32,
+    span: u32,
+    taken: u32,
+    before: State,
+) -> Reached
+    requires { ⌜ length (now rows) ≡ i * 14 ⌝ }
+    requires { ⌜ i * 6 ≤ length (now types) ⌝ }
+    requires { ⌜ length (now part) ≡ count * memberWords ⌝ }
+    requires { ⌜ ((j : ℕ) → j < count → memberType (now part) j < i) ⌝ }
+    requires { ⌜ taken ≤ count ⌝ }
+    requires { ⌜ before .uniform ≡ okVerdict (before .uniform .ty) ⌝ }
+    requires { ⌜ before .storage ≡ okVerdict (before .storage .ty) ⌝ }
+    ensures { λ r. ⌜ taken ≤ r .taken ⌝ }
+    ensures { λ r. ⌜ r .taken ≤ count ⌝ }
+    ensures { λ r. ⌜ ((rule : rule.UniformRule) → stateAfter (leastFor rule) (typeInner (now (types .entry))) (rowsIn (now (rows .entry))) i count span (now (part .entry)) taken ≡ ok before → stateAfter (leastFor rule) (typeInner (now (types .entry))) (rowsIn (now (rows .entry))) i count span (now (part .entry)) (r .taken) ≡ ok (r .state)) ⌝ }
+{
+    let from = from_state(types, i, part, count, taken, before);
+    let reached = plain_members::plain_members(types, rows, i, part, count, span, taken, from);
+    let at = reached.taken;
+    let s = reached.state;
+    let uniform = type_info::ok_verdict(s.uniform);
+    let state = carried(
+        types,
+        part,
+        at,
+        s.end,
+        s.flags,
+        uniform,
+        s.storage,
+        before.immediates,
+    );
+    Reached { taken: at, state }
+}
+
+// The same where the uniform verdict has failed, which stays.
+fn storage_from(
+    types: &[u32],
+    rows: &[u32],
+    i: u32,
+    part: &[u32],
+    count: u32,
+    span: u32,
+    taken: u32,
+    before: State,
+) -> Reached
+    requires { ⌜ length (now rows) ≡ i * 14 ⌝ }
+    requires { ⌜ i * 6 ≤ length (now types) ⌝ }
+    requires { ⌜ length (now part) ≡ count * memberWords ⌝ }
+    requires { ⌜ ((j : ℕ) → j < count → memberType (now part) j < i) ⌝ }
+    requires { ⌜ taken ≤ count ⌝ }
+    requires { ⌜ isOk (before .uniform) ≡ false ⌝ }
+    requires { ⌜ before .storage ≡ okVerdict (before .storage .ty) ⌝ }
+    ensures { λ r. ⌜ taken ≤ r .taken ⌝ }
+    ensures { λ r. ⌜ r .taken ≤ count ⌝ }
+    ensures { λ r. ⌜ ((rule : rule.UniformRule) → stateAfter (leastFor rule) (typeInner (now (types .entry))) (rowsIn (now (rows .entry))) i count span (now (part .entry)) taken ≡ ok before → stateAfter (leastFor rule) (typeInner (now (types .entry))) (rowsIn (now (rows .entry))) i count span (now (part .entry)) (r .taken) ≡ ok (r .state)) ⌝ }
+{
+    let from = from_state(types, i, part, count, taken, before);
+    let reached = plain_members::storage_members(types, rows, i, part, count, span, taken, from);
+    let at = reached.taken;
+    let s = reached.state;
+    let uniform = before.uniform;
+    let state = carried(
+        types,
+        part,
+        at,
+        s.end,
+        s.flags,
+        uniform,
+        s.storage,
+        before.immediates,
+    );
+    Reached { taken: at, state }
+}
+
+// The members of struct i from `taken` on, up to the first that needs every rule or another loop. They are taken alike by either rule.
+fn together(
+    types: &[u32],
+    rows: &[u32],
+    i: u32,
+    part: &[u32],
+    count: u32,
+    span: u32,
+    taken: u32,
+    before: State,
+) -> Reached
+    requires { ⌜ length (now rows) ≡ i * 14 ⌝ }
+    requires { ⌜ i * 6 ≤ length (now types) ⌝ }
+    requires { ⌜ length (now part) ≡ count * memberWords ⌝ }
+    requires { ⌜ ((j : ℕ) → j < count → memberType (now part) j < i) ⌝ }
+    requires { ⌜ taken ≤ count ⌝ }
+    ensures { λ r. ⌜ taken ≤ r .taken ⌝ }
+    ensures { λ r. ⌜ r .taken ≤ count ⌝ }
+    ensures { λ r. ⌜ ((rule : rule.UniformRule) → stateAfter (leastFor rule) (typeInner (now (types .entry))) (rowsIn (now (rows .entry))) i count span (now (part .entry)) taken ≡ ok before → stateAfter (leastFor rule) (typeInner (now (types .entry))) (rowsIn (now (rows .entry))) i count span (now (part .entry)) (r .taken) ≡ ok (r .state)) ⌝ }
+{
+    let uniform = before.uniform;
+    let storage = before.storage;
+    let way = way_of(count - taken, uniform, storage);
+    match way {
+        Way::Ordered => ordered_members(types, rows, i, part, count, span, taken, before),
+        Way::Plain => plain_from(types, rows, i, part, count, span, taken, before),
+        Way::Storage => storage_from(types, rows, i, part, count, span, taken, before),
+    }
+}
+
 // Member j by every rule.
 fn step(
     rule: UniformRule,
@@ -284,7 +477,7 @@ fn step(
 }
 
 // The members of struct i from `taken` on, whose rows are in part; rows has those of the types before it. After one that takes every rule,
-// those in order are taken together again.
+// the next are taken together again.
 pub fn members_of(
     rule: UniformRule,
     types: &[u32],
@@ -297,6 +490,7 @@ pub fn members_of(
     before: State,
 ) -> Members
     requires { ⌜ length (now rows) ≡ i * 14 ⌝ }
+    requires { ⌜ i * 6 ≤ length (now types) ⌝ }
     requires { ⌜ length (now part) ≡ count * memberWords ⌝ }
     requires { ⌜ ((j : ℕ) → j < count → memberType (now part) j < i) ⌝ }
     requires { ⌜ taken ≤ count ⌝ }
@@ -306,7 +500,7 @@ pub fn members_of(
     let mut state = before;
     let mut j: u32 = taken;
     while j < count {
-        let reached = ordered_members(types, rows, i, part, count, span, j, state);
+        let reached = together(types, rows, i, part, count, span, j, state);
         let at = reached.taken;
         let there = reached.state;
         if at == count {

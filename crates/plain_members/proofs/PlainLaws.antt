@@ -1,7 +1,7 @@
 -- A member that breaks no rule: what each test gives, and what each rule then makes of the state so far.
 -- Assumes nothing.
 use mathlib.Core.Path.{_≡_, refl, sym, _∙_}
-use mathlib.Core.Bool.{Bool, true, _&&_, _||_}
+use mathlib.Core.Bool.{Bool, true, false, _&&_, _||_}
 use Prim.Native.Nat.{ℕ, _+_, _-_, _*_, _/_, _≤_, max}
 use native.Mathlib.Nat.{max-eq-left, max-eq-right}
 use native.Mathlib.Omega.{arith}
@@ -25,7 +25,7 @@ use Rattle.type_info.proofs.DistanceLaws.{distance-enough}
 use Rattle.member_bounds.specs.MemberBounds.{memberBounds}
 use Rattle.member_rules.specs.MemberRules.{isPlain, memberUniform, memberStorage}
 use Rattle.plain_members.specs.declared.PlainState.{PlainState}
-use Rattle.plain_members.specs.PlainMembers.{leastOf, keepsVerdicts, plainBounds}
+use Rattle.plain_members.specs.PlainMembers.{leastOf, keepsVerdicts, keepsStorage, plainBounds}
 
 -- ---- the least offset
 pub record Apart (end offset i j : ℕ) (before : Previous) : Type 0 where
@@ -78,6 +78,26 @@ kept r offset e =
       storage = T-true sa (and-right ms sa (and-right ((ou && os && z) && (mu && au)) (ms && sa) all));
     }
 
+-- the storage verdict alone
+pub record StorageKept (r : Row) (offset : ℕ) : Type 0 where
+  pub storageOk : isOk (r .storage) ≡ true
+  pub immediates : r .immediates ≡ 0
+  pub storage : isAligned (alignmentIn (r .storage)) offset ≡ true
+
+pub storage-kept : (r : Row) (offset : ℕ) → keepsStorage r offset ≡ true → StorageKept r offset
+storage-kept r offset e =
+    let os = isOk (r .storage) in
+    let z = eqb (r .immediates) 0 in
+    let ms = isMask (alignmentIn (r .storage)) in
+    let sa = isAligned (alignmentIn (r .storage)) offset in
+    let all = true-T e in
+    let codes = and-left (os && z) (ms && sa) all in
+    record {
+      storageOk = T-true os (and-left os z codes);
+      immediates = eqb→eq (r .immediates) 0 (and-right os z codes);
+      storage = T-true sa (and-right ms sa (and-right (os && z) (ms && sa) all));
+    }
+
 -- ---- each rule
 module _ (this : TypeInner) (r : Row) (i count span j t offset : ℕ) (before : Previous) (s : PlainState) (plain : isPlain (r .flags) ≡ true) where
   is-data : bit (r .flags) dataBit ≡ true
@@ -123,7 +143,13 @@ module _ (this : TypeInner) (r : Row) (i count span j t offset : ℕ) (before : 
   unfolding shareVerdict memberVerdict unsizedVerdict
   uniform-step rule a k = rw (is-sized, is-shareable, a .verdict rule, k .uniformOk, k .uniform) refl
 
-  pub storage-step : Kept r offset
+  -- a uniform verdict that has failed stays
+  pub uniform-stays : (rule : UniformRule) (u : Verdict) → isOk u ≡ false → Apart (s .end) offset i j before
+      → memberUniform (leastFor rule) i j t offset before r u ≡ u
+  unfolding shareVerdict memberVerdict unsizedVerdict
+  uniform-stays rule u failed a = rw (is-sized, is-shareable, a .verdict rule, failed) refl
+
+  pub storage-step : isOk (r .storage) ≡ true → isAligned (alignmentIn (r .storage)) offset ≡ true
       → memberStorage i j t offset r (okVerdict (s .storage)) ≡ okVerdict (max (s .storage) (alignmentIn (r .storage)))
   unfolding shareVerdict memberVerdict
-  storage-step k = rw (is-shareable, k .storageOk, k .storage) refl
+  storage-step fine aligned = rw (is-shareable, fine, aligned) refl

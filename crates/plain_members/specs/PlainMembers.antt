@@ -1,4 +1,4 @@
--- 01, 'The result row': the first members of a struct, as long as none breaks a rule, by the rules of one member (member_rules:
+-- 01, 'The result row': members of a struct one after the other, as long as none breaks a rule, by the rules of one member (member_rules:
 -- MemberRules). `rows` are the rows of the types before type i.
 -- Assumes nothing.
 use mathlib.Core.Bool.{Bool, _&&_}
@@ -12,9 +12,9 @@ use Rattle.alignment.specs.Alignment.{isMask, isAligned, roundUp}
 use Rattle.type_info.specs.declared.Previous.{Previous}
 use Rattle.type_info.specs.declared.Previous.the-variants.{NoStruct, StructBefore}
 use Rattle.type_info.specs.declared.Row.{Row}
-use Rattle.type_info.specs.Verdict.{minUniform, okVerdict, isOk, alignmentIn}
+use Rattle.type_info.specs.declared.Verdict.{Verdict}
+use Rattle.type_info.specs.Verdict.{minUniform, okVerdict, isOk, alignmentIn, structAt, previousOf}
 use Rattle.member_bounds.specs.declared.Bounds.{Bounds}
-use Rattle.type_info.specs.Verdict.{structAt}
 use Rattle.member_bounds.specs.MemberBounds.{memberBounds, boundsAfter}
 use Rattle.member_rules.specs.MemberRules.{memberUniform, memberStorage, uniformAfter, storageAfter, immediatesAfter}
 use Rattle.plain_members.specs.declared.PlainState.{PlainState}
@@ -33,6 +33,11 @@ keepsVerdicts r offset =
     && (isMask (alignmentIn (r .uniform)) && isAligned (alignmentIn (r .uniform)) offset)
     && (isMask (alignmentIn (r .storage)) && isAligned (alignmentIn (r .storage)) offset)
 
+-- a member with this row leaves the storage verdict Ok and brings no immediates word
+abbrev pub keepsStorage : Row → (offset : ℕ) → Bool
+keepsStorage r offset =
+    (isOk (r .storage) && eqb (r .immediates) 0) && (isMask (alignmentIn (r .storage)) && isAligned (alignmentIn (r .storage)) offset)
+
 -- the running end and the flags
 abbrev pub plainBounds : PlainState → Bounds
 plainBounds s = record { end = s .end; flags = s .flags }
@@ -48,10 +53,21 @@ Stepped least this r i count span j t offset before s (Took next) =
     × (leastOf (next .end) (structAt this offset) ≡ next .least)
 Stepped least this r i count span j t offset before s Other = Unit {0}
 
--- what is known after the first `taken` members
-abbrev pub PlainAfter : (least : ℕ) (inner : ℕ → TypeInner) (rows : ℕ → Row) (i count span : ℕ) (members : List ℕ) (taken : ℕ) → PlainState → Type 0
-PlainAfter least inner rows i count span members taken s =
-    (boundsAfter inner rows count span members taken ≡ ok (plainBounds s))
-    × (uniformAfter least inner rows i members taken ≡ okVerdict (s .uniform))
-    × (storageAfter rows i members taken ≡ okVerdict (s .storage))
-    × (immediatesAfter rows members taken ≡ 0)
+-- the same where the uniform verdict u has failed and stays
+abbrev pub StorageStepped : (least : ℕ) (u : Verdict) (this : TypeInner) (r : Row) (i count span j t offset : ℕ) → Previous → PlainState → Plain → Type 0
+StorageStepped least u this r i count span j t offset before s (Took next) =
+    (memberBounds count span before this offset j r (plainBounds s) ≡ ok (plainBounds next))
+    × (memberUniform least i j t offset before r u ≡ u)
+    × (memberStorage i j t offset r (okVerdict (s .storage)) ≡ okVerdict (next .storage))
+    × (r .immediates ≡ 0)
+    × (leastOf (next .end) (structAt this offset) ≡ next .least)
+StorageStepped least u this r i count span j t offset before s Other = Unit {0}
+
+-- what is known after j members: the uniform verdict u, the immediates word, the rest in s
+abbrev pub PlainAfter : (least : ℕ) (inner : ℕ → TypeInner) (rows : ℕ → Row) (i count span : ℕ) (members : List ℕ) (j : ℕ) (u : Verdict) (immediates : ℕ) → PlainState → Type 0
+PlainAfter least inner rows i count span members j u immediates s =
+    (boundsAfter inner rows count span members j ≡ ok (plainBounds s))
+    × (uniformAfter least inner rows i members j ≡ u)
+    × (storageAfter rows i members j ≡ okVerdict (s .storage))
+    × (immediatesAfter rows members j ≡ immediates)
+    × (leastOf (s .end) (previousOf inner members j) ≡ s .least)

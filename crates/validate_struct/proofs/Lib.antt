@@ -1,2 +1,2 @@
-pub mod StateParts
+pub mod StartLaws
 pub mod RecordRowLaws

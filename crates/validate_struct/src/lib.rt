@@ -39,7 +39,8 @@ fn members_of(
     requires { ⌜ ((j : ℕ) → j < count → memberType (now part) j < i) ⌝ }
     ensures { λ r. ⌜ Told (leastFor rule) (typeInner (now (types .entry))) (rowsIn (now (rows .entry))) i count span (now (part .entry)) r ⌝ }
 {
-    let reached = plain_members::plain_members(rule, types, rows, i, part, count, span);
+    let start = plain_members::start(rule);
+    let reached = plain_members::plain_members(types, rows, i, part, count, span, 0, start);
     let taken = reached.taken;
     let plain = reached.state;
     if taken == count {
@@ -55,14 +56,16 @@ fn members_of(
             previous: Previous::NoStruct,
         });
     }
+    let uniform = type_info::ok_verdict(plain.uniform);
     let state = members::carried(
         types,
         part,
         taken,
         plain.end,
         plain.flags,
-        plain.uniform,
+        uniform,
         plain.storage,
+        0,
     );
     members::members_of(rule, types, rows, i, part, count, span, taken, state)
 }

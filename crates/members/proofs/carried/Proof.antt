@@ -4,8 +4,12 @@ use Rattle.members.proofs.carried.Statement.{statement}
 use Rattle.members.proofs.carried.Tie as tie
 
 returns : tie.Need-returns
-returns c = rw (c .previous-of .ensures, c .before .ok-verdict2 .ensures, c .before .before .ok-verdict .ensures) refl
+returns c = rw (c .previous-of .ensures, c .before .ok-verdict .ensures) refl
 
 pub carried-spec : {M : Type 1} → statement M
 carried-spec =
-    tie.close (tie.spec (λ c κs. search needs) (λ c κs. search needs) (λ c κs. search needs) returns)
+    tie.close
+    (tie.spec
+    (λ c κs. search needs)
+    (λ c κs. search needs)
+    returns)

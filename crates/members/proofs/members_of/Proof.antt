@@ -21,39 +21,39 @@ abbrev μ-loop : tie.MeasureT-loop
 μ-loop rule types rows i part count span taken state₀ j₀ state j = count - j
 
 loop-holds : tie.Need-loop-holds Inv-loop μ-loop
-loop-holds c = let pre = c .before .before .before .pre in (pre .1 .1 .1 .0, pre .1 .1 .1 .1)
+loop-holds c = let pre = c .before .before .before .pre in (pre .1 .1 .1 .1 .0, pre .1 .1 .1 .1 .1)
 
-ordered-members-requires : tie.Need-ordered-members-requires Inv-loop μ-loop
-ordered-members-requires c κs =
+together-requires : tie.Need-together-requires Inv-loop μ-loop
+together-requires c κs =
     let pre = c .before .before .before .before .before .pre in let l = c .before .loop in
-    (pre .0, (pre .1 .0, (pre .1 .1 .0, l .inv .0)))
+    (pre .0, (pre .1 .0, (pre .1 .1 .0, (pre .1 .1 .1 .0, l .inv .0))))
 
 returns : tie.Need-returns Inv-loop μ-loop
 returns c =
     let a = c .before .before .before .before .before .before .before .before .args in
-    rw (c .if1 .taken) at (sym (c .before .before .ordered-members .ensures .1 .1 (a .rule) (c .before .before .before .before .loop .inv .1)))
+    rw (c .if1 .taken) at (sym (c .before .before .together .ensures .1 .1 (a .rule) (c .before .before .before .before .loop .inv .1)))
 
 step-requires : tie.Need-step-requires Inv-loop μ-loop
 step-requires c κs =
     let s = c .before .before .before .before .before .before .before .before in
-    (s .pre .0, c .before .before .ordered-members .ensures .1 .1 (s .args .rule) (c .before .before .before .before .loop .inv .1))
+    (s .pre .0, c .before .before .together .ensures .1 .1 (s .args .rule) (c .before .before .before .before .loop .inv .1))
 
 returns-2 : tie.Need-returns-2 Inv-loop μ-loop
 returns-2 c =
     let a = c .before .before .before .before .before .before .before .before .before .before .before .before .args in
-    let o = c .before .before .before .before .before .before .ordered-members in
+    let o = c .before .before .before .before .before .before .together in
     let refused = rw (c .before .number .given .1) at (sym (c .before .before .before .step .ensures)) in
     sym (state-refused (leastFor (a .rule)) (typeInner (now (a .types))) (rowsIn (now (a .rows))) (a .i) (a .count) (a .span) (now (a .part)) (o .result .taken + 1) refused (a .count) (omega (arith, o .ensures .1 .0, c .before .before .before .before .if1 .left)))
 
 add-j : tie.Need-add-j Inv-loop μ-loop
-add-j c = omega (arith, c .before .before .before .before .before .before .ordered-members .ensures .1 .0, c .before .before .before .before .if1 .left, c .before .before .before .before .before .before .before .before .before .before .before .before .fits .count)
+add-j c = omega (arith, c .before .before .before .before .before .before .together .ensures .1 .0, c .before .before .before .before .if1 .left, c .before .before .before .before .before .before .before .before .before .before .before .before .fits .count)
 
 loop-less : tie.Need-loop-less Inv-loop μ-loop
-loop-less c = omega (arith, c .before .before .before .before .before .before .before .loop-test .taken, c .before .before .before .before .before .before .ordered-members .ensures .0)
+loop-less c = omega (arith, c .before .before .before .before .before .before .before .loop-test .taken, c .before .before .before .before .before .before .together .ensures .0)
 
 loop-again : tie.Need-loop-again Inv-loop μ-loop
 loop-again c =
-    let o = c .before .before .before .before .before .before .ordered-members in
+    let o = c .before .before .before .before .before .before .together in
     (omega (arith, o .ensures .1 .0, c .before .before .before .before .if1 .left), rw (c .before .after .given .1) at (sym (c .before .before .before .step .ensures)))
 
 returns-3 : tie.Need-returns-3 Inv-loop μ-loop
@@ -68,7 +68,7 @@ members-of-spec =
     Inv-loop
     μ-loop
     loop-holds
-    ordered-members-requires
+    together-requires
     returns
     step-requires
     (λ c. search needs)

@@ -24,7 +24,7 @@ returns-5 c = λ rule count j before e.
     let keeps = kept row (a .offset) (sym (c .before .before .before .before .before .before .before .keeps-verdicts .ensures) ∙ not-false (c .before .before .before .before .before .before .before .keeps-verdicts .result) (c .before .before .before .before .before .before .if4 .left)) in (
       rw (end, c .before .before .before .before .before .both .ensures, c .before .before .before .before .before .before .before .before .before .before .before .before .before .before .before .own-word .ensures) (bounds-step this row (a .i) count (a .span) j (a .t) (a .offset) before (a .state) plain clear inside (omega (arith, fits .span))),
       rw (c .before .before .before .larger .ensures, c .before .before .before .before .own-word3 .ensures) (uniform-step this row (a .i) count (a .span) j (a .t) (a .offset) before (a .state) plain rule clear keeps),
-      rw (c .before .larger2 .ensures, c .before .before .own-word4 .ensures) (storage-step this row (a .i) count (a .span) j (a .t) (a .offset) before (a .state) plain keeps),
+      rw (c .before .larger2 .ensures, c .before .before .own-word4 .ensures) (storage-step this row (a .i) count (a .span) j (a .t) (a .offset) before (a .state) plain (keeps .storageOk) (keeps .storage)),
       keeps .immediates,
       sym (c .least-after .ensures),
     )
