@@ -23,7 +23,7 @@ use Rattle.records.proofs.TableLaws.{flat-length, flat-word}
 use Rattle.layouter.specs.Layouter.{layout, layoutAt, layoutOutcome, rowsAfter}
 use Rattle.type_info.specs.declared.Row.{Row}
 use Rattle.type_info.specs.declared.UniformRule.the-variants.{Older}
-use Rattle.type_info.specs.TypeInfo.{emptyRow, wordsOf}
+use Rattle.type_info.specs.TypeInfo.{emptyRow, wordsOf, rowSizes, rowFlags}
 use Rattle.type_info.specs.Verdict.{minUniform}
 use Rattle.validate_type.specs.ValidateType.{flagsOf, rowOf, judge}
 use Rattle.validate_type.proofs.StructFlags.{former-flags}
@@ -72,13 +72,13 @@ module _ (ms : List ℕ) where
       }
 
 -- ---- the flags of a type whose members have no blend source
-flags-former : (c : ℕ) (inner : ℕ → TypeInner) (rows : ℕ → Row) (this : TypeInner) (part : List ℕ) → ((m : ℕ) → memberSource part m ≡ 0)
-    → flagsOf c inner rows this part ≡ formerFlags c inner rows this part
-flags-former c inner rows (Plain leaf) part none = refl
-flags-former c inner rows (Array base count stride) part none = refl
-flags-former c inner rows (RuntimeArray base stride) part none = refl
-flags-former c inner rows (Struct count span) part none = former-flags c inner rows count span part 0 (λ m h. none m)
-flags-former c inner rows (Other o) part none = refl
+flags-former : (c : ℕ) (inner : ℕ → TypeInner) (sizes flags : ℕ → ℕ) (this : TypeInner) (part : List ℕ) → ((m : ℕ) → memberSource part m ≡ 0)
+    → flagsOf c inner sizes flags this part ≡ formerFlags c inner sizes flags this part
+flags-former c inner sizes flags (Plain leaf) part none = refl
+flags-former c inner sizes flags (Array base count stride) part none = refl
+flags-former c inner sizes flags (RuntimeArray base stride) part none = refl
+flags-former c inner sizes flags (Struct count span) part none = former-flags c inner sizes flags count span part 0 (λ m h. none m)
+flags-former c inner sizes flags (Other o) part none = refl
 
 -- ---- an arena without blend sources
 module _ (c : ℕ) (ts ms : List ℕ) (none : NoSources ts ms) where
@@ -99,7 +99,7 @@ module _ (c : ℕ) (ts ms : List ℕ) (none : NoSources ts ms) where
   step-former =
       fun-ext (λ rows. fun-ext (λ i.
       ap (λ (o : Result ℕ). andThen o (λ flags. ok (rowOf minUniform (λ k. typeInner ts k) rows i (layout (decoded ts ms) i) (typeInner ts i) (structMembers ts ms i) flags)))
-      (flags-former c (λ k. typeInner ts k) rows (typeInner ts i) (structMembers ts ms i) (all-none i))))
+      (flags-former c (λ k. typeInner ts k) (rowSizes rows) (rowFlags rows) (typeInner ts i) (structMembers ts ms i) (all-none i))))
 
   record-former : (i : ℕ) → recordAt ts ms i ≡ fieldsAt ts ms i
   unfolding recordAt

@@ -13,6 +13,7 @@ use Rattle.type_alignment.specs.TypeAlignment.{membersAlignment, alignmentOf}
 use Rattle.type_layout.specs.TypeLayout.{layoutOf}
 use Rattle.layouter.specs.Layouter.{noLayout, layoutStep, layoutAt, layout}
 use Rattle.type_info.specs.declared.Row.{Row}
+use Rattle.type_info.specs.TypeInfo.{rowSizes, rowFlags}
 use Rattle.type_info.specs.Verdict.{minUniform, previousOf}
 use Rattle.member_bounds.specs.MemberBounds.{boundsAfter}
 use Rattle.member_rules.specs.MemberRules.{uniformAfter, storageAfter, immediatesAfter}
@@ -39,11 +40,11 @@ module _ (part part′ : List ℕ) (same : SameFields part part′) where
   alignment-same layouts i zero = refl
   alignment-same layouts i (suc j) = rw (alignment-same layouts i j, same .types j) refl
 
-  bounds-same : (inner : ℕ → TypeInner) (rows : ℕ → Row) (count span j : ℕ) → boundsAfter inner rows count span part j ≡ boundsAfter inner rows count span part′ j
+  bounds-same : (inner : ℕ → TypeInner) (sizes flags : ℕ → ℕ) (count span j : ℕ) → boundsAfter inner sizes flags count span part j ≡ boundsAfter inner sizes flags count span part′ j
   unfolding boundsAfter
-  bounds-same inner rows count span zero = refl
-  bounds-same inner rows count span (suc j) =
-      rw (bounds-same inner rows count span j, previous-same inner j, same .types j, same .offsets j) refl
+  bounds-same inner sizes flags count span zero = refl
+  bounds-same inner sizes flags count span (suc j) =
+      rw (bounds-same inner sizes flags count span j, previous-same inner j, same .types j, same .offsets j) refl
 
   uniform-same : (least : ℕ) (inner : ℕ → TypeInner) (rows : ℕ → Row) (i j : ℕ) → uniformAfter least inner rows i part j ≡ uniformAfter least inner rows i part′ j
   unfolding uniformAfter
@@ -74,13 +75,13 @@ module _ (part part′ : List ℕ) (same : SameFields part part′) where
   layout-of-same layouts i (Struct count span) = rw (alignment-same layouts i count) refl
   layout-of-same layouts i (Other o) = refl
 
-  former-flags-same : (c : ℕ) (inner : ℕ → TypeInner) (rows : ℕ → Row) (this : TypeInner) → formerFlags c inner rows this part ≡ formerFlags c inner rows this part′
+  former-flags-same : (c : ℕ) (inner : ℕ → TypeInner) (sizes flags : ℕ → ℕ) (this : TypeInner) → formerFlags c inner sizes flags this part ≡ formerFlags c inner sizes flags this part′
   unfolding flagsOf
-  former-flags-same c inner rows (Plain leaf) = refl
-  former-flags-same c inner rows (Array base count stride) = refl
-  former-flags-same c inner rows (RuntimeArray base stride) = refl
-  former-flags-same c inner rows (Struct count span) = rw (bounds-same inner rows count span count) refl
-  former-flags-same c inner rows (Other o) = refl
+  former-flags-same c inner sizes flags (Plain leaf) = refl
+  former-flags-same c inner sizes flags (Array base count stride) = refl
+  former-flags-same c inner sizes flags (RuntimeArray base stride) = refl
+  former-flags-same c inner sizes flags (Struct count span) = rw (bounds-same inner sizes flags count span count) refl
+  former-flags-same c inner sizes flags (Other o) = refl
 
   row-of-same : (inner : ℕ → TypeInner) (rows : ℕ → Row) (i : ℕ) (l : TypeLayout) (this : TypeInner) (flags : ℕ)
       → rowOf minUniform inner rows i l this part flags ≡ rowOf minUniform inner rows i l this part′ flags
@@ -130,8 +131,8 @@ module _ (ts ms ms′ : List ℕ) (same : SameRows ms ms′) where
       step : (rows : ℕ → Row) (i : ℕ) → formerStep c (decoded ts ms) rows i ≡ formerStep c (decoded ts ms′) rows i
       step rows i =
           ap (λ (o : Result ℕ). andThen o (λ flags. ok (rowOf minUniform (λ k. typeInner ts k) rows i (layout (decoded ts ms) i) (typeInner ts i) (structMembers ts ms i) flags)))
-          (former-flags-same (structMembers ts ms i) (structMembers ts ms′ i) (fields i) c (λ k. typeInner ts k) rows (typeInner ts i))
-          ∙ ap (λ (f : ℕ → Row). andThen (formerFlags c (λ k. typeInner ts k) rows (typeInner ts i) (structMembers ts ms′ i)) (λ flags. ok (f flags)))
+          (former-flags-same (structMembers ts ms i) (structMembers ts ms′ i) (fields i) c (λ k. typeInner ts k) (rowSizes rows) (rowFlags rows) (typeInner ts i))
+          ∙ ap (λ (f : ℕ → Row). andThen (formerFlags c (λ k. typeInner ts k) (rowSizes rows) (rowFlags rows) (typeInner ts i) (structMembers ts ms′ i)) (λ flags. ok (f flags)))
           (fun-ext (λ flags.
           ap (λ (l : ℕ → TypeLayout). rowOf minUniform (λ k. typeInner ts k) rows i (l i) (typeInner ts i) (structMembers ts ms i) flags) layout-same
           ∙ row-of-same (structMembers ts ms i) (structMembers ts ms′ i) (fields i) (λ k. typeInner ts k) rows i (layout (decoded ts ms′) i) (typeInner ts i) flags))

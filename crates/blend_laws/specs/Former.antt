@@ -18,7 +18,7 @@ use Rattle.records.specs.declared.TypeInner.the-variants.{Plain, Array, Runtime
 use Rattle.type_alignment.specs.declared.TypeLayout.{TypeLayout}
 use Rattle.layouter.specs.Layouter.{layout, layoutAt, rowsAfter}
 use Rattle.type_info.specs.declared.Row.{Row}
-use Rattle.type_info.specs.TypeInfo.{emptyRow, wordsOf}
+use Rattle.type_info.specs.TypeInfo.{emptyRow, wordsOf, rowSizes, rowFlags}
 use Rattle.type_info.specs.Verdict.{minUniform}
 use Rattle.member_bounds.specs.MemberBounds.{boundsAfter}
 use Rattle.validate_type.specs.ValidateType.{flagsOf, rowOf}
@@ -46,17 +46,17 @@ formerFits c ts pairs rows =
     && leb (length pairs) (mostMembers * pairWords) && leb (length ts / typeWords * rowWords) (length rows))
 
 -- ---- the flags of a type: a struct's are those that its members leave
-abbrev pub formerFlags : (c : ℕ) (inner : ℕ → TypeInner) (rows : ℕ → Row) → TypeInner → (members : List ℕ) → Result ℕ
-formerFlags c inner rows (Plain leaf) members = flagsOf c inner rows (Plain leaf) members
-formerFlags c inner rows (Array base count stride) members = flagsOf c inner rows (Array base count stride) members
-formerFlags c inner rows (RuntimeArray base stride) members = flagsOf c inner rows (RuntimeArray base stride) members
-formerFlags c inner rows (Struct count span) members =
-    require (ltb 0 count) 16 0 0 (andThen (boundsAfter inner rows count span members count) (λ b. ok (b .flags)))
-formerFlags c inner rows (Other o) members = flagsOf c inner rows (Other o) members
+abbrev pub formerFlags : (c : ℕ) (inner : ℕ → TypeInner) (sizes flags : ℕ → ℕ) → TypeInner → (members : List ℕ) → Result ℕ
+formerFlags c inner sizes flags (Plain leaf) members = flagsOf c inner sizes flags (Plain leaf) members
+formerFlags c inner sizes flags (Array base count stride) members = flagsOf c inner sizes flags (Array base count stride) members
+formerFlags c inner sizes flags (RuntimeArray base stride) members = flagsOf c inner sizes flags (RuntimeArray base stride) members
+formerFlags c inner sizes flags (Struct count span) members =
+    require (ltb 0 count) 16 0 0 (andThen (boundsAfter inner sizes flags count span members count) (λ b. ok (b .flags)))
+formerFlags c inner sizes flags (Other o) members = flagsOf c inner sizes flags (Other o) members
 
 abbrev pub formerStep : (c : ℕ) (types : ℕ → Decoded) → (ℕ → Row) → ℕ → Result Row
 formerStep c types rows i =
-    andThen (formerFlags c (λ k. types k .inner) rows (types i .inner) (types i .members))
+    andThen (formerFlags c (λ k. types k .inner) (rowSizes rows) (rowFlags rows) (types i .inner) (types i .members))
     (λ flags. ok (rowOf minUniform (λ k. types k .inner) rows i (layout types i) (types i .inner) (types i .members) flags))
 
 -- ---- the arena: numbers 2 and 3 by the fields alone

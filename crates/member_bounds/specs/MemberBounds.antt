@@ -1,5 +1,5 @@
--- 01, 'The result row': a struct, member by member: acceptance and flags, which read no verdict. `rows` are the rows of the types before
--- type i. The verdicts are in member_rules.
+-- 01, 'The result row': a struct, member by member: acceptance and flags, which read no verdict. `sizes` and `flags` are those of the types
+-- before type i. The verdicts are in member_rules.
 -- Assumes nothing.
 use mathlib.Core.Bool.{Bool, true, false, _&&_, _||_}
 use mathlib.Core.List.{List}
@@ -13,7 +13,6 @@ use Rattle.records.specs.declared.TypeInner.the-variants.{Plain, Array, Runtime
 use Rattle.alignment.specs.Alignment.{most}
 use Rattle.flags.specs.Flags.{bit, dataBit, sizedBit, creationResolvedBit, startingFlags, notHostShareable}
 use Rattle.type_info.specs.declared.Previous.{Previous}
-use Rattle.type_info.specs.declared.Row.{Row}
 use Rattle.type_info.specs.Verdict.{previousOf, distanceOk}
 use Rattle.member_bounds.specs.declared.Bounds.{Bounds}
 use Rattle.member_bounds.specs.declared.Bounded.{Bounded}
@@ -54,17 +53,17 @@ boundsBy count span within array offset j size flags so-far =
     (require (isMemberSized flags array j count) 20 j 0
     (ok (record { end = offset + size; flags = memberFlags (so-far .end) offset (bitAnd (so-far .flags) flags) })))))))
 
--- r: the row of its type
-unfoldable pub memberBounds : (count span : ℕ) → Previous → TypeInner → (offset j : ℕ) → Row → Bounds → Result Bounds
-memberBounds count span previous inner offset j r so-far =
-    boundsBy count span (distanceOk previous offset) (isArray inner) offset j (r .size) (r .flags) so-far
+-- by the struct before it and what the record of its type says
+unfoldable pub memberBounds : (count span : ℕ) → Previous → TypeInner → (offset j size flags : ℕ) → Bounds → Result Bounds
+memberBounds count span previous inner offset j size flags so-far =
+    boundsBy count span (distanceOk previous offset) (isArray inner) offset j size flags so-far
 
 -- the running end and the flags after j members
-unfoldable pub boundsAfter : (inner : ℕ → TypeInner) (rows : ℕ → Row) (count span : ℕ) (members : List ℕ) → ℕ → Result Bounds
-boundsAfter inner rows count span members zero = ok (record { end = 0; flags = startingFlags structKind })
-boundsAfter inner rows count span members (suc j) =
-    andThen (boundsAfter inner rows count span members j)
-    (memberBounds count span (previousOf inner members j) (inner (memberType members j)) (memberOffset members j) j (rows (memberType members j)))
+unfoldable pub boundsAfter : (inner : ℕ → TypeInner) (sizes flags : ℕ → ℕ) (count span : ℕ) (members : List ℕ) → ℕ → Result Bounds
+boundsAfter inner sizes flags count span members zero = ok (record { end = 0; flags = startingFlags structKind })
+boundsAfter inner sizes flags count span members (suc j) =
+    andThen (boundsAfter inner sizes flags count span members j)
+    (memberBounds count span (previousOf inner members j) (inner (memberType members j)) (memberOffset members j) j (sizes (memberType members j)) (flags (memberType members j)))
 
 -- what the code answers
 abbrev pub boundedResult : (j : ℕ) → Bounded → Result Bounds

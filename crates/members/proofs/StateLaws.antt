@@ -14,6 +14,7 @@ use Rattle.records.specs.Record.{memberType, memberOffset}
 use Rattle.records.specs.declared.TypeInner.{TypeInner}
 use Rattle.alignment.specs.Alignment.{most}
 use Rattle.type_info.specs.declared.Row.{Row}
+use Rattle.type_info.specs.TypeInfo.{rowSizes, rowFlags}
 use Rattle.type_info.specs.declared.Verdict.{Verdict}
 use Rattle.type_info.specs.declared.Previous.{Previous}
 use Rattle.type_info.specs.Verdict.{distanceOk, distanceVerdict, shareVerdict, memberVerdict, unsizedVerdict}
@@ -37,7 +38,7 @@ module _ (least : ℕ) (inner : ℕ → TypeInner) (rows : ℕ → Row) (i count
       → stateAfter least inner rows i count span part (suc j)
       ≡ memberStep least i count span j (memberType part j) (memberOffset part j) (isArray (inner (memberType part j))) (structAt (inner (memberType part j)) (memberOffset part j)) (rows (memberType part j)) s
   unfolding stateAfter memberStep memberBounds boundsAfter uniformAfter storageAfter immediatesAfter previousOf
-  state-step j s e = go (boundsAfter inner rows count span part j) refl e
+  state-step j s e = go (boundsAfter inner (rowSizes rows) (rowFlags rows) count span part j) refl e
     where
       taken : ℕ → Bounds → State
       taken k b =
@@ -49,7 +50,7 @@ module _ (least : ℕ) (inner : ℕ → TypeInner) (rows : ℕ → Row) (i count
             previous = previousOf inner part k;
           }
 
-      go : (o : Result Bounds) → boundsAfter inner rows count span part j ≡ o → andThen o (λ b. ok (taken j b)) ≡ ok s
+      go : (o : Result Bounds) → boundsAfter inner (rowSizes rows) (rowFlags rows) count span part j ≡ o → andThen o (λ b. ok (taken j b)) ≡ ok s
           → stateAfter least inner rows i count span part (suc j)
           ≡ memberStep least i count span j (memberType part j) (memberOffset part j) (isArray (inner (memberType part j))) (structAt (inner (memberType part j)) (memberOffset part j)) (rows (memberType part j)) s
       go (err n m d) p q = let z : _≡_ {A = ℕ} 0 1 = cc in absurd (omega arith)
@@ -60,9 +61,9 @@ module _ (least : ℕ) (inner : ℕ → TypeInner) (rows : ℕ → Row) (i count
       → (n : ℕ) → j ≤ n → stateAfter least inner rows i count span part n ≡ err number member detail
   unfolding stateAfter boundsAfter
   state-refused j {number} {member} {detail} e n h =
-      le-ind (λ (m : ℕ). stateAfter least inner rows i count span part m ≡ err number member detail) e (λ m k p. go m (boundsAfter inner rows count span part m) refl p) n h
+      le-ind (λ (m : ℕ). stateAfter least inner rows i count span part m ≡ err number member detail) e (λ m k p. go m (boundsAfter inner (rowSizes rows) (rowFlags rows) count span part m) refl p) n h
     where
-      go : (m : ℕ) (o : Result Bounds) → boundsAfter inner rows count span part m ≡ o → stateAfter least inner rows i count span part m ≡ err number member detail
+      go : (m : ℕ) (o : Result Bounds) → boundsAfter inner (rowSizes rows) (rowFlags rows) count span part m ≡ o → stateAfter least inner rows i count span part m ≡ err number member detail
           → stateAfter least inner rows i count span part (suc m) ≡ err number member detail
       go m (err a b c) p q = rw p (rw p at q)
       go m (ok b) p q = let q′ = rw p at q in let z : _≡_ {A = ℕ} 0 1 = cc in absurd (omega arith)
@@ -94,7 +95,7 @@ ordered-step least i count span j t offset array next r s in-order apart within 
 -- ---- the state part by part
 module _ (least : ℕ) (inner : ℕ → TypeInner) (rows : ℕ → Row) (i count span : ℕ) (part : List ℕ) (j : ℕ) where
   pub record Parts (s : State) : Type 0 where
-    pub bounds : boundsAfter inner rows count span part j ≡ ok (s .bounds)
+    pub bounds : boundsAfter inner (rowSizes rows) (rowFlags rows) count span part j ≡ ok (s .bounds)
     pub uniform : uniformAfter least inner rows i part j ≡ s .uniform
     pub storage : storageAfter rows i part j ≡ s .storage
     pub immediates : immediatesAfter rows part j ≡ s .immediates
@@ -111,9 +112,9 @@ module _ (least : ℕ) (inner : ℕ → TypeInner) (rows : ℕ → Row) (i count
 
   pub state-parts : (s : State) → stateAfter least inner rows i count span part j ≡ ok s → Parts s
   unfolding stateAfter made
-  state-parts s e = go (boundsAfter inner rows count span part j) refl e
+  state-parts s e = go (boundsAfter inner (rowSizes rows) (rowFlags rows) count span part j) refl e
     where
-      go : (o : Result Bounds) → boundsAfter inner rows count span part j ≡ o → andThen o (λ b. ok (made b)) ≡ ok s → Parts s
+      go : (o : Result Bounds) → boundsAfter inner (rowSizes rows) (rowFlags rows) count span part j ≡ o → andThen o (λ b. ok (made b)) ≡ ok s → Parts s
       go (err n m d) p q = let z : _≡_ {A = ℕ} 0 1 = cc in absurd (omega arith)
       go (ok b) p q =
           let t : _≡_ {A = State} (made b) s = cc in
@@ -124,12 +125,12 @@ module _ (least : ℕ) (inner : ℕ → TypeInner) (rows : ℕ → Row) (i count
             immediates = ap (λ (x : State). x .immediates) t;
           }
 
-  pub state-error : {n m d : ℕ} → stateAfter least inner rows i count span part j ≡ err n m d → boundsAfter inner rows count span part j ≡ err n m d
+  pub state-error : {n m d : ℕ} → stateAfter least inner rows i count span part j ≡ err n m d → boundsAfter inner (rowSizes rows) (rowFlags rows) count span part j ≡ err n m d
   unfolding stateAfter made
-  state-error {n} {m} {d} e = go (boundsAfter inner rows count span part j) refl e
+  state-error {n} {m} {d} e = go (boundsAfter inner (rowSizes rows) (rowFlags rows) count span part j) refl e
     where
-      go : (o : Result Bounds) → boundsAfter inner rows count span part j ≡ o → andThen o (λ b. ok (made b)) ≡ err n m d
-          → boundsAfter inner rows count span part j ≡ err n m d
+      go : (o : Result Bounds) → boundsAfter inner (rowSizes rows) (rowFlags rows) count span part j ≡ o → andThen o (λ b. ok (made b)) ≡ err n m d
+          → boundsAfter inner (rowSizes rows) (rowFlags rows) count span part j ≡ err n m d
       go (err x y w) p q = p ∙ (let t : (x ≡ n) × (y ≡ m) × (w ≡ d) = (cc, cc, cc) in rw (t .0, t .1, t .2) refl)
       go (ok b) p q = let z : _≡_ {A = ℕ} 0 1 = cc in absurd (omega arith)
 

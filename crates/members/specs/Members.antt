@@ -11,6 +11,7 @@ use Rattle.records.specs.declared.TypeInner.{TypeInner}
 use Rattle.flags.specs.Flags.{isSizedData}
 use Rattle.type_info.specs.declared.Previous.{Previous}
 use Rattle.type_info.specs.declared.Row.{Row}
+use Rattle.type_info.specs.TypeInfo.{rowSizes, rowFlags}
 use Rattle.type_info.specs.declared.Verdict.{Verdict}
 use Rattle.type_info.specs.declared.UniformRule.{UniformRule}
 use Rattle.type_info.specs.Verdict.{leastFor, okVerdict, isOk, previousOf, distanceVerdict, distanceOk}
@@ -32,7 +33,7 @@ use Rattle.members.specs.declared.Members.the-variants.{Taken}
 -- after j members
 unfoldable pub stateAfter : (least : ℕ) (inner : ℕ → TypeInner) (rows : ℕ → Row) (i count span : ℕ) (members : List ℕ) → ℕ → Result State
 stateAfter least inner rows i count span members j =
-    andThen (boundsAfter inner rows count span members j)
+    andThen (boundsAfter inner (rowSizes rows) (rowFlags rows) count span members j)
     (λ b. ok (record {
       bounds = b;
       uniform = uniformAfter least inner rows i members j;
@@ -77,11 +78,11 @@ orderedStep Other step = Unit {0}
 -- what the code answers of all members: the parts of the state after them, but for the member right before, or the refusal
 abbrev pub Told : (least : ℕ) (inner : ℕ → TypeInner) (rows : ℕ → Row) (i count span : ℕ) (part : List ℕ) → Members → Type 0
 Told least inner rows i count span part (Taken s) =
-    (boundsAfter inner rows count span part count ≡ ok (s .bounds))
+    (boundsAfter inner (rowSizes rows) (rowFlags rows) count span part count ≡ ok (s .bounds))
     × (uniformAfter least inner rows i part count ≡ s .uniform)
     × (storageAfter rows i part count ≡ s .storage)
     × (immediatesAfter rows part count ≡ s .immediates)
-Told least inner rows i count span part (members.Refused number member) = boundsAfter inner rows count span part count ≡ err number member 0
+Told least inner rows i count span part (members.Refused number member) = boundsAfter inner (rowSizes rows) (rowFlags rows) count span part count ≡ err number member 0
 
 -- a verdict that is Ok, with its alignment and nothing else
 abbrev pub isClean : Verdict → Bool

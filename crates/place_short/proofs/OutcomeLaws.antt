@@ -18,7 +18,8 @@ use Rattle.records.proofs.TableLaws.{also-accepted, outcome-accepted, all-ok, a
 use Rattle.layouter.specs.Layouter.{layoutAt, layoutOutcome}
 use Rattle.valid.specs.Arena.{commonAt, judgeOutcome, arenaOutcome, arena}
 use Rattle.place_short_layout.specs.ShortRows.{shortWidth}
-use Rattle.place_short.specs.Short.{lengthsFit, shortFits, shortAnswer, scratchAfter, layoutThenRow}
+use Rattle.place_short.specs.Short.{lengthsFit, shortFits, shortAnswer, scratchAfter, threeResult}
+use Rattle.place_short.proofs.ShortLaws.{layoutThenRow, three-refusal}
 
 pub not-accepted : {number ty member detail : ℕ} → Refused number ty member detail ≡ Accepted → ⊥
 not-accepted e = let z : _≡_ {A = ℕ} 0 1 = cc in omega arith
@@ -58,12 +59,12 @@ module _ (c : ℕ) (ts ms : List ℕ) where
 
   -- the records are in order: the outcome of the arena
   module _ (records : firstRefusal (recordAt ts ms) (typeCount ts) ≡ Accepted) where
-    pub arena-also : also (laid (typeCount ts)) (both (typeCount ts)) ≡ arenaOutcome c ts ms
+    pub arena-also : also (laid (typeCount ts)) (firstRefusal (threeResult c ts ms) (typeCount ts)) ≡ arenaOutcome c ts ms
     unfolding arenaOutcome layoutOutcome judgeOutcome
-    arena-also = rw records (also-both (typeCount ts))
+    arena-also = rw (records, three-refusal c ts ms (typeCount ts)) (also-both (typeCount ts))
 
-    pub arena-passed : both (typeCount ts) ≡ Accepted → arenaOutcome c ts ms ≡ Accepted
-    arena-passed e = sym arena-also ∙ rw (laid-too (typeCount ts) e, e) refl
+    pub arena-passed : firstRefusal (threeResult c ts ms) (typeCount ts) ≡ Accepted → arenaOutcome c ts ms ≡ Accepted
+    arena-passed e = sym arena-also ∙ rw (laid-too (typeCount ts) (sym (three-refusal c ts ms (typeCount ts)) ∙ e), e) refl
 
   -- a record that is not in order
   pub arena-records : {number ty member detail : ℕ} → firstRefusal (recordAt ts ms) (typeCount ts) ≡ Refused number ty member detail

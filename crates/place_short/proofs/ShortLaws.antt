@@ -3,14 +3,15 @@
 -- Assumes nothing.
 use mathlib.Core.Path.{_≡_, refl, sym, ap, subst, fun-ext, _∙_}
 use mathlib.Core.List.{List}
-use Prim.Native.Nat.{ℕ, suc, _+_, _*_, _≤_, _<_}
+use Prim.Native.Nat.{ℕ, zero, suc, _+_, _*_, _≤_, _<_}
 use native.Mathlib.Omega.{arith}
 use native.Mathlib.Decide.{decLe}
 use lib.ListN.{length, getD, take, drop, List·getD-eq-default}
 use Rattle.records.specs.Result.{Result, err, ok, andThen}
 use Rattle.records.specs.Record.{decoded, typeInner, structMembers}
-use Rattle.records.specs.Table.{table, resultAt, outcomeAt, firstRefusal, flat}
-use Rattle.records.specs.declared.Outcome.the-variants.{Accepted}
+use Rattle.records.specs.Table.{table, resultAt, outcomeAt, also, firstRefusal, flat}
+use Rattle.records.specs.declared.Outcome.{Outcome}
+use Rattle.records.specs.declared.Outcome.the-variants.{Accepted, Refused}
 use Rattle.records.proofs.ResultLaws.{and-then-ok, ok-inj}
 use Rattle.records.proofs.TableLaws.{table-value, table-above, value-ok, flat-length, flat-word, all-ok, outcome-accepted}
 use Rattle.rows.specs.Rows.{withPart}
@@ -19,13 +20,12 @@ use Rattle.type_alignment.specs.declared.TypeLayout.{TypeLayout}
 use Rattle.type_layout.specs.TypeLayout.{layoutOf}
 use Rattle.layouter.specs.Layouter.{noLayout, layoutStep, layoutAt, layout}
 use Rattle.type_info.specs.declared.Row.{Row}
-use Rattle.type_info.specs.TypeInfo.{emptyRow, noVerdict}
+use Rattle.type_info.specs.TypeInfo.{emptyRow, noVerdict, rowSizes, rowFlags}
 use Rattle.validate_type.specs.ValidateType.{flagsOf, rowWith, judgeCommon}
-use Rattle.validate_type.proofs.FlagsRead.{flags-read}
 use Rattle.valid.specs.Arena.{commonStep, commonAt, common}
 use Rattle.place_short_layout.specs.ShortRows.{shortWidth, shortWord, threeWords, shortLayouts}
-use Rattle.place_short_flags.specs.ShortFlags.{shortRows}
-use Rattle.place_short.specs.Short.{threeAt, layoutThenRow, layoutFrom, threeFrom, laidFrom, writtenAfter}
+use Rattle.place_short_flags.specs.ShortFlags.{shortSizes, shortFlags}
+use Rattle.place_short.specs.Short.{threeAt, layoutFrom, threeFrom, threeResult, laidFrom, writtenAfter}
 
 -- ---- three words for each type, whatever they are
 module _ (three : ℕ → List ℕ) (wide : (i : ℕ) → length (three i) ≡ shortWidth) where
@@ -101,7 +101,7 @@ module _ (c : ℕ) (ts ms : List ℕ) where
   before n = table emptyRow (commonStep c (decoded ts ms)) n
 
   abbrev flagsAt : ℕ → Result ℕ
-  flagsAt n = flagsOf c (typeInner ts) (before n) (typeInner ts n) (structMembers ts ms n)
+  flagsAt n = flagsOf c (typeInner ts) (rowSizes (before n)) (rowFlags (before n)) (typeInner ts n) (structMembers ts ms n)
 
   abbrev rowBy : (n flags : ℕ) → Row
   rowBy n flags = rowWith noVerdict (before n) n (layout (decoded ts ms) n) (typeInner ts n) (structMembers ts ms n) flags
@@ -114,12 +114,16 @@ module _ (c : ℕ) (ts ms : List ℕ) where
   common-flags : (n f : ℕ) → flagsAt n ≡ ok f → common c (decoded ts ms) n ≡ rowBy n f
   common-flags n f e = value-ok emptyRow (commonStep c (decoded ts ms)) n (rowBy n f) (common-is n ∙ rw e refl)
 
+  -- numbers 4 to 7 of type i, and then what is judged of it
+  abbrev pub layoutThenRow : ℕ → Result Row
+  layoutThenRow i = andThen (layoutAt (decoded ts ms) i) (λ _. commonAt c (decoded ts ms) i)
+
   -- where the first n types are laid out and judged
-  module _ (n : ℕ) (passed : firstRefusal (layoutThenRow c ts ms) n ≡ Accepted) where
+  module _ (n : ℕ) (passed : firstRefusal layoutThenRow n ≡ Accepted) where
     -- size and alignment are the layout's
     common-layout : (i : ℕ) → i < n → (common c (decoded ts ms) i .size ≡ layout (decoded ts ms) i .size) × (common c (decoded ts ms) i .alignment ≡ layout (decoded ts ms) i .alignment)
     common-layout i h =
-        let a = all-ok (layoutThenRow c ts ms) n passed i h in
+        let a = all-ok layoutThenRow n passed i h in
         let judged = and-then-ok (layoutAt (decoded ts ms) i) (λ _. commonAt c (decoded ts ms) i) (a .0) (a .1) .2 in
         let flags = and-then-ok (flagsAt i) (λ f. ok (rowBy i f)) (a .0) (sym (common-is i) ∙ judged) in
         let row = common-flags i (flags .0) (flags .1) in
@@ -143,29 +147,30 @@ module _ (c : ℕ) (ts ms : List ℕ) where
               (λ x. record { size = word-past (threeAt c ts ms) three-wide n k 0 (omega arith) x; alignment = word-past (threeAt c ts ms) three-wide n k 1 (omega arith) x })
 
       -- and so are sizes and flags
-      sizes-in : (k : ℕ) → shortRows words k .size ≡ before n k .size
-      sizes-in k = rw so-far (at (decLe (suc k) n))
+      sizes-in : shortSizes words ≡ rowSizes (before n)
+      sizes-in = fun-ext (λ k. rw so-far (at k (decLe (suc k) n)))
         where
-          at : Dec (suc k ≤ n) → word k 0 ≡ before n k .size
-          at (yes h) = rw (table-value emptyRow (commonStep c (decoded ts ms)) n k h) (word-of (threeAt c ts ms) three-wide n k 0 h (omega arith))
-          at (no h) = rw (table-above emptyRow (commonStep c (decoded ts ms)) n k (omega arith)) (word-past (threeAt c ts ms) three-wide n k 0 (omega arith))
+          at : (k : ℕ) → Dec (suc k ≤ n) → word k 0 ≡ before n k .size
+          at k (yes h) = rw (table-value emptyRow (commonStep c (decoded ts ms)) n k h) (word-of (threeAt c ts ms) three-wide n k 0 h (omega arith))
+          at k (no h) = rw (table-above emptyRow (commonStep c (decoded ts ms)) n k (omega arith)) (word-past (threeAt c ts ms) three-wide n k 0 (omega arith))
 
-      flags-in : (k : ℕ) → shortRows words k .flags ≡ before n k .flags
-      flags-in k = rw so-far (at (decLe (suc k) n))
+      flags-in : shortFlags words ≡ rowFlags (before n)
+      flags-in = fun-ext (λ k. rw so-far (at k (decLe (suc k) n)))
         where
-          at : Dec (suc k ≤ n) → word k 2 ≡ before n k .flags
-          at (yes h) = rw (table-value emptyRow (commonStep c (decoded ts ms)) n k h) (word-of (threeAt c ts ms) three-wide n k 2 h (omega arith))
-          at (no h) = rw (table-above emptyRow (commonStep c (decoded ts ms)) n k (omega arith)) (word-past (threeAt c ts ms) three-wide n k 2 (omega arith))
+          at : (k : ℕ) → Dec (suc k ≤ n) → word k 2 ≡ before n k .flags
+          at k (yes h) = rw (table-value emptyRow (commonStep c (decoded ts ms)) n k h) (word-of (threeAt c ts ms) three-wide n k 2 h (omega arith))
+          at k (no h) = rw (table-above emptyRow (commonStep c (decoded ts ms)) n k (omega arith)) (word-past (threeAt c ts ms) three-wide n k 2 (omega arith))
 
       -- the three words of type n from those before it, by the definitions
       three-is : threeFrom c ts ms words n ≡ andThen (layoutAt (decoded ts ms) n) (λ l. andThen (flagsAt n) (λ f. ok (threeWords (l .size) (l .alignment) f)))
       unfolding threeFrom resultAt
       three-is =
-          ap (λ (f : ℕ → TypeLayout). andThen (layoutOf f n (typeInner ts n) (structMembers ts ms n)) (λ l. andThen (flagsOf c (typeInner ts) (shortRows words) (typeInner ts n) (structMembers ts ms n)) (λ x. ok (threeWords (l .size) (l .alignment) x)))) layouts-in
+          ap (λ (f : ℕ → TypeLayout). andThen (layoutOf f n (typeInner ts n) (structMembers ts ms n)) (λ l. andThen (flagsOf c (typeInner ts) (shortSizes words) (shortFlags words) (typeInner ts n) (structMembers ts ms n)) (λ x. ok (threeWords (l .size) (l .alignment) x)))) layouts-in
           ∙ ap (λ (o : Result ℕ). andThen (layoutAt (decoded ts ms) n) (λ l. andThen o (λ x. ok (threeWords (l .size) (l .alignment) x))))
-          (flags-read (shortRows words) (before n) sizes-in flags-in c (typeInner ts) (typeInner ts n) (structMembers ts ms n))
+          (ap (λ (f : ℕ → ℕ). flagsOf c (typeInner ts) f (shortFlags words) (typeInner ts n) (structMembers ts ms n)) sizes-in
+          ∙ ap (λ (f : ℕ → ℕ). flagsOf c (typeInner ts) (rowSizes (before n)) f (typeInner ts n) (structMembers ts ms n)) flags-in)
 
-      pub three-outcome : outcomeAt n (threeFrom c ts ms words n) ≡ outcomeAt n (layoutThenRow c ts ms n)
+      three-outcome : outcomeAt n (threeFrom c ts ms words n) ≡ outcomeAt n (layoutThenRow n)
       three-outcome =
           ap (outcomeAt n) three-is
           ∙ go (layoutAt (decoded ts ms) n) (flagsAt n)
@@ -186,3 +191,12 @@ module _ (c : ℕ) (ts ms : List ℕ) where
           sym (ok-inj (b .2))
           ∙ ap (λ (x : TypeLayout). threeWords (x .size) (x .alignment) (b .0)) (sym l)
           ∙ ap (λ (x : Row). threeWords (x .size) (x .alignment) (x .flags)) (sym r)
+
+  -- the first refusal is that of the definitions
+  pub three-refusal : (n : ℕ) → firstRefusal (threeResult c ts ms) n ≡ firstRefusal layoutThenRow n
+  three-refusal zero = refl
+  three-refusal (suc n) = rw (three-refusal n) (go (firstRefusal layoutThenRow n) refl)
+    where
+      go : (o : Outcome) → firstRefusal layoutThenRow n ≡ o → also o (outcomeAt n (threeResult c ts ms n)) ≡ also o (outcomeAt n (layoutThenRow n))
+      go Accepted e = three-outcome n e (flat (threeAt c ts ms) n) refl
+      go (Refused number ty member detail) e = refl

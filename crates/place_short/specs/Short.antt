@@ -15,14 +15,12 @@ use Rattle.records.specs.declared.Outcome.the-variants.{Accepted, Refused}
 use Rattle.rows.specs.Rows.{withPart, cleared}
 use Rattle.type_alignment.specs.declared.TypeLayout.{TypeLayout}
 use Rattle.type_layout.specs.TypeLayout.{layoutOf}
-use Rattle.layouter.specs.Layouter.{layoutAt}
-use Rattle.type_info.specs.declared.Row.{Row}
 use Rattle.validate_type.specs.ValidateType.{flagsOf}
-use Rattle.valid.specs.Arena.{common, commonAt, arenaOutcome}
+use Rattle.valid.specs.Arena.{common, arenaOutcome}
 use Rattle.place.specs.declared.PlaceAnswer.{PlaceAnswer}
 use Rattle.place.specs.Place.{startAnswer}
 use Rattle.place_short_layout.specs.ShortRows.{shortWidth, threeWords, shortLayouts}
-use Rattle.place_short_flags.specs.ShortFlags.{shortRows}
+use Rattle.place_short_flags.specs.ShortFlags.{shortSizes, shortFlags}
 
 -- ---- the call
 -- the three words of type i
@@ -54,10 +52,6 @@ unfoldable pub shortWords : (c : ℕ) (ts ms scratch : List ℕ) → List ℕ
 shortWords c ts ms scratch = pick (shortFits c ts ms scratch) (scratchAfter (arenaOutcome c ts ms) c ts ms (typeCount ts) scratch) scratch
 
 -- ---- what the code answers
--- numbers 4 to 7 of type i, and then what is judged of it
-abbrev pub layoutThenRow : (c : ℕ) (ts ms : List ℕ) → ℕ → Result Row
-layoutThenRow c ts ms i = andThen (layoutAt (decoded ts ms) i) (λ _. commonAt c (decoded ts ms) i)
-
 -- the three words of type i, or its refusal, from the words of the types before it
 abbrev pub layoutFrom : (ts ms words : List ℕ) → ℕ → Result TypeLayout
 layoutFrom ts ms words i = layoutOf (shortLayouts words) i (typeInner ts i) (structMembers ts ms i)
@@ -65,7 +59,11 @@ layoutFrom ts ms words i = layoutOf (shortLayouts words) i (typeInner ts i) (str
 unfoldable pub threeFrom : (c : ℕ) (ts ms words : List ℕ) → ℕ → Result (List ℕ)
 threeFrom c ts ms words i =
     andThen (layoutFrom ts ms words i)
-    (λ l. andThen (flagsOf c (typeInner ts) (shortRows words) (typeInner ts i) (structMembers ts ms i)) (λ flags. ok (threeWords (l .size) (l .alignment) flags)))
+    (λ l. andThen (flagsOf c (typeInner ts) (shortSizes words) (shortFlags words) (typeInner ts i) (structMembers ts ms i)) (λ flags. ok (threeWords (l .size) (l .alignment) flags)))
+
+-- from those of the types before it, as they are on acceptance
+abbrev pub threeResult : (c : ℕ) (ts ms : List ℕ) → ℕ → Result (List ℕ)
+threeResult c ts ms i = threeFrom c ts ms (flat (threeAt c ts ms) i) i
 
 -- the same with the layout alone, and no flags
 unfoldable pub laidFrom : (ts ms words : List ℕ) → ℕ → Result (List ℕ)

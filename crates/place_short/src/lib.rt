@@ -16,7 +16,7 @@ ghost use Rattle.records.specs.declared.Outcome.the-variants.{Accepted};
 ghost use Rattle.rows.specs.Rows.{cleared};
 ghost use Rattle.layouter.specs.Layouter.{layoutAt};
 ghost use Rattle.valid.specs.Arena.{arenaOutcome};
-ghost use Rattle.place_short.specs.Short.{threeAt, lengthsFit, shortFits, shortAnswer, shortLookup, scratchAfter, shortWords, layoutThenRow, threeFrom, laidFrom, writtenAfter};
+ghost use Rattle.place_short.specs.Short.{threeAt, lengthsFit, shortFits, shortAnswer, shortLookup, scratchAfter, shortWords, threeResult, threeFrom, laidFrom, writtenAfter};
 
 // Numbers 4 to 7 of type i; its size, its alignment and no flags are written where there is no refusal.
 fn layout_at(types: &[u32], members: &[u32], words: &mut [u32], i: u32) -> Outcome
@@ -118,7 +118,7 @@ fn judge_all(
     requires { ⌜ n * 3 ≤ length (now words) ⌝ }
     requires { ⌜ n * 6 ≤ length (now types) ⌝ }
     requires { ⌜ firstRefusal (recordAt (now types) (now members)) n ≡ Accepted ⌝ }
-    ensures { λ r. ⌜ r ≡ firstRefusal (layoutThenRow capabilities (now (types .entry)) (now (members .entry))) n ⌝ }
+    ensures { λ r. ⌜ r ≡ firstRefusal (threeResult capabilities (now (types .entry)) (now (members .entry))) n ⌝ }
     ensures { λ r. ⌜ (r ≡ Accepted → take (n * 3) (now (words .exit)) ≡ flat (threeAt capabilities (now (types .entry)) (now (members .entry))) n) ⌝ }
     ensures { λ _. ⌜ drop (n * 3) (now (words .exit)) ≡ drop (n * 3) (now (words .entry)) ⌝ }
 {

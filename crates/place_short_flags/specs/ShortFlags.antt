@@ -7,24 +7,17 @@ use Prim.Native.Nat.{ℕ}
 use Rattle.records.specs.Result.{Result, err, ok, pick, require}
 use Rattle.records.specs.Record.{memberCount, Sourceless}
 use Rattle.flags.specs.Flags.{isSizedData, arrayFlags, runtimeArrayFlags}
-use Rattle.type_info.specs.declared.Row.{Row}
-use Rattle.type_info.specs.TypeInfo.{noVerdict}
 use Rattle.place_short_layout.specs.ShortRows.{shortWord}
 use Rattle.place_short_flags.specs.declared.Taken.{Taken}
 use Rattle.place_short_flags.specs.declared.Taken.the-variants as taken
 use Rattle.member_bounds.specs.declared.Bounds.{Bounds}
 
--- the three words of each type as a row that has no verdict and no immediates word: the definitions of flags take rows
-abbrev pub shortRows : List ℕ → ℕ → Row
-shortRows words k =
-    record {
-      size = shortWord words k 0;
-      alignment = shortWord words k 1;
-      flags = shortWord words k 2;
-      uniform = noVerdict;
-      storage = noVerdict;
-      immediates = 0;
-    }
+-- the first word of each type, and the third
+abbrev pub shortSizes : List ℕ → ℕ → ℕ
+shortSizes words k = shortWord words k 0
+
+abbrev pub shortFlags : List ℕ → ℕ → ℕ
+shortFlags words k = shortWord words k 2
 
 -- what the code answers of all members
 abbrev pub takenResult : Taken → Result Bounds

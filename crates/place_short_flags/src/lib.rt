@@ -20,7 +20,7 @@ ghost use Rattle.type_flags.specs.TypeFlags.{leafFlags, flaggedResult};
 ghost use Rattle.member_bounds.specs.MemberBounds.{memberBounds, boundsAfter, boundedResult};
 ghost use Rattle.valid_blend.specs.Blend.{structBlend, blendedFlags, blendAnswer};
 ghost use Rattle.validate_type.specs.ValidateType.{nonDataFlags, flagsOf};
-ghost use Rattle.place_short_flags.specs.ShortFlags.{shortRows, takenResult, SourcesKnown, arrayBy};
+ghost use Rattle.place_short_flags.specs.ShortFlags.{shortSizes, shortFlags, takenResult, SourcesKnown, arrayBy};
 
 // After all members of a struct, and whether one of them may have a blend source.
 pub enum Taken {
@@ -49,7 +49,7 @@ fn leaf_flags(capabilities: u32, leaf: Leaf) -> Flagged
 
 // A pointer or binding array that names itself or a later type reads empty flags: the words are those of the types before it.
 fn non_data_flags(capabilities: u32, types: &[u32], words: &[u32], o: NonData) -> Flagged
-    ensures { λ r. ⌜ flaggedResult r ≡ nonDataFlags capabilities (typeInner (now (types .entry))) (shortRows (now (words .entry))) o ⌝ }
+    ensures { λ r. ⌜ flaggedResult r ≡ nonDataFlags capabilities (typeInner (now (types .entry))) (shortFlags (now (words .entry))) o ⌝ }
 {
     match o {
         NonData::Pointer(base, space) => {
@@ -103,7 +103,7 @@ fn member_step(
     so_far: Bounds,
 ) -> Bounded
     requires { ⌜ j * memberWords + memberWords ≤ length (now part) ⌝ }
-    ensures { λ r. ⌜ boundedResult j r ≡ memberBounds count span previous (typeInner (now (types .entry)) (memberType (now (part .entry)) j)) (memberOffset (now (part .entry)) j) j (shortRows (now (words .entry)) (memberType (now (part .entry)) j)) «so_far» ⌝ }
+    ensures { λ r. ⌜ boundedResult j r ≡ memberBounds count span previous (typeInner (now (types .entry)) (memberType (now (part .entry)) j)) (memberOffset (now (part .entry)) j) j (shortSizes (now (words .entry)) (memberType (now (part .entry)) j)) (shortFlags (now (words .entry)) (memberType (now (part .entry)) j)) «so_far» ⌝ }
 {
     let t = records::own_type(part, j as usize);
     let offset = records::own_offset(part, j as usize);
@@ -117,7 +117,7 @@ fn member_step(
 // The members of a struct, one after the other, by the rules that do not read blend sources.
 fn members_of(types: &[u32], words: &[u32], part: &[u32], count: u32, span: u32) -> Taken
     requires { ⌜ length (now part) ≡ count * memberWords ⌝ }
-    ensures { λ r. ⌜ takenResult r ≡ boundsAfter (typeInner (now (types .entry))) (shortRows (now (words .entry))) count span (now (part .entry)) count ⌝ }
+    ensures { λ r. ⌜ takenResult r ≡ boundsAfter (typeInner (now (types .entry))) (shortSizes (now (words .entry))) (shortFlags (now (words .entry))) count span (now (part .entry)) count ⌝ }
     ensures { λ r. ⌜ SourcesKnown (now (part .entry)) r ⌝ }
 {
     let mut bounds = Bounds {
@@ -151,7 +151,7 @@ fn members_of(types: &[u32], words: &[u32], part: &[u32], count: u32, span: u32)
 // After the last member: number 34 with detail 3 to 6, or the flags.
 fn struct_blend(types: &[u32], words: &[u32], part: &[u32], count: u32, flags: u32) -> Blend
     requires { ⌜ count * memberWords ≤ length (now part) ⌝ }
-    ensures { λ r. ⌜ blendAnswer r ≡ structBlend (typeInner (now (types .entry))) (shortRows (now (words .entry))) (now (part .entry)) count flags ⌝ }
+    ensures { λ r. ⌜ blendAnswer r ≡ structBlend (typeInner (now (types .entry))) (shortFlags (now (words .entry))) (now (part .entry)) count flags ⌝ }
 {
     let first = valid_blend::source_at(part, 1, count);
     let second = valid_blend::source_at(part, 2, count);
@@ -188,7 +188,7 @@ fn blended_flags(
 ) -> Blend
     requires { ⌜ length (now part) ≡ count * memberWords ⌝ }
     requires { ⌜ (sourced ≡ false → Sourceless (now part) (memberCount (now part))) ⌝ }
-    ensures { λ r. ⌜ blendAnswer r ≡ blendedFlags (bit capabilities dualSourceBlending) (typeInner (now (types .entry))) (shortRows (now (words .entry))) (now (part .entry)) count flags ⌝ }
+    ensures { λ r. ⌜ blendAnswer r ≡ blendedFlags (bit capabilities dualSourceBlending) (typeInner (now (types .entry))) (shortFlags (now (words .entry))) (now (part .entry)) count flags ⌝ }
 {
     if !sourced {
         return Blend::Flags(flags);
@@ -210,7 +210,7 @@ fn struct_flags(
     span: u32,
 ) -> Flagged
     requires { ⌜ length (now part) ≡ count * memberWords ⌝ }
-    ensures { λ r. ⌜ flaggedResult r ≡ flagsOf capabilities (typeInner (now (types .entry))) (shortRows (now (words .entry))) (Struct count span) (now (part .entry)) ⌝ }
+    ensures { λ r. ⌜ flaggedResult r ≡ flagsOf capabilities (typeInner (now (types .entry))) (shortSizes (now (words .entry))) (shortFlags (now (words .entry))) (Struct count span) (now (part .entry)) ⌝ }
 {
     if count == 0 {
         return Flagged::Refused {
@@ -267,7 +267,7 @@ pub fn flags_of(
     part: &[u32],
 ) -> Flagged
     requires { ⌜ ((count span : ℕ) → inner ≡ Struct count span → length (now part) ≡ count * memberWords) ⌝ }
-    ensures { λ r. ⌜ flaggedResult r ≡ flagsOf capabilities (typeInner (now (types .entry))) (shortRows (now (words .entry))) inner (now (part .entry)) ⌝ }
+    ensures { λ r. ⌜ flaggedResult r ≡ flagsOf capabilities (typeInner (now (types .entry))) (shortSizes (now (words .entry))) (shortFlags (now (words .entry))) inner (now (part .entry)) ⌝ }
 {
     match inner {
         TypeInner::Plain(leaf) => leaf_flags(capabilities, leaf),

@@ -133,7 +133,7 @@ module _ (this : TypeInner) (r : Row) (i count span j t offset : ℕ) (before : 
       T-true c (and-right (d && z && h) c (true-T plain))
 
   pub bounds-step : Apart (s .end) offset i j before → offset + r .size ≤ span → span ≤ most
-      → memberBounds count span before this offset j r (plainBounds s) ≡ ok (record { end = offset + r .size; flags = bitAnd (s .flags) (r .flags) })
+      → memberBounds count span before this offset j (r .size) (r .flags) (plainBounds s) ≡ ok (record { end = offset + r .size; flags = bitAnd (s .flags) (r .flags) })
   unfolding memberBounds
   bounds-step a within fits =
       rw (is-data, is-sized, is-resolved, le-leb (s .end) offset (a .clear), le-leb (offset + r .size) most (omega arith), le-leb (offset + r .size) span within, a .within) refl

@@ -12,6 +12,7 @@ use Rattle.alignment.specs.Alignment.{isMask, isAligned, roundUp}
 use Rattle.type_info.specs.declared.Previous.{Previous}
 use Rattle.type_info.specs.declared.Previous.the-variants.{NoStruct, StructBefore}
 use Rattle.type_info.specs.declared.Row.{Row}
+use Rattle.type_info.specs.TypeInfo.{rowSizes, rowFlags}
 use Rattle.type_info.specs.declared.Verdict.{Verdict}
 use Rattle.type_info.specs.Verdict.{minUniform, okVerdict, isOk, alignmentIn, structAt, previousOf}
 use Rattle.member_bounds.specs.declared.Bounds.{Bounds}
@@ -46,7 +47,7 @@ plainBounds s = record { end = s .end; flags = s .flags }
 -- this: what the record of its type says
 abbrev pub Stepped : (least : ℕ) (this : TypeInner) (r : Row) (i count span j t offset : ℕ) → Previous → PlainState → Plain → Type 0
 Stepped least this r i count span j t offset before s (Took next) =
-    (memberBounds count span before this offset j r (plainBounds s) ≡ ok (plainBounds next))
+    (memberBounds count span before this offset j (r .size) (r .flags) (plainBounds s) ≡ ok (plainBounds next))
     × (memberUniform least i j t offset before r (okVerdict (s .uniform)) ≡ okVerdict (next .uniform))
     × (memberStorage i j t offset r (okVerdict (s .storage)) ≡ okVerdict (next .storage))
     × (r .immediates ≡ 0)
@@ -56,7 +57,7 @@ Stepped least this r i count span j t offset before s Other = Unit {0}
 -- the same where the uniform verdict u has failed and stays
 abbrev pub StorageStepped : (least : ℕ) (u : Verdict) (this : TypeInner) (r : Row) (i count span j t offset : ℕ) → Previous → PlainState → Plain → Type 0
 StorageStepped least u this r i count span j t offset before s (Took next) =
-    (memberBounds count span before this offset j r (plainBounds s) ≡ ok (plainBounds next))
+    (memberBounds count span before this offset j (r .size) (r .flags) (plainBounds s) ≡ ok (plainBounds next))
     × (memberUniform least i j t offset before r u ≡ u)
     × (memberStorage i j t offset r (okVerdict (s .storage)) ≡ okVerdict (next .storage))
     × (r .immediates ≡ 0)
@@ -66,7 +67,7 @@ StorageStepped least u this r i count span j t offset before s Other = Unit {0}
 -- what is known after j members: the uniform verdict u, the immediates word, the rest in s
 abbrev pub PlainAfter : (least : ℕ) (inner : ℕ → TypeInner) (rows : ℕ → Row) (i count span : ℕ) (members : List ℕ) (j : ℕ) (u : Verdict) (immediates : ℕ) → PlainState → Type 0
 PlainAfter least inner rows i count span members j u immediates s =
-    (boundsAfter inner rows count span members j ≡ ok (plainBounds s))
+    (boundsAfter inner (rowSizes rows) (rowFlags rows) count span members j ≡ ok (plainBounds s))
     × (uniformAfter least inner rows i members j ≡ u)
     × (storageAfter rows i members j ≡ okVerdict (s .storage))
     × (immediatesAfter rows members j ≡ immediates)

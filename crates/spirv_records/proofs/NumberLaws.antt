@@ -26,7 +26,6 @@ use Rattle.type_layout.specs.TypeLayout.{layoutOf}
 use Rattle.flags.specs.Flags.{bit, dataBit, sizedBit, creationResolvedBit, ioShareableBit, isSizedData}
 use Rattle.width.specs.Width.{sint, uint, float, bool, float64, shaderFloat16, shaderInt16, shaderInt64, shaderFloat32Atomic, shaderInt64AtomicMinMax, shaderInt64AtomicAllOps, cooperativeMatrix, rayQuery, rayTracingPipeline, rayHitVertexPosition, dualSourceBlending, integerWidth, floatWidth, checkWidth, integerAtomic, atomicWidth}
 use Rattle.type_flags.specs.TypeFlags.{leafFlags, isFlat, cubeAllowed, isExternalForm, externalAllowed, isBindingBase, isExternalImage}
-use Rattle.type_info.specs.declared.Row.{Row}
 use Rattle.type_info.specs.Verdict.{previousOf, distanceOk}
 use Rattle.member_bounds.specs.declared.Bounds.{Bounds}
 use Rattle.member_bounds.specs.MemberBounds.{isArray, isMemberData, isApart, isMemberSized, memberBounds}
@@ -90,23 +89,23 @@ leaf-late c (Atomic kind width) = followed (atomicWidth c kind width) (atomic-la
 leaf-late c (RayQuery v) = asked (bit c rayQuery) 8 0 10 (omega arith) (asked (eqb v 0 || bit c rayHitVertexPosition) 8 0 12 (omega arith) fine)
 
 -- ---- what is no data
-other-late : (c : ℕ) (inner : ℕ → TypeInner) (rows : ℕ → Row) (o : NonData) → Late (nonDataFlags c inner rows o)
+other-late : (c : ℕ) (inner : ℕ → TypeInner) (flags : ℕ → ℕ) (o : NonData) → Late (nonDataFlags c inner flags o)
 unfolding nonDataFlags
-other-late c inner rows (Pointer base space) =
-    asked (bit (rows base .flags) dataBit) 13 0 0 (omega arith) (asked (bit (rows base .flags) sizedBit || eqb space 4) 14 0 0 (omega arith) fine)
-other-late c inner rows (ValuePointer kind width space) = followed (checkWidth c kind width) (width-late c kind width) (λ _. fine)
-other-late c inner rows (Image dim arrayed class) =
+other-late c inner flags (Pointer base space) =
+    asked (bit (flags base) dataBit) 13 0 0 (omega arith) (asked (bit (flags base) sizedBit || eqb space 4) 14 0 0 (omega arith) fine)
+other-late c inner flags (ValuePointer kind width space) = followed (checkWidth c kind width) (width-late c kind width) (λ _. fine)
+other-late c inner flags (Image dim arrayed class) =
     asked (isFlat dim arrayed) 22 0 0 (omega arith)
     (asked (cubeAllowed c dim arrayed) 8 0 8 (omega arith)
     (asked (isExternalForm dim arrayed class) 22 0 0 (omega arith)
     (asked (externalAllowed c class) 8 0 9 (omega arith) fine)))
-other-late c inner rows Sampler = fine
-other-late c inner rows (AccelerationStructure v) =
+other-late c inner flags Sampler = fine
+other-late c inner flags (AccelerationStructure v) =
     asked (bit c rayTracingPipeline || bit c rayQuery) 8 0 10 (omega arith) (asked (eqb v 0 || bit c rayHitVertexPosition) 8 0 12 (omega arith) fine)
-other-late c inner rows (BindingArray base form count) =
-    asked (isBindingBase (inner base) (rows base .flags)) 23 0 0 (omega arith)
+other-late c inner flags (BindingArray base form count) =
+    asked (isBindingBase (inner base) (flags base)) 23 0 0 (omega arith)
     (asked (not (isExternalImage (inner base))) 24 0 0 (omega arith)
-    (asked (bit (rows base .flags) creationResolvedBit) 17 0 0 (omega arith) fine))
+    (asked (bit (flags base) creationResolvedBit) 17 0 0 (omega arith) fine))
 
 -- ---- structs
 source-late : (dual : Bool) (members : List ℕ) (j : ℕ) → Late (sourceResult dual members j)
@@ -117,57 +116,58 @@ source-late dual members j =
     (asked (eqb (memberLocation members j) 1 && leb (memberSource members j) 2) 34 0 1 (omega arith)
     (asked (eqb (sourceAt members (memberSource members j) j) 0) 34 0 2 (omega arith) fine)))
 
-module _ (inner : ℕ → TypeInner) (rows : ℕ → Row) (members : List ℕ) where
+module _ (inner : ℕ → TypeInner) (sizes flags : ℕ → ℕ) (members : List ℕ) where
   module _ (dual : Bool) (count span : ℕ) where
     member-late : (j : ℕ) (b : Bounds)
-        → Late (memberBounds count span (previousOf inner members j) (inner (memberType members j)) (memberOffset members j) j (rows (memberType members j)) b)
+        → Late (memberBounds count span (previousOf inner members j) (inner (memberType members j)) (memberOffset members j) j (sizes (memberType members j)) (flags (memberType members j)) b)
     unfolding memberBounds
     member-late j b =
-        let r = rows (memberType members j) in
+        let size = sizes (memberType members j) in
+        let own = flags (memberType members j) in
         let offset = memberOffset members j in
-        asked (isMemberData (r .flags)) 17 j 0 (omega arith)
+        asked (isMemberData own) 17 j 0 (omega arith)
         (asked (isApart (b .end) offset) 18 j 0 (omega arith)
-        (asked (leb (offset + r .size) most) 21 j 0 (omega arith)
-        (asked (leb (offset + r .size) span) 19 j 0 (omega arith)
+        (asked (leb (offset + size) most) 21 j 0 (omega arith)
+        (asked (leb (offset + size) span) 19 j 0 (omega arith)
         (asked (distanceOk (previousOf inner members j) offset) 21 j 0 (omega arith)
-        (asked (isMemberSized (r .flags) (isArray (inner (memberType members j))) j count) 20 j 0 (omega arith) fine)))))
+        (asked (isMemberSized own (isArray (inner (memberType members j))) j count) 20 j 0 (omega arith) fine)))))
 
-    blended-late : (j : ℕ) → Late (blendedAfter dual inner rows count span members j)
+    blended-late : (j : ℕ) → Late (blendedAfter dual inner sizes flags count span members j)
     unfolding blendedAfter
     blended-late zero = fine
     blended-late (suc j) =
-        followed (blendedAfter dual inner rows count span members j) (blended-late j)
-        (λ b. asked (isMemberData (rows (memberType members j) .flags)) 17 j 0 (omega arith)
+        followed (blendedAfter dual inner sizes flags count span members j) (blended-late j)
+        (λ b. asked (isMemberData (flags (memberType members j))) 17 j 0 (omega arith)
         (followed (sourceResult dual members j) (source-late dual members j) (λ _. member-late j b)))
 
-  pair-late : (other : Bool) (flags first second : ℕ) → Late (pairResult inner rows members other flags first second)
-  pair-late other flags zero zero = fine
-  pair-late other flags zero (suc b) = refused 34 (omega arith)
-  pair-late other flags (suc a) zero = refused 34 (omega arith)
-  pair-late other flags (suc a) (suc b) =
+  pair-late : (other : Bool) (left first second : ℕ) → Late (pairResult inner flags members other left first second)
+  pair-late other left zero zero = fine
+  pair-late other left zero (suc b) = refused 34 (omega arith)
+  pair-late other left (suc a) zero = refused 34 (omega arith)
+  pair-late other left (suc a) (suc b) =
       asked (not other) 34 0 3 (omega arith)
       (asked (sameType (inner (memberType members a)) (inner (memberType members b))) 34 0 4 (omega arith)
-      (asked (bit (rows (memberType members a) .flags) ioShareableBit) 34 0 5 (omega arith) fine))
+      (asked (bit (flags (memberType members a)) ioShareableBit) 34 0 5 (omega arith) fine))
 
-  blend-late : (count flags : ℕ) → Late (structBlend inner rows members count flags)
+  blend-late : (count left : ℕ) → Late (structBlend inner flags members count left)
   unfolding structBlend
-  blend-late count flags = pair-late (otherLocation members count) flags (sourceAt members 1 count) (sourceAt members 2 count)
+  blend-late count left = pair-late (otherLocation members count) left (sourceAt members 1 count) (sourceAt members 2 count)
 
-  flags-late : (c : ℕ) (this : TypeInner) → Late (flagsOf c inner rows this members)
+  flags-late : (c : ℕ) (this : TypeInner) → Late (flagsOf c inner sizes flags this members)
   unfolding flagsOf
   flags-late c (Plain leaf) = leaf-late c leaf
-  flags-late c (Array base count stride) = asked (isSizedData (rows base .flags)) 15 0 0 (omega arith) fine
-  flags-late c (RuntimeArray base stride) = asked (isSizedData (rows base .flags)) 15 0 0 (omega arith) fine
+  flags-late c (Array base count stride) = asked (isSizedData (flags base)) 15 0 0 (omega arith) fine
+  flags-late c (RuntimeArray base stride) = asked (isSizedData (flags base)) 15 0 0 (omega arith) fine
   flags-late c (Struct count span) =
       asked (ltb 0 count) 16 0 0 (omega arith)
-      (followed (blendedAfter (bit c dualSourceBlending) inner rows count span members count) (blended-late (bit c dualSourceBlending) count span count)
+      (followed (blendedAfter (bit c dualSourceBlending) inner sizes flags count span members count) (blended-late (bit c dualSourceBlending) count span count)
       (λ b. blend-late count (b .flags)))
-  flags-late c (Other o) = other-late c inner rows o
+  flags-late c (Other o) = other-late c inner flags o
 
 -- judging a type, whatever it is
 pub common-late : (c : ℕ) (types : ℕ → Decoded) (i : ℕ) → Late (commonAt c types i)
 unfolding resultAt judgeCommon
-common-late c types i = followed _ (flags-late (λ k. types k .inner) _ (types i .members) c (types i .inner)) (λ f. fine)
+common-late c types i = followed _ (flags-late (λ k. types k .inner) _ _ (types i .members) c (types i .inner)) (λ f. fine)
 
 -- ---- laying out a type whose alignment is made
 pub record Four {A : Type 0} (r : Result A) : Type 0 where

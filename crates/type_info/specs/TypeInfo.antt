@@ -48,6 +48,13 @@ rowsIn words k =
       immediates = rowWord words k 13;
     }
 
+-- what acceptance and flags read of rows
+abbrev pub rowSizes : (ℕ → Row) → ℕ → ℕ
+rowSizes rows k = rows k .size
+
+abbrev pub rowFlags : (ℕ → Row) → ℕ → ℕ
+rowFlags rows k = rows k .flags
+
 -- in the place of a row that is not made yet: a pointer or binding array that names itself or a later type reads its empty flags
 abbrev pub emptyRow : Row
 emptyRow =

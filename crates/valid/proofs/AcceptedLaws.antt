@@ -36,7 +36,7 @@ use Rattle.flags.specs.Flags.{bit, ioShareableFlag, dataBit, sizedBit, creation
 use Rattle.flags.proofs.BitLaws.{bit-or-left, bit-or-right}
 use Rattle.type_flags.specs.TypeFlags.{leafFlags, pointerTo, isBindingBase, isExternalImage, bindingArrayOf}
 use Rattle.type_info.specs.declared.Row.{Row}
-use Rattle.type_info.specs.TypeInfo.{emptyRow}
+use Rattle.type_info.specs.TypeInfo.{emptyRow, rowSizes, rowFlags}
 use Rattle.type_info.specs.Verdict.{minStorage, okVerdict, arrayVerdict, spanVerdict}
 use Rattle.type_info.proofs.VerdictLaws.{OkPower, ok-power, array-power, span-ok, same-power}
 use Rattle.member_bounds.specs.declared.Bounds.{Bounds}
@@ -44,12 +44,12 @@ use Rattle.member_bounds.specs.MemberBounds.{isArray, boundsAfter}
 use Rattle.member_rules.specs.MemberRules.{uniformAfter, storageAfter, immediatesAfter}
 use Rattle.member_bounds.proofs.BoundsLaws.{MemberIn, members-in}
 use Rattle.member_rules.proofs.MemberLaws.{storage-power-after, uniform-power-after}
-use Rattle.member_bounds.proofs.BoundsSame.{bounds-rows}
+use Rattle.member_bounds.proofs.BoundsSame.{bounds-read}
 use Rattle.member_rules.proofs.MemberSame.{uniform-rows, storage-rows, immediates-rows}
 use Rattle.validate_type.specs.ValidateType.{nonDataFlags, flagsOf, leafVerdictAlignment, leafImmediates, uniformOf, storageOf, immediatesOf, rowOf, judge}
 use Rattle.valid.specs.Arena.{judgeStep, judgedAt, row}
 use Rattle.valid_blend.specs.Blend.{structBlend}
-use Rattle.valid_blend.proofs.BlendLaws.{blend-rows, blend-bit}
+use Rattle.valid_blend.proofs.BlendLaws.{blend-read, blend-bit}
 use Rattle.validate_type.proofs.StructFlags.{struct-flags}
 use Rattle.validate_type.proofs.CapabilityLaws.{HasAll, judge-more}
 use Rattle.validate_type.proofs.JudgeLaws.{Judged, judged-parts, isDataInner, flags-data}
@@ -95,8 +95,8 @@ base-sized {base = base} a =
 pub record StructRow (least : ℕ) (inner : ℕ → TypeInner) (rows : ℕ → Row) (i alignment count span : ℕ) (members : List ℕ) (r : Row) : Type 0 where
   pub nonempty : 0 < count
   pub after : Bounds
-  pub accepted : boundsAfter inner rows count span members count ≡ ok after
-  pub blend : structBlend inner rows members count (after .flags) ≡ ok (r .flags)
+  pub accepted : boundsAfter inner (rowSizes rows) (rowFlags rows) count span members count ≡ ok after
+  pub blend : structBlend inner (rowFlags rows) members count (after .flags) ≡ ok (r .flags)
   -- blend sources may add IO_SHAREABLE, and nothing else
   pub flags : (k : ℕ) → ioShareableFlag / 2 ^ k % 2 ≡ 0 → bit (r .flags) k ≡ bit (after .flags) k
   pub size : r .size ≡ span
@@ -221,13 +221,17 @@ module _ (least c : ℕ) (types : ℕ → Decoded) (n : ℕ) (acc : AcceptedType
       let before = rowsBefore least c types i in
       let same : (j : ℕ) → j < count → before (memberType members j) ≡ row least c types (memberType members j) =
       λ j l. row-before i (memberType members j) (member-earlier i h count span e j l) in
-      let s = struct-flags c (innerIn types) before count span members (row least c types i .flags) (p .flags) in
+      let same-flags : (j : ℕ) → j < count → before (memberType members j) .flags ≡ row least c types (memberType members j) .flags =
+      λ j l. ap (λ (r : Row). r .flags) (same j l) in
+      let s = struct-flags c (innerIn types) (rowSizes before) (rowFlags before) count span members (row least c types i .flags) (p .flags) in
       record {
         nonempty = ltb→lt 0 count (s .nonempty);
         after = s .after;
-        accepted = sym (bounds-rows before (row least c types) members count same (innerIn types) count span count (le-refl count)) ∙ s .accepted;
-        blend = sym (blend-rows (innerIn types) before (row least c types) members count (s .after .flags) same) ∙ s .blend;
-        flags = blend-bit (innerIn types) before members count (s .after .flags) (row least c types i .flags) (s .blend);
+        accepted =
+            sym (bounds-read (rowSizes before) (rowSizes (row least c types)) (rowFlags before) (rowFlags (row least c types)) members count (λ j l. ap (λ (r : Row). r .size) (same j l)) same-flags (innerIn types) count span count (le-refl count))
+            ∙ s .accepted;
+        blend = sym (blend-read (innerIn types) (rowFlags before) (rowFlags (row least c types)) members count (s .after .flags) same-flags) ∙ s .blend;
+        flags = blend-bit (innerIn types) (rowFlags before) members count (s .after .flags) (row least c types i .flags) (s .blend);
         size = row-size i h ∙ struct-layout types n (acc .layouts) i h count span e .0;
         uniform =
             ap (λ (r : Row). r .uniform) (p .is)
@@ -240,10 +244,10 @@ module _ (least c : ℕ) (types : ℕ → Decoded) (n : ℕ) (acc : AcceptedType
 
   -- what an accepted struct says of its member j
   pub struct-member : (i : ℕ) (h : i < n) (count span : ℕ) (e : types i .inner ≡ Struct count span) (j : ℕ) → j < count
-      → MemberIn (innerIn types) (row least c types) count span (types i .members) j (struct-row i h count span e .after)
+      → MemberIn (innerIn types) (rowSizes (row least c types)) (rowFlags (row least c types)) count span (types i .members) j (struct-row i h count span e .after)
   struct-member i h count span e j l =
       let s = struct-row i h count span e in
-      members-in (innerIn types) (row least c types) count span (types i .members) count (s .after) (s .accepted) j l
+      members-in (innerIn types) (rowSizes (row least c types)) (rowFlags (row least c types)) count span (types i .members) count (s .after) (s .accepted) j l
 
   -- what is no data has Ok verdicts of alignment 1
   pub other-verdicts : (i : ℕ) → i < n → (o : NonData) → types i .inner ≡ Other o
@@ -279,7 +283,7 @@ module _ (least c : ℕ) (types : ℕ → Decoded) (n : ℕ) (acc : AcceptedType
   -- ---- DATA: just leaves, arrays and structs
   pub data-kind : (i : ℕ) → i < n → bit (row least c types i .flags) dataBit ≡ isDataInner (types i .inner)
   data-kind i h =
-      flags-data c (innerIn types) (rowsBefore least c types i) (types i .inner) (types i .members) (row least c types i .flags) (row-parts i h (types i .inner) refl .flags)
+      flags-data c (innerIn types) (rowSizes (rowsBefore least c types i)) (rowFlags (rowsBefore least c types i)) (types i .inner) (types i .members) (row least c types i .flags) (row-parts i h (types i .inner) refl .flags)
 
   -- ---- verdict alignments are powers of two, where the minimum alignment is
   module _ (least-is : Power least) where

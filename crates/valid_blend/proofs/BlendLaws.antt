@@ -18,7 +18,6 @@ use Rattle.records.specs.Record.{memberType, memberOffset, memberSource, member
 use Rattle.records.specs.declared.TypeInner.{TypeInner}
 use Rattle.records.proofs.ResultLaws.{required, require-twice, and-then-ok, ok-inj, T-true}
 use Rattle.flags.specs.Flags.{bit, ioShareableBit, ioShareableFlag}
-use Rattle.type_info.specs.declared.Row.{Row}
 use Rattle.alignment.specs.Alignment.{most}
 use Rattle.type_info.specs.declared.Previous.{Previous}
 use Rattle.type_info.specs.Verdict.{previousOf, distanceOk}
@@ -33,15 +32,15 @@ Pass dual members j = (m : ℕ) → m < j → sourceResult dual members m ≡ ok
 fewer : (dual : Bool) (members : List ℕ) (j : ℕ) → Pass dual members (suc j) → Pass dual members j
 fewer dual members j p m h = p m (omega arith)
 
-module _ (dual : Bool) (inner : ℕ → TypeInner) (rows : ℕ → Row) (count span : ℕ) (members : List ℕ) where
+module _ (dual : Bool) (inner : ℕ → TypeInner) (sizes flags : ℕ → ℕ) (count span : ℕ) (members : List ℕ) where
   -- ---- accepted with the rules of blend sources: accepted without, and each source passes
-  pub blended-ok : (j : ℕ) (b : Bounds) → blendedAfter dual inner rows count span members j ≡ ok b
-      → (boundsAfter inner rows count span members j ≡ ok b) × Pass dual members j
+  pub blended-ok : (j : ℕ) (b : Bounds) → blendedAfter dual inner sizes flags count span members j ≡ ok b
+      → (boundsAfter inner sizes flags count span members j ≡ ok b) × Pass dual members j
   unfolding blendedAfter boundsAfter
   blended-ok zero b e = (e, λ m h. absurd (not-suc-le-zero h))
   blended-ok (suc j) b e =
-      let a = and-then-ok (blendedAfter dual inner rows count span members j) _ b e in
-      let r = required (isMemberData (rows (memberType members j) .flags)) 17 j 0 _ b (a .2) in
+      let a = and-then-ok (blendedAfter dual inner sizes flags count span members j) _ b e in
+      let r = required (isMemberData (flags (memberType members j))) 17 j 0 _ b (a .2) in
       let s = and-then-ok (sourceResult dual members j) _ b (r .1) in
       let ih = blended-ok j (a .0) (a .1) in
       (rw (ih .0) (s .2), λ m h. go (ih .1) (s .1) m h (ℕ-discrete m j))
@@ -50,14 +49,14 @@ module _ (dual : Bool) (inner : ℕ → TypeInner) (rows : ℕ → Row) (count s
       go p q m h (yes x) = rw x q
       go p q m h (no x) = p m (omega arith)
 
-  pub ok-blended : (j : ℕ) (b : Bounds) → boundsAfter inner rows count span members j ≡ ok b → Pass dual members j
-      → blendedAfter dual inner rows count span members j ≡ ok b
+  pub ok-blended : (j : ℕ) (b : Bounds) → boundsAfter inner sizes flags count span members j ≡ ok b → Pass dual members j
+      → blendedAfter dual inner sizes flags count span members j ≡ ok b
   unfolding blendedAfter boundsAfter memberBounds
   ok-blended zero b e p = e
   ok-blended (suc j) b e p =
-      let a = and-then-ok (boundsAfter inner rows count span members j) _ b e in
-      let t = required (isMemberData (rows (memberType members j) .flags)) 17 j 0 _ b (a .2) in
-      rw (ok-blended j (a .0) (a .1) (fewer dual members j p), T-true (isMemberData (rows (memberType members j) .flags)) (t .0), p j (le-refl (suc j))) (t .1)
+      let a = and-then-ok (boundsAfter inner sizes flags count span members j) _ b e in
+      let t = required (isMemberData (flags (memberType members j))) 17 j 0 _ b (a .2) in
+      rw (ok-blended j (a .0) (a .1) (fewer dual members j p), T-true (isMemberData (flags (memberType members j))) (t .0), p j (le-refl (suc j))) (t .1)
 
   -- ---- members without a blend source are judged as before
   no-source-result : (j : ℕ) → memberSource members j ≡ 0 → sourceResult dual members j ≡ ok tt
@@ -65,18 +64,18 @@ module _ (dual : Bool) (inner : ℕ → TypeInner) (rows : ℕ → Row) (count s
   no-source-result j e = rw e refl
 
   pub no-source : (n : ℕ) → ((m : ℕ) → m < n → memberSource members m ≡ 0) → (j : ℕ) → j ≤ n
-      → blendedAfter dual inner rows count span members j ≡ boundsAfter inner rows count span members j
+      → blendedAfter dual inner sizes flags count span members j ≡ boundsAfter inner sizes flags count span members j
   unfolding blendedAfter boundsAfter memberBounds
   no-source n none zero h = refl
   no-source n none (suc j) h =
-      rw (no-source n none j (omega arith), no-source-result j (none j h)) (go (boundsAfter inner rows count span members j))
+      rw (no-source n none j (omega arith), no-source-result j (none j h)) (go (boundsAfter inner sizes flags count span members j))
     where
       step : Bounds → Result Bounds
-      step = memberBounds count span (previousOf inner members j) (inner (memberType members j)) (memberOffset members j) j (rows (memberType members j))
+      step = memberBounds count span (previousOf inner members j) (inner (memberType members j)) (memberOffset members j) j (sizes (memberType members j)) (flags (memberType members j))
 
-      go : (o : Result Bounds) → andThen o (λ b. require (isMemberData (rows (memberType members j) .flags)) 17 j 0 (step b)) ≡ andThen o step
+      go : (o : Result Bounds) → andThen o (λ b. require (isMemberData (flags (memberType members j))) 17 j 0 (step b)) ≡ andThen o step
       go (err x y z) = refl
-      go (ok b) = require-twice (isMemberData (rows (memberType members j) .flags)) 17 j 0 _
+      go (ok b) = require-twice (isMemberData (flags (memberType members j))) 17 j 0 _
 
 -- ---- the blend sources of members one after the other
 module _ (dual : Bool) (members : List ℕ) (j : ℕ) (so-far : sourcesAfter dual members j ≡ ok tt) where
@@ -121,38 +120,38 @@ refused-by true true true true false sized j number member detail b e = let t : 
 refused-by true true true true true false j number member detail b e = let t : (20 ≡ number) × (j ≡ member) × (0 ≡ detail) = (cc, cc, cc) in record { at = sym (t .1); none = sym (t .2); first = rw (← t .0) refl }
 refused-by true true true true true true j number member detail b e = let z : _≡_ {A = ℕ} 0 1 = cc in absurd (omega arith)
 
-member-refused : (count span : ℕ) (previous : Previous) (this : TypeInner) (offset j : ℕ) (r : Row) (b : Bounds) (number member detail : ℕ)
-    → memberBounds count span previous this offset j r b ≡ err number member detail → MemberRefused (isMemberData (r .flags)) j number member detail
+member-refused : (count span : ℕ) (previous : Previous) (this : TypeInner) (offset j size flags : ℕ) (b : Bounds) (number member detail : ℕ)
+    → memberBounds count span previous this offset j size flags b ≡ err number member detail → MemberRefused (isMemberData flags) j number member detail
 unfolding memberBounds
-member-refused count span previous this offset j r b number member detail e =
-    refused-by (isMemberData (r .flags)) (isApart (b .end) offset) (leb (offset + r .size) most) (leb (offset + r .size) span) (distanceOk previous offset) (isMemberSized (r .flags) (isArray this) j count)
+member-refused count span previous this offset j size flags b number member detail e =
+    refused-by (isMemberData flags) (isApart (b .end) offset) (leb (offset + size) most) (leb (offset + size) span) (distanceOk previous offset) (isMemberSized flags (isArray this) j count)
     j number member detail _ e
 
-taken-data : (count span : ℕ) (previous : Previous) (this : TypeInner) (offset j : ℕ) (r : Row) (b after : Bounds)
-    → memberBounds count span previous this offset j r b ≡ ok after → isMemberData (r .flags) ≡ true
+taken-data : (count span : ℕ) (previous : Previous) (this : TypeInner) (offset j size flags : ℕ) (b after : Bounds)
+    → memberBounds count span previous this offset j size flags b ≡ ok after → isMemberData flags ≡ true
 unfolding memberBounds
-taken-data count span previous this offset j r b after e = T-true (isMemberData (r .flags)) (required (isMemberData (r .flags)) 17 j 0 _ after e .0)
+taken-data count span previous this offset j size flags b after e = T-true (isMemberData flags) (required (isMemberData flags) 17 j 0 _ after e .0)
 
-no-data-first : (count span : ℕ) (previous : Previous) (this : TypeInner) (offset j : ℕ) (r : Row) (b : Bounds) → isMemberData (r .flags) ≡ false
-    → memberBounds count span previous this offset j r b ≡ err 17 j 0
+no-data-first : (count span : ℕ) (previous : Previous) (this : TypeInner) (offset j size flags : ℕ) (b : Bounds) → isMemberData flags ≡ false
+    → memberBounds count span previous this offset j size flags b ≡ err 17 j 0
 unfolding memberBounds
-no-data-first count span previous this offset j r b e = rw e refl
+no-data-first count span previous this offset j size flags b e = rw e refl
 
-module _ (dual : Bool) (inner : ℕ → TypeInner) (rows : ℕ → Row) (count span : ℕ) (members : List ℕ) where
+module _ (dual : Bool) (inner : ℕ → TypeInner) (sizes flags : ℕ → ℕ) (count span : ℕ) (members : List ℕ) where
   abbrev sources : ℕ → Result (Unit {0})
   sources = sourcesAfter dual members
 
   abbrev bounds : ℕ → Result Bounds
-  bounds = boundsAfter inner rows count span members
+  bounds = boundsAfter inner sizes flags count span members
 
   abbrev blended : ℕ → Result Bounds
-  blended = blendedAfter dual inner rows count span members
+  blended = blendedAfter dual inner sizes flags count span members
 
   abbrev step : ℕ → Bounds → Result Bounds
-  step j = memberBounds count span (previousOf inner members j) (inner (memberType members j)) (memberOffset members j) j (rows (memberType members j))
+  step j = memberBounds count span (previousOf inner members j) (inner (memberType members j)) (memberOffset members j) j (sizes (memberType members j)) (flags (memberType members j))
 
   abbrev isData : ℕ → Bool
-  isData j = isMemberData (rows (memberType members j) .flags)
+  isData j = isMemberData (flags (memberType members j))
 
   -- members that are accepted: what is left are their blend sources
   pub blended-taken : (n : ℕ) (b : Bounds) → bounds n ≡ ok b → blended n ≡ andThen (sources n) (λ _. ok b)
@@ -160,7 +159,7 @@ module _ (dual : Bool) (inner : ℕ → TypeInner) (rows : ℕ → Row) (count s
   blended-taken zero b e = e
   blended-taken (suc n) b e =
       let a = and-then-ok (bounds n) (step n) b e in
-      let t = taken-data count span (previousOf inner members n) (inner (memberType members n)) (memberOffset members n) n (rows (memberType members n)) (a .0) b (a .2) in
+      let t = taken-data count span (previousOf inner members n) (inner (memberType members n)) (memberOffset members n) n (sizes (memberType members n)) (flags (memberType members n)) (a .0) b (a .2) in
       rw (blended-taken n (a .0) (a .1), t) (go (sources n) (sourceResult dual members n) (a .0) (step n) (a .2))
     where
       go : (s o : Result (Unit {0})) (before : Bounds) (f : Bounds → Result Bounds) → f before ≡ ok b
@@ -188,7 +187,7 @@ module _ (dual : Bool) (inner : ℕ → TypeInner) (rows : ℕ → Row) (count s
           let h = ih number member detail (p ∙ q) in
           (omega (arith, h .0), h .1, rw (h .2) (stays (sources (sourcesBefore number member)) _))
       go (ok b) p q ih =
-          let r = member-refused count span (previousOf inner members n) (inner (memberType members n)) (memberOffset members n) n (rows (memberType members n)) b number member detail q in
+          let r = member-refused count span (previousOf inner members n) (inner (memberType members n)) (memberOffset members n) n (sizes (memberType members n)) (flags (memberType members n)) b number member detail q in
           (omega (arith, r .at), r .none, rw (blended-taken n b p) (last (isData n) refl (r .first) (r .at)))
         where
           -- the member is no data: 17, before its blend source
@@ -208,7 +207,7 @@ module _ (dual : Bool) (inner : ℕ → TypeInner) (rows : ℕ → Row) (count s
               ≡ andThen (sources (sourcesBefore number member)) (λ _. err number member detail)
           last false d f at =
               rw (d, f)
-              (no-data (sources n) (sym (no-data-first count span (previousOf inner members n) (inner (memberType members n)) (memberOffset members n) n (rows (memberType members n)) b d) ∙ q)
+              (no-data (sources n) (sym (no-data-first count span (previousOf inner members n) (inner (memberType members n)) (memberOffset members n) n (sizes (memberType members n)) (flags (memberType members n)) b d) ∙ q)
               ∙ ap (λ (k : ℕ). andThen {B = Bounds} (sources k) (λ _. err number member detail)) (sym at))
           last true d f at =
               rw (d, f)
@@ -216,12 +215,12 @@ module _ (dual : Bool) (inner : ℕ → TypeInner) (rows : ℕ → Row) (count s
 
   -- ---- the flags of the struct, by what the rules of bounds leave
   abbrev pub flagsAfter : Result ℕ
-  flagsAfter = andThen (blended count) (λ b. structBlend inner rows members count (b .flags))
+  flagsAfter = andThen (blended count) (λ b. structBlend inner flags members count (b .flags))
 
-  pub flags-taken : (b : Bounds) → bounds count ≡ ok b → flagsAfter ≡ blendedFlags dual inner rows members count (b .flags)
+  pub flags-taken : (b : Bounds) → bounds count ≡ ok b → flagsAfter ≡ blendedFlags dual inner flags members count (b .flags)
   flags-taken b e = rw (blended-taken count b e) (go (sources count))
     where
-      go : (s : Result (Unit {0})) → andThen (andThen {B = Bounds} s (λ _. ok b)) (λ x. structBlend inner rows members count (x .flags)) ≡ andThen s (λ _. structBlend inner rows members count (b .flags))
+      go : (s : Result (Unit {0})) → andThen (andThen {B = Bounds} s (λ _. ok b)) (λ x. structBlend inner flags members count (x .flags)) ≡ andThen s (λ _. structBlend inner flags members count (b .flags))
       go (err x y z) = refl
       go (ok u) = refl
 
@@ -229,7 +228,7 @@ module _ (dual : Bool) (inner : ℕ → TypeInner) (rows : ℕ → Row) (count s
       → flagsAfter ≡ andThen (sources (sourcesBefore number member)) (λ _. err number member detail)
   flags-refused number member detail e = rw (blended-refused count number member detail e .2) (go (sources (sourcesBefore number member)))
     where
-      go : (s : Result (Unit {0})) → andThen (andThen {B = Bounds} s (λ _. err number member detail)) (λ x. structBlend inner rows members count (x .flags)) ≡ andThen s (λ _. err number member detail)
+      go : (s : Result (Unit {0})) → andThen (andThen {B = Bounds} s (λ _. err number member detail)) (λ x. structBlend inner flags members count (x .flags)) ≡ andThen s (λ _. err number member detail)
       go (err x y z) = refl
       go (ok u) = refl
 
@@ -260,31 +259,31 @@ no-source-at members word h zero none = refl
 no-source-at members word h (suc j) none = rw (none j (le-refl (suc j)), h) (no-source-at members word h j (λ m l. none m (omega arith)))
 
 -- without a source the flags stay
-pub no-blend : (inner : ℕ → TypeInner) (rows : ℕ → Row) (members : List ℕ) (count flags : ℕ) → ((m : ℕ) → m < count → memberSource members m ≡ 0)
-    → structBlend inner rows members count flags ≡ ok flags
+pub no-blend : (inner : ℕ → TypeInner) (flags : ℕ → ℕ) (members : List ℕ) (count left : ℕ) → ((m : ℕ) → m < count → memberSource members m ≡ 0)
+    → structBlend inner flags members count left ≡ ok left
 unfolding structBlend
-no-blend inner rows members count flags none = rw (no-source-at members 1 refl count none, no-source-at members 2 refl count none) refl
+no-blend inner flags members count left none = rw (no-source-at members 1 refl count none, no-source-at members 2 refl count none) refl
 
--- ---- it reads the rows and the records of the members' types alone
-pub blend-rows : (inner : ℕ → TypeInner) (rows rows′ : ℕ → Row) (members : List ℕ) (n flags : ℕ)
-    → ((j : ℕ) → j < n → rows (memberType members j) ≡ rows′ (memberType members j))
-    → structBlend inner rows members n flags ≡ structBlend inner rows′ members n flags
+-- ---- it reads the flags and the records of the members' types alone
+pub blend-read : (inner : ℕ → TypeInner) (flags flags′ : ℕ → ℕ) (members : List ℕ) (n left : ℕ)
+    → ((j : ℕ) → j < n → flags (memberType members j) ≡ flags′ (memberType members j))
+    → structBlend inner flags members n left ≡ structBlend inner flags′ members n left
 unfolding structBlend
-blend-rows inner rows rows′ members n flags same = go (sourceAt members 1 n) (sourceAt members 2 n) (source-within members 1 n)
+blend-read inner flags flags′ members n left same = go (sourceAt members 1 n) (sourceAt members 2 n) (source-within members 1 n)
   where
-    go : (a b : ℕ) → a ≤ n → pairResult inner rows members (otherLocation members n) flags a b ≡ pairResult inner rows′ members (otherLocation members n) flags a b
+    go : (a b : ℕ) → a ≤ n → pairResult inner flags members (otherLocation members n) left a b ≡ pairResult inner flags′ members (otherLocation members n) left a b
     go zero zero h = refl
     go zero (suc b) h = refl
     go (suc a) zero h = refl
     go (suc a) (suc b) h = rw (same a h) refl
 
-pub blend-inner : (inner inner′ : ℕ → TypeInner) (rows : ℕ → Row) (members : List ℕ) (n flags : ℕ)
+pub blend-inner : (inner inner′ : ℕ → TypeInner) (flags : ℕ → ℕ) (members : List ℕ) (n left : ℕ)
     → ((j : ℕ) → j < n → inner (memberType members j) ≡ inner′ (memberType members j))
-    → structBlend inner rows members n flags ≡ structBlend inner′ rows members n flags
+    → structBlend inner flags members n left ≡ structBlend inner′ flags members n left
 unfolding structBlend
-blend-inner inner inner′ rows members n flags same = go (sourceAt members 1 n) (sourceAt members 2 n) (source-within members 1 n) (source-within members 2 n)
+blend-inner inner inner′ flags members n left same = go (sourceAt members 1 n) (sourceAt members 2 n) (source-within members 1 n) (source-within members 2 n)
   where
-    go : (a b : ℕ) → a ≤ n → b ≤ n → pairResult inner rows members (otherLocation members n) flags a b ≡ pairResult inner′ rows members (otherLocation members n) flags a b
+    go : (a b : ℕ) → a ≤ n → b ≤ n → pairResult inner flags members (otherLocation members n) left a b ≡ pairResult inner′ flags members (otherLocation members n) left a b
     go zero zero h l = refl
     go zero (suc b) h l = refl
     go (suc a) zero h l = refl
@@ -292,24 +291,24 @@ blend-inner inner inner′ rows members n flags same = go (sourceAt members 1 n)
 
 -- ---- flags: as they were, or with IO_SHAREABLE
 -- two sources that pass make the struct IO_SHAREABLE
-pub pair-flags : (inner : ℕ → TypeInner) (rows : ℕ → Row) (members : List ℕ) (other : Bool) (flags a b f : ℕ) → pairOf inner rows members other flags a b ≡ ok f
-    → f ≡ bitOr flags ioShareableFlag
-pair-flags inner rows members other flags a b f q =
+pub pair-flags : (inner : ℕ → TypeInner) (flags : ℕ → ℕ) (members : List ℕ) (other : Bool) (left a b f : ℕ) → pairOf inner flags members other left a b ≡ ok f
+    → f ≡ bitOr left ioShareableFlag
+pair-flags inner flags members other left a b f q =
     let x = required (not other) 34 0 3 _ f q in
     let y = required (sameType (inner (memberType members a)) (inner (memberType members b))) 34 0 4 _ f (x .1) in
-    let w = required (bit (rows (memberType members a) .flags) ioShareableBit) 34 0 5 _ f (y .1) in
+    let w = required (bit (flags (memberType members a)) ioShareableBit) 34 0 5 _ f (y .1) in
     sym (ok-inj (w .1))
 
-pub blend-flags : (inner : ℕ → TypeInner) (rows : ℕ → Row) (members : List ℕ) (count flags f : ℕ) → structBlend inner rows members count flags ≡ ok f
-    → (f ≡ flags) ⊎ (f ≡ bitOr flags ioShareableFlag)
+pub blend-flags : (inner : ℕ → TypeInner) (flags : ℕ → ℕ) (members : List ℕ) (count left f : ℕ) → structBlend inner flags members count left ≡ ok f
+    → (f ≡ left) ⊎ (f ≡ bitOr left ioShareableFlag)
 unfolding structBlend
-blend-flags inner rows members count flags f e = go (sourceAt members 1 count) (sourceAt members 2 count) e
+blend-flags inner flags members count left f e = go (sourceAt members 1 count) (sourceAt members 2 count) e
   where
-    go : (a b : ℕ) → pairResult inner rows members (otherLocation members count) flags a b ≡ ok f → (f ≡ flags) ⊎ (f ≡ bitOr flags ioShareableFlag)
+    go : (a b : ℕ) → pairResult inner flags members (otherLocation members count) left a b ≡ ok f → (f ≡ left) ⊎ (f ≡ bitOr left ioShareableFlag)
     go zero zero q = inl (sym (ok-inj q))
     go zero (suc b) q = let z : _≡_ {A = ℕ} 0 1 = cc in absurd (omega arith)
     go (suc a) zero q = let z : _≡_ {A = ℕ} 0 1 = cc in absurd (omega arith)
-    go (suc a) (suc b) q = inr (pair-flags inner rows members (otherLocation members count) flags a b f q)
+    go (suc a) (suc b) q = inr (pair-flags inner flags members (otherLocation members count) left a b f q)
 
 -- a bit that the second word lacks is the first word's
 bit-or-clear : (x y k : ℕ) → y / 2 ^ k % 2 ≡ 0 → bit (bitOr x y) k ≡ bit x k
@@ -321,13 +320,13 @@ bit-or-clear x y k e =
     ap (λ (z : ℕ). eqb (z % 2) 1) (or-shr x y k) ∙ ap (λ (z : ℕ). eqb z 1) low
 
 -- every flag but IO_SHAREABLE stays
-pub blend-bit : (inner : ℕ → TypeInner) (rows : ℕ → Row) (members : List ℕ) (count flags f : ℕ) → structBlend inner rows members count flags ≡ ok f
-    → (k : ℕ) → ioShareableFlag / 2 ^ k % 2 ≡ 0 → bit f k ≡ bit flags k
-blend-bit inner rows members count flags f e k h = go (blend-flags inner rows members count flags f e)
+pub blend-bit : (inner : ℕ → TypeInner) (flags : ℕ → ℕ) (members : List ℕ) (count left f : ℕ) → structBlend inner flags members count left ≡ ok f
+    → (k : ℕ) → ioShareableFlag / 2 ^ k % 2 ≡ 0 → bit f k ≡ bit left k
+blend-bit inner flags members count left f e k h = go (blend-flags inner flags members count left f e)
   where
-    go : (f ≡ flags) ⊎ (f ≡ bitOr flags ioShareableFlag) → bit f k ≡ bit flags k
+    go : (f ≡ left) ⊎ (f ≡ bitOr left ioShareableFlag) → bit f k ≡ bit left k
     go (inl q) = ap (λ (x : ℕ). bit x k) q
-    go (inr q) = ap (λ (x : ℕ). bit x k) q ∙ bit-or-clear flags ioShareableFlag k h
+    go (inr q) = ap (λ (x : ℕ). bit x k) q ∙ bit-or-clear left ioShareableFlag k h
 
 -- ---- what the loops of the code find
 one-less : (j : ℕ) → 0 < j → j ≡ suc (j - 1)
@@ -373,26 +372,26 @@ module _ (members : List ℕ) where
   other-none (suc j) h = absurd (not-suc-le-zero h)
 
 -- ---- the pair by the numbers that the code has
-module _ (inner : ℕ → TypeInner) (rows : ℕ → Row) (members : List ℕ) (count flags : ℕ) where
+module _ (inner : ℕ → TypeInner) (flags : ℕ → ℕ) (members : List ℕ) (count left : ℕ) where
   abbrev result : ℕ → ℕ → Result ℕ
-  result = pairResult inner rows members (otherLocation members count) flags
+  result = pairResult inner flags members (otherLocation members count) left
 
   pub both-missing : (first second : ℕ) → sourceAt members 1 count ≡ first → sourceAt members 2 count ≡ second → first ≡ 0 → second ≡ 0
-      → structBlend inner rows members count flags ≡ ok flags
+      → structBlend inner flags members count left ≡ ok left
   unfolding structBlend
   both-missing first second p q h l = rw (p, q, h, l) refl
 
   pub second-alone : (first second : ℕ) → sourceAt members 1 count ≡ first → sourceAt members 2 count ≡ second → first ≡ 0 → 0 < second
-      → structBlend inner rows members count flags ≡ err 34 0 6
+      → structBlend inner flags members count left ≡ err 34 0 6
   unfolding structBlend
   second-alone first second p q h l = ap (λ (x : ℕ). result x (sourceAt members 2 count)) (p ∙ h) ∙ ap (result 0) (q ∙ one-less second l)
 
   pub first-alone : (first second : ℕ) → sourceAt members 1 count ≡ first → sourceAt members 2 count ≡ second → 0 < first → second ≡ 0
-      → structBlend inner rows members count flags ≡ err 34 0 6
+      → structBlend inner flags members count left ≡ err 34 0 6
   unfolding structBlend
   first-alone first second p q h l = ap (λ (x : ℕ). result x (sourceAt members 2 count)) (p ∙ one-less first h) ∙ ap (result (suc (first - 1))) (q ∙ l)
 
   pub both-there : (first second : ℕ) → sourceAt members 1 count ≡ first → sourceAt members 2 count ≡ second → 0 < first → 0 < second
-      → structBlend inner rows members count flags ≡ pairOf inner rows members (otherLocation members count) flags (first - 1) (second - 1)
+      → structBlend inner flags members count left ≡ pairOf inner flags members (otherLocation members count) left (first - 1) (second - 1)
   unfolding structBlend
   both-there first second p q h l = ap (λ (x : ℕ). result x (sourceAt members 2 count)) (p ∙ one-less first h) ∙ ap (result (suc (first - 1))) (q ∙ one-less second l)

@@ -1,5 +1,5 @@
 -- 02, E9: the blend sources of a struct, member by member and after the last. A member's location and blend source are stored as value
--- plus one, 0 for none. `rows` are the rows of the types before type i.
+-- plus one, 0 for none. `sizes` and `flags` are those of the types before type i.
 -- Assumes nothing.
 use mathlib.Core.Bool.{Bool, true, false, not, _&&_, _||_}
 use mathlib.Core.List.{List}
@@ -15,7 +15,6 @@ use Rattle.records.specs.declared.TypeInner.{TypeInner}
 use Rattle.records.specs.declared.TypeInner.the-variants.{Plain, Array, RuntimeArray, Struct, Other}
 use Rattle.flags.specs.Flags.{bit, startingFlags, ioShareableBit, ioShareableFlag}
 use Rattle.width.specs.Width.{dualSourceBlending}
-use Rattle.type_info.specs.declared.Row.{Row}
 use Rattle.type_info.specs.Verdict.{previousOf}
 use Rattle.member_bounds.specs.declared.Bounds.{Bounds}
 use Rattle.member_bounds.specs.MemberBounds.{isMemberData, memberBounds}
@@ -47,13 +46,13 @@ sourcesAfter dual members zero = ok tt
 sourcesAfter dual members (suc j) = andThen (sourcesAfter dual members j) (λ _. sourceResult dual members j)
 
 -- the running end and the flags after j members: numbers 17 to 21, and right after 17 those of a blend source
-unfoldable pub blendedAfter : (dual : Bool) (inner : ℕ → TypeInner) (rows : ℕ → Row) (count span : ℕ) (members : List ℕ) → ℕ → Result Bounds
-blendedAfter dual inner rows count span members zero = ok (record { end = 0; flags = startingFlags structKind })
-blendedAfter dual inner rows count span members (suc j) =
-    andThen (blendedAfter dual inner rows count span members j)
-    (λ b. require (isMemberData (rows (memberType members j) .flags)) 17 j 0
+unfoldable pub blendedAfter : (dual : Bool) (inner : ℕ → TypeInner) (sizes flags : ℕ → ℕ) (count span : ℕ) (members : List ℕ) → ℕ → Result Bounds
+blendedAfter dual inner sizes flags count span members zero = ok (record { end = 0; flags = startingFlags structKind })
+blendedAfter dual inner sizes flags count span members (suc j) =
+    andThen (blendedAfter dual inner sizes flags count span members j)
+    (λ b. require (isMemberData (flags (memberType members j))) 17 j 0
     (andThen (sourceResult dual members j)
-    (λ _. memberBounds count span (previousOf inner members j) (inner (memberType members j)) (memberOffset members j) j (rows (memberType members j)) b)))
+    (λ _. memberBounds count span (previousOf inner members j) (inner (memberType members j)) (memberOffset members j) j (sizes (memberType members j)) (flags (memberType members j)) b)))
 
 -- ---- after the last member
 -- one of the first j members has a location and no blend source
@@ -90,29 +89,29 @@ unfoldable pub sameType : TypeInner → TypeInner → Bool
 sameType x y = sameWords (innerWords x) (innerWords y)
 
 -- 34 with detail 3 (other locations), 4 (types differ), 5 (not IO-shareable); members a and b with source 0 and 1 that pass make the
--- struct IO_SHAREABLE
-abbrev pub pairOf : (inner : ℕ → TypeInner) (rows : ℕ → Row) (members : List ℕ) (other : Bool) (flags a b : ℕ) → Result ℕ
-pairOf inner rows members other flags a b =
+-- struct IO_SHAREABLE. left: the flags that the members leave
+abbrev pub pairOf : (inner : ℕ → TypeInner) (flags : ℕ → ℕ) (members : List ℕ) (other : Bool) (left a b : ℕ) → Result ℕ
+pairOf inner flags members other left a b =
     require (not other) 34 0 3
     (require (sameType (inner (memberType members a)) (inner (memberType members b))) 34 0 4
-    (require (bit (rows (memberType members a) .flags) ioShareableBit) 34 0 5
-    (ok (bitOr flags ioShareableFlag))))
+    (require (bit (flags (memberType members a)) ioShareableBit) 34 0 5
+    (ok (bitOr left ioShareableFlag))))
 
 -- detail 6 (one source missing). first, second: the members with source 0 and 1, as `sourceAt` numbers them
-abbrev pub pairResult : (inner : ℕ → TypeInner) (rows : ℕ → Row) (members : List ℕ) (other : Bool) (flags first second : ℕ) → Result ℕ
-pairResult inner rows members other flags zero zero = ok flags
-pairResult inner rows members other flags zero (suc b) = err 34 0 6
-pairResult inner rows members other flags (suc a) zero = err 34 0 6
-pairResult inner rows members other flags (suc a) (suc b) = pairOf inner rows members other flags a b
+abbrev pub pairResult : (inner : ℕ → TypeInner) (flags : ℕ → ℕ) (members : List ℕ) (other : Bool) (left first second : ℕ) → Result ℕ
+pairResult inner flags members other left zero zero = ok left
+pairResult inner flags members other left zero (suc b) = err 34 0 6
+pairResult inner flags members other left (suc a) zero = err 34 0 6
+pairResult inner flags members other left (suc a) (suc b) = pairOf inner flags members other left a b
 
-unfoldable pub structBlend : (inner : ℕ → TypeInner) (rows : ℕ → Row) (members : List ℕ) (count flags : ℕ) → Result ℕ
-structBlend inner rows members count flags =
-    pairResult inner rows members (otherLocation members count) flags (sourceAt members 1 count) (sourceAt members 2 count)
+unfoldable pub structBlend : (inner : ℕ → TypeInner) (flags : ℕ → ℕ) (members : List ℕ) (count left : ℕ) → Result ℕ
+structBlend inner flags members count left =
+    pairResult inner flags members (otherLocation members count) left (sourceAt members 1 count) (sourceAt members 2 count)
 
 -- ---- what the code answers
--- all rules of blend sources, of a struct whose members leave these flags
-abbrev pub blendedFlags : (dual : Bool) (inner : ℕ → TypeInner) (rows : ℕ → Row) (members : List ℕ) (count flags : ℕ) → Result ℕ
-blendedFlags dual inner rows members count flags = andThen (sourcesAfter dual members count) (λ _. structBlend inner rows members count flags)
+-- all rules of blend sources
+abbrev pub blendedFlags : (dual : Bool) (inner : ℕ → TypeInner) (flags : ℕ → ℕ) (members : List ℕ) (count left : ℕ) → Result ℕ
+blendedFlags dual inner flags members count left = andThen (sourcesAfter dual members count) (λ _. structBlend inner flags members count left)
 
 -- how many members' blend sources come before a number of a member: 17 is asked first
 abbrev pub sourcesBefore : (number member : ℕ) → ℕ

@@ -9,8 +9,7 @@ ghost use lib.ListN.{length};
 ghost use Rattle.records.specs.Record.{memberWords, memberCount, typeInner, memberType, Sourceless};
 ghost use Rattle.flags.specs.Flags.{bit};
 ghost use Rattle.width.specs.Width.{dualSourceBlending};
-ghost use Rattle.type_info.specs.declared.Row as row;
-ghost use Rattle.type_info.specs.TypeInfo.{rowsIn};
+ghost use Rattle.type_info.specs.TypeInfo.{rowsIn, rowFlags};
 ghost use Rattle.valid_blend.specs.Blend.{sourceAt, sourceResult, sourcesAfter, sourcesBefore, otherLocation, leafWords, innerWords, sameWords, sameType, pairOf, structBlend, blendedFlags, sourceAnswer, blendAnswer};
 
 pub enum Source {
@@ -182,7 +181,7 @@ pub fn pair_of(
     b: u32,
 ) -> Blend
     requires { ⌜ count * memberWords ≤ length (now part) ⌝ }
-    ensures { λ r. ⌜ ((rows : ℕ → row.Row) → rows (memberType (now (part .entry)) a) .flags ≡ own → blendAnswer r ≡ pairOf (typeInner (now (types .entry))) rows (now (part .entry)) (otherLocation (now (part .entry)) count) flags a b) ⌝ }
+    ensures { λ r. ⌜ ((before : ℕ → ℕ) → before (memberType (now (part .entry)) a) ≡ own → blendAnswer r ≡ pairOf (typeInner (now (types .entry))) before (now (part .entry)) (otherLocation (now (part .entry)) count) flags a b) ⌝ }
 {
     if other_location(part, count) {
         return Blend::Refused {
@@ -212,7 +211,7 @@ fn struct_blend(types: &[u32], rows: &[u32], i: u32, part: &[u32], count: u32, f
     requires { ⌜ length (now rows) ≡ i * 14 ⌝ }
     requires { ⌜ length (now part) ≡ count * memberWords ⌝ }
     requires { ⌜ ((j : ℕ) → j < count → memberType (now part) j < i) ⌝ }
-    ensures { λ r. ⌜ blendAnswer r ≡ structBlend (typeInner (now (types .entry))) (rowsIn (now (rows .entry))) (now (part .entry)) count flags ⌝ }
+    ensures { λ r. ⌜ blendAnswer r ≡ structBlend (typeInner (now (types .entry))) (rowFlags (rowsIn (now (rows .entry)))) (now (part .entry)) count flags ⌝ }
 {
     let first = source_at(part, 1, count);
     let second = source_at(part, 2, count);
@@ -253,7 +252,7 @@ pub fn blended_flags(
     requires { ⌜ length (now part) ≡ count * memberWords ⌝ }
     requires { ⌜ ((j : ℕ) → j < count → memberType (now part) j < i) ⌝ }
     requires { ⌜ (sourced ≡ false → Sourceless (now part) (memberCount (now part))) ⌝ }
-    ensures { λ r. ⌜ blendAnswer r ≡ blendedFlags (bit capabilities dualSourceBlending) (typeInner (now (types .entry))) (rowsIn (now (rows .entry))) (now (part .entry)) count flags ⌝ }
+    ensures { λ r. ⌜ blendAnswer r ≡ blendedFlags (bit capabilities dualSourceBlending) (typeInner (now (types .entry))) (rowFlags (rowsIn (now (rows .entry)))) (now (part .entry)) count flags ⌝ }
 {
     if !sourced {
         return Blend::Flags(flags);

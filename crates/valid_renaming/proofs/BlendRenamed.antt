@@ -10,7 +10,6 @@ use Rattle.records.specs.Result.{ok}
 use Rattle.records.specs.Record.{memberSource}
 use Rattle.records.specs.declared.TypeInner.{TypeInner}
 use Rattle.records.proofs.ResultLaws.{ok-inj}
-use Rattle.type_info.specs.declared.Row.{Row}
 use Rattle.valid_blend.specs.Blend.{sourceAt, otherLocation, pairResult, structBlend}
 use Rattle.valid_blend.proofs.BlendLaws.{pair-flags}
 
@@ -22,17 +21,17 @@ module _ (members members′ : List ℕ) (n : ℕ) (sources : (j : ℕ) → j < 
   source-renamed word (suc j) h = rw (source-renamed word j (omega arith), sources j h) refl
 
   -- so the flags are the same
-  pub blend-renamed : (inner inner′ : ℕ → TypeInner) (rows rows′ : ℕ → Row) (flags a b : ℕ)
-      → structBlend inner rows members n flags ≡ ok a → structBlend inner′ rows′ members′ n flags ≡ ok b → b ≡ a
+  pub blend-renamed : (inner inner′ : ℕ → TypeInner) (flags flags′ : ℕ → ℕ) (left a b : ℕ)
+      → structBlend inner flags members n left ≡ ok a → structBlend inner′ flags′ members′ n left ≡ ok b → b ≡ a
   unfolding structBlend
-  blend-renamed inner inner′ rows rows′ flags a b p q =
+  blend-renamed inner inner′ flags flags′ left a b p q =
       go (sourceAt members 1 n) (sourceAt members 2 n) p (rw (source-renamed 1 n (le-refl n), source-renamed 2 n (le-refl n)) at q)
     where
-      go : (x y : ℕ) → pairResult inner rows members (otherLocation members n) flags x y ≡ ok a
-          → pairResult inner′ rows′ members′ (otherLocation members′ n) flags x y ≡ ok b → b ≡ a
+      go : (x y : ℕ) → pairResult inner flags members (otherLocation members n) left x y ≡ ok a
+          → pairResult inner′ flags′ members′ (otherLocation members′ n) left x y ≡ ok b → b ≡ a
       go zero zero p q = ok-inj (sym q ∙ p)
       go zero (suc y) p q = let z : _≡_ {A = ℕ} 0 1 = cc in absurd (omega arith)
       go (suc x) zero p q = let z : _≡_ {A = ℕ} 0 1 = cc in absurd (omega arith)
       go (suc x) (suc y) p q =
-          pair-flags inner′ rows′ members′ (otherLocation members′ n) flags x y b q
-          ∙ sym (pair-flags inner rows members (otherLocation members n) flags x y a p)
+          pair-flags inner′ flags′ members′ (otherLocation members′ n) left x y b q
+          ∙ sym (pair-flags inner flags members (otherLocation members n) left x y a p)

@@ -10,6 +10,7 @@ use Rattle.records.specs.Record.{memberType, memberOffset}
 use Rattle.records.specs.declared.TypeInner.{TypeInner}
 use Rattle.flags.specs.Flags.{bit, sizedBit, hostShareableBit}
 use Rattle.type_info.specs.declared.Row.{Row}
+use Rattle.type_info.specs.TypeInfo.{rowSizes, rowFlags}
 use Rattle.type_info.specs.declared.Verdict.{Verdict}
 use Rattle.type_info.specs.declared.Previous.{Previous}
 use Rattle.type_info.specs.Verdict.{previousOf, distanceOk, shareVerdict, memberVerdict, distanceVerdict, unsizedVerdict}
@@ -20,11 +21,11 @@ use Rattle.valid_renaming.proofs.InnerRenamed.{is-array-renamed, struct
 use Rattle.valid_renaming.proofs.VerdictRenamed.{share-renamed, member-renamed, distance-renamed, unsized-renamed}
 
 -- one member: whether it is accepted, and with which flags
-bounds-step-renamed : (f : ℕ → ℕ) (this : TypeInner) (count span : ℕ) (previous : Previous) (offset j : ℕ) (r : Row)
-    → memberBounds count span previous (renamedInner f this) offset j (renamedRow f r) ≡ memberBounds count span previous this offset j r
+bounds-step-renamed : (f : ℕ → ℕ) (this : TypeInner) (count span : ℕ) (previous : Previous) (offset j size flags : ℕ)
+    → memberBounds count span previous (renamedInner f this) offset j size flags ≡ memberBounds count span previous this offset j size flags
 unfolding memberBounds
-bounds-step-renamed f this count span previous offset j r =
-    ap (λ (array : Bool). boundsBy count span (distanceOk previous offset) array offset j (r .size) (r .flags)) (is-array-renamed f this)
+bounds-step-renamed f this count span previous offset j size flags =
+    ap (λ (array : Bool). boundsBy count span (distanceOk previous offset) array offset j size flags) (is-array-renamed f this)
 
 -- one struct in two arenas
 module _ (f : ℕ → ℕ) (inner inner′ : ℕ → TypeInner) (rows rows′ : ℕ → Row) (members members′ : List ℕ) (n : ℕ)
@@ -37,13 +38,15 @@ module _ (f : ℕ → ℕ) (inner inner′ : ℕ → TypeInner) (rows rows′ : 
   previous-renamed zero h = refl
   previous-renamed (suc j) h = rw (types j h, offsets j h, inners j h) (struct-at-renamed f (inner (memberType members j)) (memberOffset members j))
 
-  pub bounds-renamed : (count span j : ℕ) → j ≤ n → boundsAfter inner′ rows′ count span members′ j ≡ boundsAfter inner rows count span members j
+  pub bounds-renamed : (count span j : ℕ) → j ≤ n → boundsAfter inner′ (rowSizes rows′) (rowFlags rows′) count span members′ j ≡ boundsAfter inner (rowSizes rows) (rowFlags rows) count span members j
   unfolding boundsAfter
   bounds-renamed count span zero h = refl
   bounds-renamed count span (suc j) h =
-      rw (bounds-renamed count span j (omega arith), previous-renamed j (omega arith), types j h, offsets j h, inners j h, known j h)
-      (ap (andThen (boundsAfter inner rows count span members j))
-      (bounds-step-renamed f (inner (memberType members j)) count span (previousOf inner members j) (memberOffset members j) j (rows (memberType members j))))
+      let size : rowSizes rows′ (f (memberType members j)) ≡ rowSizes rows (memberType members j) = ap (λ (r : Row). r .size) (known j h) in
+      let flags : rowFlags rows′ (f (memberType members j)) ≡ rowFlags rows (memberType members j) = ap (λ (r : Row). r .flags) (known j h) in
+      rw (bounds-renamed count span j (omega arith), previous-renamed j (omega arith), types j h, offsets j h, inners j h, size, flags)
+      (ap (andThen (boundsAfter inner (rowSizes rows) (rowFlags rows) count span members j))
+      (bounds-step-renamed f (inner (memberType members j)) count span (previousOf inner members j) (memberOffset members j) j (rowSizes rows (memberType members j)) (rowFlags rows (memberType members j))))
 
   pub immediates-renamed : (j : ℕ) → j ≤ n → immediatesAfter rows′ members′ j ≡ immediatesAfter rows members j
   unfolding immediatesAfter

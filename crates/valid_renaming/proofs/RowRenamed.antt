@@ -22,6 +22,7 @@ use Rattle.layouter.specs.Layouter.{noLayout, layoutStep, layout}
 use Rattle.layouter.proofs.LayoutAccepted.{accepted-step, plain-layout, array-layout, runtime-array-layout, struct-layout, member-layout}
 use Rattle.type_flags.specs.TypeFlags.{pointerTo, bindingArrayOf}
 use Rattle.type_info.specs.declared.Row.{Row}
+use Rattle.type_info.specs.TypeInfo.{rowSizes, rowFlags}
 use Rattle.type_info.specs.Verdict.{minStorage, arrayVerdict, spanVerdict}
 use Rattle.member_rules.specs.MemberRules.{uniformAfter, storageAfter}
 use Rattle.validate_type.specs.ValidateType.{nonDataFlags, flagsOf, immediatesOf, rowOf}
@@ -91,8 +92,8 @@ module _ (f : ℕ → ℕ) (least c : ℕ) (types types′ : ℕ → Decoded) (n
 
   -- the flags of what is no data and has no base
   own-flags : (t : ℕ) → t < n → Closed f types types′ n′ t → (o : NonData) → types t .inner ≡ Other o → types′ (f t) .inner ≡ Other (renamedNonData f o)
-      → flagsOf c (innerIn types′) (rowsBefore least c types′ (f t)) (Other (renamedNonData f o)) (types′ (f t) .members)
-      ≡ flagsOf c (innerIn types) (rowsBefore least c types t) (Other o) (types t .members)
+      → flagsOf c (innerIn types′) (rowSizes (rowsBefore least c types′ (f t))) (rowFlags (rowsBefore least c types′ (f t))) (Other (renamedNonData f o)) (types′ (f t) .members)
+      ≡ flagsOf c (innerIn types) (rowSizes (rowsBefore least c types t)) (rowFlags (rowsBefore least c types t)) (Other o) (types t .members)
       → row least c types′ (f t) .flags ≡ row least c types t .flags
   own-flags t h closed o e e′ same =
       ok-inj
@@ -183,7 +184,7 @@ module _ (f : ℕ → ℕ) (least c : ℕ) (types types′ : ℕ → Decoded) (n
       let v = storage-renamed f (innerIn types) (innerIn types′) (row least c types) (row least c types′) ms ms′ count ty off is known t count (le-refl count) in
       let m = immediates-renamed f (innerIn types) (innerIn types′) (row least c types) (row least c types′) ms ms′ count ty off is known count (le-refl count) in
       made t h (own .0) l
-      (blend-renamed ms ms′ count (λ j l. own .1 .members count span j e l .source) (innerIn types) (innerIn types′) (row least c types) (row least c types′)
+      (blend-renamed ms ms′ count (λ j l. own .1 .members count span j e l .source) (innerIn types) (innerIn types′) (rowFlags (row least c types)) (rowFlags (row least c types′))
       (a .after .flags) (row least c types t .flags) (row least c types′ (f t) .flags) (a .blend)
       (rw after at (b .blend)))
       (b .uniform ∙ ap (λ (z : ℕ). spanVerdict (f t) span z (uniformAfter least (innerIn types′) (row least c types′) (f t) ms′ count)) al ∙ ap (spanVerdict (f t) span (layout types t .alignment)) u

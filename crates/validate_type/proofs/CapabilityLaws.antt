@@ -18,6 +18,7 @@ use Rattle.flags.specs.Flags.{bit}
 use Rattle.width.specs.Width.{float64, shaderFloat16, shaderInt16, shaderInt64, shaderFloat32Atomic, shaderInt64AtomicMinMax, shaderInt64AtomicAllOps, cooperativeMatrix, cubeArrayTextures, textureExternal, rayQuery, rayTracingPipeline, rayHitVertexPosition, dualSourceBlending, uint, float, integerWidth, floatWidth, checkWidth, integerAtomic, atomicWidth}
 use Rattle.type_flags.specs.TypeFlags.{leafFlags, imageFlags}
 use Rattle.type_info.specs.declared.Row.{Row}
+use Rattle.type_info.specs.TypeInfo.{rowSizes, rowFlags}
 use Rattle.valid_blend.proofs.BlendLaws.{source-more}
 use Rattle.validate_type.specs.ValidateType.{nonDataFlags, flagsOf, judge}
 use Rattle.validate_type.proofs.StructFlags.{struct-flags, flags-struct}
@@ -125,28 +126,28 @@ module _ (c d : ℕ) (adds : HasAll c d) where
       (or-more (not (eqb class 2)) (not (eqb class 2)) (bit c textureExternal) (bit d textureExternal) (λ x. x) (adds textureExternal)) (λ x. x)))) e
 
   -- the flags of what is no data stay
-  non-data-more : (inner : ℕ → TypeInner) (rows : ℕ → Row) (o : NonData) (f : ℕ) → nonDataFlags c inner rows o ≡ ok f → nonDataFlags d inner rows o ≡ ok f
+  non-data-more : (inner : ℕ → TypeInner) (flags : ℕ → ℕ) (o : NonData) (f : ℕ) → nonDataFlags c inner flags o ≡ ok f → nonDataFlags d inner flags o ≡ ok f
   unfolding nonDataFlags
-  non-data-more inner rows (Pointer base space) f e = e
-  non-data-more inner rows (ValuePointer k w s) f e = and-then-more (checkWidth c k w) (checkWidth d k w) _ f (width-more k w) e
-  non-data-more inner rows (Image dim arrayed class) f e = image-more dim arrayed class f e
-  non-data-more inner rows Sampler f e = e
-  non-data-more inner rows (AccelerationStructure v) f e =
+  non-data-more inner flags (Pointer base space) f e = e
+  non-data-more inner flags (ValuePointer k w s) f e = and-then-more (checkWidth c k w) (checkWidth d k w) _ f (width-more k w) e
+  non-data-more inner flags (Image dim arrayed class) f e = image-more dim arrayed class f e
+  non-data-more inner flags Sampler f e = e
+  non-data-more inner flags (AccelerationStructure v) f e =
       require-more (bit c rayTracingPipeline || bit c rayQuery) (bit d rayTracingPipeline || bit d rayQuery) 8 0 rayQuery _ _ f
       (or-more (bit c rayTracingPipeline) (bit d rayTracingPipeline) (bit c rayQuery) (bit d rayQuery) (adds rayTracingPipeline) (adds rayQuery))
       (λ x. vertex-more v _ f x) e
-  non-data-more inner rows (BindingArray base form count) f e = e
+  non-data-more inner flags (BindingArray base form count) f e = e
 
   -- the flags of a type stay
-  pub flags-more : (inner : ℕ → TypeInner) (rows : ℕ → Row) (this : TypeInner) (members : List ℕ) (f : ℕ)
-      → flagsOf c inner rows this members ≡ ok f → flagsOf d inner rows this members ≡ ok f
+  pub flags-more : (inner : ℕ → TypeInner) (sizes flags : ℕ → ℕ) (this : TypeInner) (members : List ℕ) (f : ℕ)
+      → flagsOf c inner sizes flags this members ≡ ok f → flagsOf d inner sizes flags this members ≡ ok f
   unfolding flagsOf
-  flags-more inner rows (Plain leaf) members f e = leaf-more leaf f e
-  flags-more inner rows (Array base count stride) members f e = e
-  flags-more inner rows (RuntimeArray base stride) members f e = e
-  flags-more inner rows (Struct count span) members f e =
-      let s = struct-flags c inner rows count span members f e in
-      flags-struct d inner rows count span members f
+  flags-more inner sizes flags (Plain leaf) members f e = leaf-more leaf f e
+  flags-more inner sizes flags (Array base count stride) members f e = e
+  flags-more inner sizes flags (RuntimeArray base stride) members f e = e
+  flags-more inner sizes flags (Struct count span) members f e =
+      let s = struct-flags c inner sizes flags count span members f e in
+      flags-struct d inner sizes flags count span members f
       (record {
         nonempty = s .nonempty;
         after = s .after;
@@ -154,11 +155,11 @@ module _ (c d : ℕ) (adds : HasAll c d) where
         pass = λ m h. source-more (bit c dualSourceBlending) (bit d dualSourceBlending) (adds dualSourceBlending) members m (s .pass m h);
         blend = s .blend;
       })
-  flags-more inner rows (Other o) members f e = non-data-more inner rows o f e
+  flags-more inner sizes flags (Other o) members f e = non-data-more inner flags o f e
 
   -- the row of a type stays
   pub judge-more : (least : ℕ) (inner : ℕ → TypeInner) (rows : ℕ → Row) (i : ℕ) (l : TypeLayout) (this : TypeInner) (members : List ℕ) (r : Row)
       → judge least c inner rows i l this members ≡ ok r → judge least d inner rows i l this members ≡ ok r
   unfolding judge
   judge-more least inner rows i l this members r e =
-      and-then-more (flagsOf c inner rows this members) (flagsOf d inner rows this members) _ r (flags-more inner rows this members) e
+      and-then-more (flagsOf c inner (rowSizes rows) (rowFlags rows) this members) (flagsOf d inner (rowSizes rows) (rowFlags rows) this members) _ r (flags-more inner (rowSizes rows) (rowFlags rows) this members) e

@@ -1,5 +1,5 @@
--- Of the rows of the types before, a type's flags, its storage verdict and its immediates word read no uniform verdict: judged by any minimum alignment of
--- uniform verdicts, a type has in common what the definition without that verdict has.
+-- Of the rows of the types before, a type's storage verdict and its immediates word read no uniform verdict, and its flags read sizes and flags alone, as
+-- their type says: judged by any minimum alignment of uniform verdicts, a type has in common what the definition without that verdict has.
 -- Assumes nothing.
 use mathlib.Core.Path.{_≡_, refl, ap}
 use mathlib.Core.List.{List}
@@ -10,10 +10,9 @@ use Rattle.records.specs.declared.TypeInner.the-variants.{Plain, Array, Runtime
 use Rattle.type_alignment.specs.declared.TypeLayout.{TypeLayout}
 use Rattle.type_info.specs.declared.Row.{Row}
 use Rattle.type_info.specs.Verdict.{spanVerdict}
-use Rattle.type_info.specs.TypeInfo.{withoutUniform}
+use Rattle.type_info.specs.TypeInfo.{withoutUniform, rowSizes, rowFlags}
 use Rattle.member_rules.specs.MemberRules.{storageAfter, immediatesAfter}
 use Rattle.validate_type.specs.ValidateType.{flagsOf, storageOf, immediatesOf, rowOf, judge, judgeCommon}
-use Rattle.validate_type.proofs.FlagsRead.{flags-read}
 
 module _ (rows : ℕ → Row) where
   -- the rows without their uniform verdicts
@@ -32,9 +31,6 @@ module _ (rows : ℕ → Row) where
   immediates-after-common members (suc j) = rw (immediates-after-common members j) refl
 
   -- ---- a type
-  flags-common : (c : ℕ) (inner : ℕ → TypeInner) (this : TypeInner) (members : List ℕ) → flagsOf c inner common this members ≡ flagsOf c inner rows this members
-  flags-common = flags-read common rows (λ k. refl) (λ k. refl)
-
   storage-common : (i alignment : ℕ) (this : TypeInner) (members : List ℕ) → storageOf common i alignment this members ≡ storageOf rows i alignment this members
   unfolding storageOf
   storage-common i alignment (Plain leaf) members = refl
@@ -56,7 +52,7 @@ module _ (rows : ℕ → Row) where
       → andThen (judge least c inner rows i l this members) (λ r. ok (withoutUniform r)) ≡ judgeCommon c inner common i l this members
   unfolding judge judgeCommon rowOf
   judged-common least c inner i l this members =
-      rw (flags-common c inner this members, storage-common i (l .alignment) this members, immediates-common this members) (go (flagsOf c inner rows this members))
+      rw (storage-common i (l .alignment) this members, immediates-common this members) (go (flagsOf c inner (rowSizes rows) (rowFlags rows) this members))
     where
       go : (o : Result ℕ)
           → andThen (andThen o (λ f. ok (rowOf least inner rows i l this members f))) (λ r. ok (withoutUniform r))

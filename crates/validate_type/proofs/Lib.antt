@@ -3,5 +3,4 @@ pub mod StructFlags
 pub mod TypeRowLaws
 pub mod CapabilityLaws
 pub mod JudgeLaws
-pub mod FlagsRead
 pub mod CommonLaws

@@ -14,6 +14,7 @@ use Rattle.records.specs.declared.TypeInner.the-variants.{Plain, Array, Runtime
 use Rattle.flags.specs.Flags.{arrayFlags, runtimeArrayFlags, isSizedData}
 use Rattle.type_flags.specs.TypeFlags.{leafFlags}
 use Rattle.type_info.specs.declared.Row.{Row}
+use Rattle.type_info.specs.TypeInfo.{rowFlags}
 use Rattle.validate_type.specs.ValidateType.{nonDataFlags, flagsOf, leafVerdictAlignment, leafImmediates, uniformOf, storageOf, immediatesOf, rowOf, judge, plainJudged, arrayRow, arrayOf}
 
 -- what follows a value that a test lets through
@@ -31,7 +32,7 @@ module _ (least c : ℕ) (inner : ℕ → TypeInner) (rows : ℕ → Row) (i : �
 
   -- where it says what is no data, by the flags of that
   pub other-judged : (n : NonData) → this ≡ Other n → verdict ≡ 1
-      → plainJudged layout verdict 0 (nonDataFlags c inner rows n) ≡ judge least c inner rows i layout this part
+      → plainJudged layout verdict 0 (nonDataFlags c inner (rowFlags rows) n) ≡ judge least c inner rows i layout this part
   unfolding judge flagsOf rowOf uniformOf storageOf immediatesOf
   other-judged n says is = rw (says, is) refl
 

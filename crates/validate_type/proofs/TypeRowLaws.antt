@@ -18,7 +18,7 @@ use Rattle.type_alignment.proofs.AcceptedAlignment.{leaf-accepted}
 use Rattle.type_layout.specs.TypeLayout.{layoutOf, wordsLayout}
 use Rattle.type_layout.proofs.AcceptedParts.{layout-parts}
 use Rattle.type_flags.specs.TypeFlags.{leafFlags}
-use Rattle.type_info.specs.TypeInfo.{rowsIn}
+use Rattle.type_info.specs.TypeInfo.{rowsIn, rowFlags}
 use Rattle.validate_type.specs.declared.PlainRow.{PlainRow}
 use Rattle.validate_type.specs.ValidateType.{nonDataFlags, leafVerdictAlignment, leafImmediates, judge, plainJudged, plainResult, arrayOf}
 use Rattle.validate_type.specs.TypeRow.{wordsRow}
@@ -60,10 +60,10 @@ module _ (least c m n : ℕ) (inner : ℕ → TypeInner) (words : List ℕ) (i :
 
   -- what is no data
   pub other-row : (other : NonData) → innerOf kind a b d e f ≡ Other other → verdict ≡ 1
-      → plainResult r ≡ andThen o (λ l. plainJudged l verdict 0 (nonDataFlags c inner (rowsIn words) other))
+      → plainResult r ≡ andThen o (λ l. plainJudged l verdict 0 (nonDataFlags c inner (rowFlags (rowsIn words)) other))
       → plainResult r ≡ wordsRow least c m n inner words i kind a b d e f members
   other-row other says is one =
-      same-row 0 (nonDataFlags c inner (rowsIn words) other) one
+      same-row 0 (nonDataFlags c inner (rowFlags (rowsIn words)) other) one
       (λ l x. other-judged least c inner (rowsIn words) i l members (innerOf kind a b d e f) verdict other says is)
 
 -- no kind: number 2

@@ -1,5 +1,6 @@
 -- 01, 'The result row': the row of one type (`validate_type` of naga's valid/type.rs). c is the capability word, `inner` what each record
--- of the arena says, `rows` the rows of the types before type i. Flags, or the refusal, on one side; verdicts on the other.
+-- of the arena says, `rows` the rows of the types before type i, `sizes` and `flags` theirs. Flags, or the refusal, on one side, which read
+-- sizes and flags alone; verdicts on the other.
 -- Assumes nothing.
 use mathlib.Core.List.{List}
 use mathlib.Core.Path.{_≡_}
@@ -22,7 +23,7 @@ use Rattle.type_info.specs.declared.Verdict.{Verdict}
 use Rattle.type_info.specs.declared.Row.{Row}
 use Rattle.type_info.specs.Verdict.{minStorage, okVerdict, arrayVerdict, spanVerdict}
 use Rattle.rows.specs.Rows.{withRow}
-use Rattle.type_info.specs.TypeInfo.{wordsOf, noVerdict}
+use Rattle.type_info.specs.TypeInfo.{wordsOf, rowSizes, rowFlags, noVerdict}
 use Rattle.validate_type.specs.declared.PlainRow.{PlainRow}
 use Rattle.validate_type.specs.declared.PlainRow.the-variants as plain
 use Rattle.validate_type.specs.declared.Judged.{Judged}
@@ -32,24 +33,24 @@ use Rattle.valid_blend.specs.Blend.{blendedAfter, structBlend}
 use Rattle.member_rules.specs.MemberRules.{uniformAfter, storageAfter, immediatesAfter}
 
 -- ---- flags of what is no data
-unfoldable pub nonDataFlags : (c : ℕ) (inner : ℕ → TypeInner) (rows : ℕ → Row) → NonData → Result ℕ
-nonDataFlags c inner rows (Pointer base space) = pointerTo (rows base .flags) space
-nonDataFlags c inner rows (ValuePointer kind width space) = withWidth (checkWidth c kind width) (pointerFlags space (startingFlags valuePointerKind))
-nonDataFlags c inner rows (Image dim arrayed class) = imageFlags c dim arrayed class
-nonDataFlags c inner rows Sampler = ok (startingFlags samplerKind)
-nonDataFlags c inner rows (AccelerationStructure vertexReturn) = accelerationFlags c vertexReturn
-nonDataFlags c inner rows (BindingArray base form count) = bindingArrayOf (inner base) (rows base .flags) form
+unfoldable pub nonDataFlags : (c : ℕ) (inner : ℕ → TypeInner) (flags : ℕ → ℕ) → NonData → Result ℕ
+nonDataFlags c inner flags (Pointer base space) = pointerTo (flags base) space
+nonDataFlags c inner flags (ValuePointer kind width space) = withWidth (checkWidth c kind width) (pointerFlags space (startingFlags valuePointerKind))
+nonDataFlags c inner flags (Image dim arrayed class) = imageFlags c dim arrayed class
+nonDataFlags c inner flags Sampler = ok (startingFlags samplerKind)
+nonDataFlags c inner flags (AccelerationStructure vertexReturn) = accelerationFlags c vertexReturn
+nonDataFlags c inner flags (BindingArray base form count) = bindingArrayOf (inner base) (flags base) form
 
 -- ---- the flags of type i, or its refusal
-unfoldable pub flagsOf : (c : ℕ) (inner : ℕ → TypeInner) (rows : ℕ → Row) → TypeInner → (members : List ℕ) → Result ℕ
-flagsOf c inner rows (Plain leaf) members = leafFlags c leaf
-flagsOf c inner rows (Array base count stride) members = require (isSizedData (rows base .flags)) 15 0 0 (ok (arrayFlags (rows base .flags)))
-flagsOf c inner rows (RuntimeArray base stride) members =
-    require (isSizedData (rows base .flags)) 15 0 0 (ok (runtimeArrayFlags (rows base .flags)))
-flagsOf c inner rows (Struct count span) members =
+unfoldable pub flagsOf : (c : ℕ) (inner : ℕ → TypeInner) (sizes flags : ℕ → ℕ) → TypeInner → (members : List ℕ) → Result ℕ
+flagsOf c inner sizes flags (Plain leaf) members = leafFlags c leaf
+flagsOf c inner sizes flags (Array base count stride) members = require (isSizedData (flags base)) 15 0 0 (ok (arrayFlags (flags base)))
+flagsOf c inner sizes flags (RuntimeArray base stride) members =
+    require (isSizedData (flags base)) 15 0 0 (ok (runtimeArrayFlags (flags base)))
+flagsOf c inner sizes flags (Struct count span) members =
     require (ltb 0 count) 16 0 0
-    (andThen (blendedAfter (bit c dualSourceBlending) inner rows count span members count) (λ b. structBlend inner rows members count (b .flags)))
-flagsOf c inner rows (Other o) members = nonDataFlags c inner rows o
+    (andThen (blendedAfter (bit c dualSourceBlending) inner sizes flags count span members count) (λ b. structBlend inner flags members count (b .flags)))
+flagsOf c inner sizes flags (Other o) members = nonDataFlags c inner flags o
 
 -- ---- verdicts
 -- the alignment in both verdicts of a leaf; a cooperative matrix has that of its width
@@ -116,12 +117,12 @@ rowOf least inner rows i layout this members flags =
 
 unfoldable pub judge : (least c : ℕ) (inner : ℕ → TypeInner) (rows : ℕ → Row) (i : ℕ) → TypeLayout → TypeInner → (members : List ℕ) → Result Row
 judge least c inner rows i layout this members =
-    andThen (flagsOf c inner rows this members) (λ flags. ok (rowOf least inner rows i layout this members flags))
+    andThen (flagsOf c inner (rowSizes rows) (rowFlags rows) this members) (λ flags. ok (rowOf least inner rows i layout this members flags))
 
 -- what rows by either uniform rule have in common: the same without a uniform verdict. `rows` are such rows
 unfoldable pub judgeCommon : (c : ℕ) (inner : ℕ → TypeInner) (rows : ℕ → Row) (i : ℕ) → TypeLayout → TypeInner → (members : List ℕ) → Result Row
 judgeCommon c inner rows i layout this members =
-    andThen (flagsOf c inner rows this members) (λ flags. ok (rowWith noVerdict rows i layout this members flags))
+    andThen (flagsOf c inner (rowSizes rows) (rowFlags rows) this members) (λ flags. ok (rowWith noVerdict rows i layout this members flags))
 
 -- ---- what the code answers
 -- the row of a type that is neither array nor struct, with one alignment in both verdicts

@@ -19,7 +19,7 @@ use Rattle.flags.specs.Flags.{bit, dataBit, hostShareableBit, arrayFlags, runti
 use Rattle.type_flags.specs.TypeFlags.{leafFlags}
 use Rattle.type_info.specs.declared.Verdict.{Verdict}
 use Rattle.type_info.specs.declared.Row.{Row}
-use Rattle.type_info.specs.TypeInfo.{emptyRow}
+use Rattle.type_info.specs.TypeInfo.{emptyRow, rowSizes, rowFlags}
 use Rattle.type_info.specs.Verdict.{minUniform, okVerdict, arrayVerdict, spanVerdict}
 use Rattle.member_bounds.specs.declared.Bounds.{Bounds}
 use Rattle.member_bounds.specs.MemberBounds.{boundsAfter}
@@ -71,10 +71,10 @@ module _ (c : ℕ) (types : ℕ → Decoded) (n : ℕ) (accepted : firstRefusal 
 
   -- its flags, and itself by its flags
   row-parts : (inner : TypeInner) → types t .inner ≡ inner
-      → (flagsOf c innerAt rowsBefore inner (types t .members) ≡ ok (row minUniform c types t .flags)) × (row minUniform c types t ≡ rowWith inner (row minUniform c types t .flags))
+      → (flagsOf c innerAt (rowSizes rowsBefore) (rowFlags rowsBefore) inner (types t .members) ≡ ok (row minUniform c types t .flags)) × (row minUniform c types t ≡ rowWith inner (row minUniform c types t .flags))
   unfolding judge rowOf
   row-parts inner e =
-      let s = and-then-ok (flagsOf c innerAt rowsBefore inner (types t .members)) (λ flags. ok (rowWith inner flags)) (row minUniform c types t) (rw e at judged-step) in
+      let s = and-then-ok (flagsOf c innerAt (rowSizes rowsBefore) (rowFlags rowsBefore) inner (types t .members)) (λ flags. ok (rowWith inner flags)) (row minUniform c types t) (rw e at judged-step) in
       let q = ok-inj (s .2) in
       let f : s .0 ≡ row minUniform c types t .flags = ap (λ (r : Row). r .flags) q in
       (s .1 ∙ ap ok f, sym q ∙ ap (rowWith inner) f)
@@ -88,7 +88,7 @@ module _ (c : ℕ) (types : ℕ → Decoded) (n : ℕ) (accepted : firstRefusal 
 
   -- DATA is set exactly in the rows of what is data
   pub row-data : (inner : TypeInner) → types t .inner ≡ inner → bit (row minUniform c types t .flags) dataBit ≡ isDataInner inner
-  row-data inner e = flags-data c innerAt rowsBefore inner (types t .members) (row minUniform c types t .flags) (row-parts inner e .0)
+  row-data inner e = flags-data c innerAt (rowSizes rowsBefore) (rowFlags rowsBefore) inner (types t .members) (row minUniform c types t .flags) (row-parts inner e .0)
 
   -- ---- a leaf
   -- the flags of a leaf
@@ -148,15 +148,15 @@ module _ (c : ℕ) (types : ℕ → Decoded) (n : ℕ) (accepted : firstRefusal 
   -- ---- structs
   -- a struct is HOST_SHAREABLE where it is so after its members
   pub struct-bounds : (count span : ℕ) → types t .inner ≡ Struct count span
-      → (b : Bounds) × (boundsAfter innerAt rowsBefore count span (types t .members) count ≡ ok b) × (bit (row minUniform c types t .flags) hostShareableBit ≡ bit (b .flags) hostShareableBit)
+      → (b : Bounds) × (boundsAfter innerAt (rowSizes rowsBefore) (rowFlags rowsBefore) count span (types t .members) count ≡ ok b) × (bit (row minUniform c types t .flags) hostShareableBit ≡ bit (b .flags) hostShareableBit)
   struct-bounds count span e =
-      let s = struct-flags c innerAt rowsBefore count span (types t .members) (row minUniform c types t .flags) (row-parts (Struct count span) e .0) in
-      (s .after, s .accepted, blend-bit innerAt rowsBefore (types t .members) count (s .after .flags) (row minUniform c types t .flags) (s .blend) hostShareableBit refl)
+      let s = struct-flags c innerAt (rowSizes rowsBefore) (rowFlags rowsBefore) count span (types t .members) (row minUniform c types t .flags) (row-parts (Struct count span) e .0) in
+      (s .after, s .accepted, blend-bit innerAt (rowFlags rowsBefore) (types t .members) count (s .after .flags) (row minUniform c types t .flags) (s .blend) hostShareableBit refl)
 
   -- it has a member
   pub struct-some : (count span : ℕ) → types t .inner ≡ Struct count span → 0 < count
   struct-some count span e =
-      let s = struct-flags c innerAt rowsBefore count span (types t .members) (row minUniform c types t .flags) (row-parts (Struct count span) e .0) in
+      let s = struct-flags c innerAt (rowSizes rowsBefore) (rowFlags rowsBefore) count span (types t .members) (row minUniform c types t .flags) (row-parts (Struct count span) e .0) in
       ltb-true 0 count (T-true (ltb 0 count) (s .nonempty))
 
   -- and so are its verdicts, under the span rule

@@ -1,7 +1,8 @@
 -- `place_short::judge_all` meets its contract. The invariant: the first i types pass numbers 4 to 7 and are accepted, their words stand in place, and what
 -- stands behind the words of n types is as it was. Assumes nothing.
 use borrow.Author.Needs.{needs}
-use mathlib.Core.Path.{_≡_, refl, sym, _∙_}
+use mathlib.Core.Path.{_≡_, refl, sym, ap, _∙_}
+use mathlib.Core.List.{List}
 use Prim.Native.Nat.{ℕ, _≤_, _-_, _+_, _*_}
 use native.Mathlib.Nat.{le-antisymm}
 use native.Mathlib.Numerals.{add-one}
@@ -9,11 +10,11 @@ use native.Mathlib.Omega.{arith}
 use lib.ListN.{length, take, drop}
 use denote.Ref.{now}
 use Rattle.records.specs.Fields.{recordAt}
-use Rattle.records.specs.Table.{firstRefusal, flat}
+use Rattle.records.specs.Table.{outcomeAt, firstRefusal, flat}
 use Rattle.records.specs.declared.Outcome.the-variants.{Accepted}
 use Rattle.records.proofs.TableLaws.{stays, all-ok}
-use Rattle.place_short.specs.Short.{threeAt, layoutThenRow, threeFrom}
-use Rattle.place_short.proofs.ShortLaws.{three-wide, three-outcome, three-there, three-written, rest-kept}
+use Rattle.place_short.specs.Short.{threeAt, threeFrom, threeResult}
+use Rattle.place_short.proofs.ShortLaws.{three-wide, three-there, three-refusal, three-written, rest-kept}
 use Rattle.place_short.proofs.OutcomeLaws.{not-accepted}
 use Rattle.place_short.proofs.judge_all.Statement.{statement}
 use Rattle.place_short.proofs.judge_all.Tie as tie
@@ -21,7 +22,7 @@ use Rattle.place_short.proofs.judge_all.Tie as tie
 abbrev Inv-loop : tie.InvT-loop
 Inv-loop capabilities types members words₀ n i₀ words i =
     (i ≤ n)
-    × (firstRefusal (layoutThenRow capabilities types members) i ≡ Accepted)
+    × (firstRefusal (threeResult capabilities types members) i ≡ Accepted)
     × (take (i * 3) words ≡ flat (threeAt capabilities types members) i)
     × (drop (n * 3) words ≡ drop (n * 3) words₀)
     × (length words ≡ length words₀)
@@ -48,11 +49,11 @@ returns c =
     let at = c .before .before .before .before .judge-at in
     let below = c .before .before .before .before .before .before .loop-test .taken in
     let words = take (l .i * 3) (l .words) in
-    let refused = sym (three-outcome k ts ms (l .i) (l .inv .1) words (l .inv .2)) ∙ sym (at .ensures .0) ∙ c .enum-told2 .given .1 in (
-      c .enum-told2 .given .1 ∙ sym (stays (layoutThenRow k ts ms) (l .i) (l .inv .1) refused (a .n) below),
+    let refused = ap (λ (w : List ℕ). outcomeAt (l .i) (threeFrom k ts ms w (l .i))) (sym (l .inv .2)) ∙ sym (at .ensures .0) ∙ c .enum-told2 .given .1 in (
+      c .enum-told2 .given .1 ∙ sym (stays (threeResult k ts ms) (l .i) (l .inv .1) refused (a .n) below),
       (
         (λ accepted. absurd (not-accepted (sym (c .enum-told2 .given .1) ∙ accepted))),
-        rest-kept (threeAt k ts ms) (three-wide k ts ms) (l .i) (l .words) _ (threeFrom k ts ms words (l .i)) (l .inv .2) (at .ensures .1) (three-there k ts ms (l .i) (l .inv .1) words (l .inv .2)) (omega (arith, c .before .before .before .before .before .before .before .before .before .before .before .pre .0, below, l .inv .4)) (a .n) below ∙ l .inv .3,
+        rest-kept (threeAt k ts ms) (three-wide k ts ms) (l .i) (l .words) _ (threeFrom k ts ms words (l .i)) (l .inv .2) (at .ensures .1) (three-there k ts ms (l .i) (sym (three-refusal k ts ms (l .i)) ∙ l .inv .1) words (l .inv .2)) (omega (arith, c .before .before .before .before .before .before .before .before .before .before .before .pre .0, below, l .inv .4)) (a .n) below ∙ l .inv .3,
       ),
     )
 
@@ -68,11 +69,11 @@ loop-again c =
     let words = take (l .i * 3) (l .words) in
     let room : l .i * 3 + 3 ≤ length (l .words) = omega (arith, c .before .before .before .before .before .before .before .before .before .before .before .pre .0, below, l .inv .4) in
     let told = sym (at .ensures .0) ∙ c .enum-told .given .1 in
-    let passed = sym (three-outcome k ts ms (l .i) (l .inv .1) words (l .inv .2)) ∙ told in (
+    let passed = ap (λ (w : List ℕ). outcomeAt (l .i) (threeFrom k ts ms w (l .i))) (sym (l .inv .2)) ∙ told in (
       omega (arith, below),
       rw (add-one, l .inv .1, passed) refl,
-      three-written (threeAt k ts ms) (three-wide k ts ms) (l .i) (l .words) _ (threeFrom k ts ms words (l .i)) (l .inv .2) (at .ensures .1) (three-there k ts ms (l .i) (l .inv .1) words (l .inv .2)) room told,
-      rest-kept (threeAt k ts ms) (three-wide k ts ms) (l .i) (l .words) _ (threeFrom k ts ms words (l .i)) (l .inv .2) (at .ensures .1) (three-there k ts ms (l .i) (l .inv .1) words (l .inv .2)) room (a .n) below ∙ l .inv .3,
+      three-written (threeAt k ts ms) (three-wide k ts ms) (l .i) (l .words) _ (threeFrom k ts ms words (l .i)) (l .inv .2) (at .ensures .1) (three-there k ts ms (l .i) (sym (three-refusal k ts ms (l .i)) ∙ l .inv .1) words (l .inv .2)) room told,
+      rest-kept (threeAt k ts ms) (three-wide k ts ms) (l .i) (l .words) _ (threeFrom k ts ms words (l .i)) (l .inv .2) (at .ensures .1) (three-there k ts ms (l .i) (sym (three-refusal k ts ms (l .i)) ∙ l .inv .1) words (l .inv .2)) room (a .n) below ∙ l .inv .3,
       at .kept .1 .1 .1 .0 ∙ l .inv .4,
     )
 

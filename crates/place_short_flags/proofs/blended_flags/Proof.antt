@@ -8,7 +8,7 @@ use Rattle.flags.specs.Flags.{bit}
 use Rattle.width.specs.Width.{dualSourceBlending}
 use Rattle.valid_blend.specs.Blend.{sourceAnswer}
 use Rattle.valid_blend.proofs.BlendLaws.{no-sources, no-blend}
-use Rattle.place_short_flags.specs.ShortFlags.{shortRows}
+use Rattle.place_short_flags.specs.ShortFlags.{shortFlags}
 use Rattle.place_short_flags.proofs.blended_flags.Statement.{statement}
 use Rattle.place_short_flags.proofs.blended_flags.Tie as tie
 
@@ -18,7 +18,7 @@ returns c =
     let p = c .before .before .before .before .pre in
     let none : Sourceless (now (a .part)) (a .count) = λ j h. p .1 (not-true _ (c .if1 .taken)) j (omega (arith, h, p .0)) in
     rw (no-sources (bit (a .capabilities) dualSourceBlending) (now (a .part)) (a .count) none)
-    (sym (no-blend (typeInner (now (a .types))) (shortRows (now (a .words))) (now (a .part)) (a .count) (a .flags) none))
+    (sym (no-blend (typeInner (now (a .types))) (shortFlags (now (a .words))) (now (a .part)) (a .count) (a .flags) none))
 
 returns-2 : tie.Need-returns-2
 returns-2 c =

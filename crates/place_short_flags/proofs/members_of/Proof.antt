@@ -12,7 +12,7 @@ use Rattle.records.specs.Record.{typeInner, Sourceless}
 use Rattle.type_alignment.proofs.AlignmentLaws.{one-more-sourceless}
 use Rattle.type_info.specs.Verdict.{previousOf}
 use Rattle.member_bounds.specs.MemberBounds.{boundsAfter}
-use Rattle.place_short_flags.specs.ShortFlags.{shortRows}
+use Rattle.place_short_flags.specs.ShortFlags.{shortSizes, shortFlags}
 use Rattle.place_short_flags.proofs.MembersLaws.{previous-next, member-taken, member-refused}
 use Rattle.place_short_flags.proofs.members_of.Statement.{statement}
 use Rattle.place_short_flags.proofs.members_of.Tie as tie
@@ -20,7 +20,7 @@ use Rattle.place_short_flags.proofs.members_of.Tie as tie
 abbrev Inv-loop : tie.InvT-loop
 Inv-loop types words part count span bounds₀ previous₀ sources₀ j₀ bounds previous sources j =
     (j ≤ count)
-    × (boundsAfter (typeInner types) (shortRows words) count span part j ≡ ok bounds)
+    × (boundsAfter (typeInner types) (shortSizes words) (shortFlags words) count span part j ≡ ok bounds)
     × (previous ≡ previousOf (typeInner types) part j)
     × (sources ≡ 0 → Sourceless part j)
 
@@ -36,7 +36,7 @@ returns c =
     let a = c .before .before .before .before .before .before .before .before .before .before .args in
     let l = c .before .before .before .before .before .loop in
     let refused = rw (c .before .number .given .1, l .inv .2) at (sym (c .before .before .before .member-step .ensures)) in
-    (sym (member-refused (typeInner (now (a .types))) (shortRows (now (a .words))) (a .count) (a .span) (now (a .part)) (l .j) (l .bounds) (l .inv .1) _ _ _ refused (a .count) (c .before .before .before .before .loop-test .taken)), tt)
+    (sym (member-refused (typeInner (now (a .types))) (shortSizes (now (a .words))) (shortFlags (now (a .words))) (a .count) (a .span) (now (a .part)) (l .j) (l .bounds) (l .inv .1) _ _ _ refused (a .count) (c .before .before .before .before .loop-test .taken)), tt)
 
 loop-again : tie.Need-loop-again Inv-loop μ-loop
 loop-again c =
@@ -44,8 +44,8 @@ loop-again c =
     let l = c .before .before .before .before .before .before .before .before .before .loop in
     let taken = rw (c .before .before .before .before .before .next .given .1, l .inv .2) at (sym (c .before .before .before .before .before .before .before .member-step .ensures)) in (
       search needs,
-      member-taken (typeInner (now (a .types))) (shortRows (now (a .words))) (a .count) (a .span) (now (a .part)) (l .j) (l .bounds) (l .inv .1) _ taken,
-      rw (c .before .before .own-offset .ensures, c .before .before .before .own-type .ensures) at (c .before .struct-at .ensures) ∙ sym (previous-next (typeInner (now (a .types))) (shortRows (now (a .words))) (a .count) (a .span) (now (a .part)) (l .j)),
+      member-taken (typeInner (now (a .types))) (shortSizes (now (a .words))) (shortFlags (now (a .words))) (a .count) (a .span) (now (a .part)) (l .j) (l .bounds) (l .inv .1) _ taken,
+      rw (c .before .before .own-offset .ensures, c .before .before .before .own-type .ensures) at (c .before .struct-at .ensures) ∙ sym (previous-next (typeInner (now (a .types))) (shortSizes (now (a .words))) (shortFlags (now (a .words))) (a .count) (a .span) (now (a .part)) (l .j)),
       λ e. one-more-sourceless (now (a .part)) (l .j) (l .sources) (l .inv .3) (rw (c .own-source .ensures) at e),
     )
 

@@ -6,7 +6,7 @@ use denote.Ref.{now}
 use Rattle.records.specs.Record.{typeInner, Sourceless}
 use Rattle.flags.specs.Flags.{bit}
 use Rattle.width.specs.Width.{dualSourceBlending}
-use Rattle.type_info.specs.TypeInfo.{rowsIn}
+use Rattle.type_info.specs.TypeInfo.{rowsIn, rowFlags}
 use Rattle.valid_blend.specs.Blend.{sourceAnswer}
 use Rattle.valid_blend.proofs.BlendLaws.{no-sources, no-blend}
 use Rattle.valid_blend.proofs.blended_flags.Statement.{statement}
@@ -18,7 +18,7 @@ returns c =
     let p = c .before .before .before .before .pre in
     let none : Sourceless (now (a .part)) (a .count) = λ j h. p .1 .1 .1 (not-true _ (c .if1 .taken)) j (omega (arith, h, p .1 .0)) in
     rw (no-sources (bit (a .capabilities) dualSourceBlending) (now (a .part)) (a .count) none)
-    (sym (no-blend (typeInner (now (a .types))) (rowsIn (now (a .rows))) (now (a .part)) (a .count) (a .flags) none))
+    (sym (no-blend (typeInner (now (a .types))) (rowFlags (rowsIn (now (a .rows)))) (now (a .part)) (a .count) (a .flags) none))
 
 returns-2 : tie.Need-returns-2
 returns-2 c =

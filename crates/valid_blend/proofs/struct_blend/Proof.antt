@@ -4,7 +4,7 @@ use Prim.Native.Nat.{_-_, _<_, _≤_}
 use native.Mathlib.Omega.{arith}
 use denote.Ref.{now}
 use Rattle.records.specs.Record.{typeInner}
-use Rattle.type_info.specs.TypeInfo.{rowsIn}
+use Rattle.type_info.specs.TypeInfo.{rowsIn, rowFlags}
 use Rattle.valid_blend.proofs.BlendLaws.{source-within, both-missing, second-alone, first-alone, both-there}
 use Rattle.valid_blend.proofs.struct_blend.Statement.{statement}
 use Rattle.valid_blend.proofs.struct_blend.Tie as tie
@@ -14,21 +14,21 @@ returns c =
     let a = c .before .before .before .before .before .before .before .args in
     let first = c .before .before .before .source-at in
     let second = c .before .before .source-at2 in
-    sym (both-missing (typeInner (now (a .types))) (rowsIn (now (a .rows))) (now (a .part)) (a .count) (a .flags) (first .result) (second .result) (sym (first .ensures)) (sym (second .ensures)) (c .before .if1 .taken) (c .if2 .taken))
+    sym (both-missing (typeInner (now (a .types))) (rowFlags (rowsIn (now (a .rows)))) (now (a .part)) (a .count) (a .flags) (first .result) (second .result) (sym (first .ensures)) (sym (second .ensures)) (c .before .if1 .taken) (c .if2 .taken))
 
 returns-2 : tie.Need-returns-2
 returns-2 c =
     let a = c .before .before .before .before .before .before .before .args in
     let first = c .before .before .before .source-at in
     let second = c .before .before .source-at2 in
-    sym (second-alone (typeInner (now (a .types))) (rowsIn (now (a .rows))) (now (a .part)) (a .count) (a .flags) (first .result) (second .result) (sym (first .ensures)) (sym (second .ensures)) (c .before .if1 .taken) (omega (arith, c .if2 .left)))
+    sym (second-alone (typeInner (now (a .types))) (rowFlags (rowsIn (now (a .rows)))) (now (a .part)) (a .count) (a .flags) (first .result) (second .result) (sym (first .ensures)) (sym (second .ensures)) (c .before .if1 .taken) (omega (arith, c .if2 .left)))
 
 returns-3 : tie.Need-returns-3
 returns-3 c =
     let a = c .before .before .before .before .before .before .before .args in
     let first = c .before .before .before .source-at in
     let second = c .before .before .source-at2 in
-    sym (first-alone (typeInner (now (a .types))) (rowsIn (now (a .rows))) (now (a .part)) (a .count) (a .flags) (first .result) (second .result) (sym (first .ensures)) (sym (second .ensures)) (omega (arith, c .before .if1 .left)) (c .if3 .taken))
+    sym (first-alone (typeInner (now (a .types))) (rowFlags (rowsIn (now (a .rows)))) (now (a .part)) (a .count) (a .flags) (first .result) (second .result) (sym (first .ensures)) (sym (second .ensures)) (omega (arith, c .before .if1 .left)) (c .if3 .taken))
 
 own-word-requires : tie.Need-own-word-requires
 unfolding rowsIn
@@ -50,7 +50,7 @@ returns-4 c =
     let first = c .before .before .before .before .before .before .source-at in
     let second = c .before .before .before .before .before .source-at2 in
     let own = sym (rw (c .before .before .member-type .ensures) at (c .before .own-word .ensures)) in
-    c .pair-of .ensures (rowsIn (now (a .rows))) own ∙ sym (both-there (typeInner (now (a .types))) (rowsIn (now (a .rows))) (now (a .part)) (a .count) (a .flags) (first .result) (second .result) (sym (first .ensures)) (sym (second .ensures)) (omega (arith, c .before .before .before .before .if1 .left)) (omega (arith, c .before .before .before .if3 .left)))
+    c .pair-of .ensures (rowFlags (rowsIn (now (a .rows)))) own ∙ sym (both-there (typeInner (now (a .types))) (rowFlags (rowsIn (now (a .rows)))) (now (a .part)) (a .count) (a .flags) (first .result) (second .result) (sym (first .ensures)) (sym (second .ensures)) (omega (arith, c .before .before .before .before .if1 .left)) (omega (arith, c .before .before .before .if3 .left)))
 
 pub struct-blend-spec : {M : Type 1} → statement M
 struct-blend-spec =

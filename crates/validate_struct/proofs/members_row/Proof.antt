@@ -9,7 +9,7 @@ use borrow.Author.Tests.{lt-ltb}
 use Rattle.records.specs.Record.{typeInner}
 use Rattle.flags.specs.Flags.{bit}
 use Rattle.width.specs.Width.{dualSourceBlending}
-use Rattle.type_info.specs.TypeInfo.{rowsIn}
+use Rattle.type_info.specs.TypeInfo.{rowsIn, rowSizes, rowFlags}
 use Rattle.valid_blend.specs.Blend.{sourceAnswer, blendAnswer}
 use Rattle.valid_blend.proofs.BlendLaws.{blended-refused, flags-taken, flags-refused}
 use Rattle.validate_type.specs.ValidateType.{judge, flagsOf, rowOf, uniformOf, storageOf, immediatesOf}
@@ -46,7 +46,7 @@ source-before-requires c κs =
     let a = c .before .before .before .before .before .before .before .before .before .args in
     let p = c .before .before .before .before .before .before .before .before .before .pre in
     let error = rw (c .before .number2 .given .1) at (c .before .before .before .members-of .ensures) in
-    let below = blended-refused (bit (a .capabilities) dualSourceBlending) (typeInner (now (a .types))) (rowsIn (take (a .i * 14) (a .rows .now))) (a .count) (a .span) (now (a .part)) (a .count) _ _ _ error .0 in
+    let below = blended-refused (bit (a .capabilities) dualSourceBlending) (typeInner (now (a .types))) (rowSizes (rowsIn (take (a .i * 14) (a .rows .now)))) (rowFlags (rowsIn (take (a .i * 14) (a .rows .now)))) (a .count) (a .span) (now (a .part)) (a .count) _ _ _ error .0 in
     (omega (arith, below, p .1 .1 .0), (omega (arith, below), p .1 .1 .1 .1))
 
 returns-2 : tie.Need-returns-2
@@ -58,7 +58,7 @@ returns-2 c =
     let rows = rowsIn (take (a .i * 14) (a .rows .now)) in
     let dual = bit (a .capabilities) dualSourceBlending in
     let parts = rw (c .before .before .before .before .before .before .before .before .before .before .before .before .before .state .given .1) at (c .before .before .before .before .before .before .before .before .before .before .before .before .before .before .before .members-of .ensures) in
-    let flags = flags-taken dual inner rows (a .count) (a .span) (now (a .part)) _ (parts .0) ∙ sym (c .before .before .before .before .before .before .before .before .before .blended-flags .ensures) ∙ ap blendAnswer (c .before .before .before .before .before .before .before .flags .given .1) in
+    let flags = flags-taken dual inner (rowSizes rows) (rowFlags rows) (a .count) (a .span) (now (a .part)) _ (parts .0) ∙ sym (c .before .before .before .before .before .before .before .before .before .blended-flags .ensures) ∙ ap blendAnswer (c .before .before .before .before .before .before .before .flags .given .1) in
     rw (lt-ltb 0 (a .count) some, flags, parts .1, parts .2, parts .3)
     (refl, rw (c .before .before .before .before .before .span-verdict .ensures, c .before .before .before .before .span-verdict2 .ensures) at (c .before .before .put .ensures))
 
@@ -71,7 +71,7 @@ returns-3 c =
     let rows = rowsIn (take (a .i * 14) (a .rows .now)) in
     let dual = bit (a .capabilities) dualSourceBlending in
     let parts = rw (c .before .before .before .before .before .before .before .state .given .1) at (c .before .before .before .before .before .before .before .before .before .members-of .ensures) in
-    let flags = flags-taken dual inner rows (a .count) (a .span) (now (a .part)) _ (parts .0) ∙ sym (c .before .before .before .blended-flags .ensures) ∙ ap blendAnswer (c .before .number .given .1) in
+    let flags = flags-taken dual inner (rowSizes rows) (rowFlags rows) (a .count) (a .span) (now (a .part)) _ (parts .0) ∙ sym (c .before .before .before .blended-flags .ensures) ∙ ap blendAnswer (c .before .number .given .1) in
     rw (lt-ltb 0 (a .count) some, flags) (refl, refl)
 
 returns-4 : tie.Need-returns-4
@@ -84,7 +84,7 @@ returns-4 c =
     let dual = bit (a .capabilities) dualSourceBlending in
     let error = rw (c .before .before .before .before .number2 .given .1) at (c .before .before .before .before .before .before .members-of .ensures) in
     let source = sym (c .before .before .source-before .ensures) ∙ ap sourceAnswer (c .enum-told .given .1) in
-    let flags = flags-refused dual inner rows (a .count) (a .span) (now (a .part)) _ _ _ error in
+    let flags = flags-refused dual inner (rowSizes rows) (rowFlags rows) (a .count) (a .span) (now (a .part)) _ _ _ error in
     rw (lt-ltb 0 (a .count) some, flags, source) (refl, refl)
 
 returns-5 : tie.Need-returns-5
@@ -97,7 +97,7 @@ returns-5 c =
     let dual = bit (a .capabilities) dualSourceBlending in
     let error = rw (c .before .before .before .before .before .number2 .given .1) at (c .before .before .before .before .before .before .before .members-of .ensures) in
     let source = sym (c .before .before .before .source-before .ensures) ∙ ap sourceAnswer (c .before .first .given .1) in
-    let flags = flags-refused dual inner rows (a .count) (a .span) (now (a .part)) _ _ _ error in
+    let flags = flags-refused dual inner (rowSizes rows) (rowFlags rows) (a .count) (a .span) (now (a .part)) _ _ _ error in
     rw (lt-ltb 0 (a .count) some, flags, source) (refl, refl)
 
 pub members-row-spec : {M : Type 1} → statement M
