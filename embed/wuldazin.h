@@ -327,9 +327,8 @@ void wuldazin_range(uint32_t offset, uint32_t size,
 /* The immediate slots of type ty that stands at offset. Judges the arena first. Numbers 1 to 26 and 34.
  * A part is what is no struct, arrays taken whole. Each mask has the slots of all parts: a slot of which two parts cover a half each is in
  * the second mask.
- * The walk visits every member of every nested struct anew: in an arena whose structs hold others several times over, it may double
- * with each level. Do not call it on tables of unknown origin without a limit on time. Of the other calls only wuldazin_pass_choose
- * has this. It recurses, at most once a type: 200 KB of stack. */
+ * The walk goes over the members of each struct at most four times, however often other structs hold it. It recurses, at most once a
+ * type, and keeps what it finds of each struct: 600 KB of stack. */
 void wuldazin_slots(const uint32_t *types, size_t types_length,
                     const uint32_t *members, size_t members_length,
                     uint32_t capabilities, uint32_t rule,

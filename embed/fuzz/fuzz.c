@@ -28,7 +28,6 @@ enum {
     REPORT_MOST = 2 * (TYPES_MOST / 6) + 64, /* 64-bit words */
     OUTPUT_MOST = 5, /* mask, pass, place, totals or part: 64-bit words; numbers: 32-bit words */
     ANSWER_MOST = 8,
-    PARTS_MOST = 100000, /* of a slot walk: longer ones are not asked for */
     TEMPLATES = 64
 };
 
@@ -348,20 +347,6 @@ static uint32_t type_number(void) { return below(8) ? below(now.types_length / 6
 static const uint32_t *member_rows(const uint32_t *r) {
     bool within = r[0] == 8 && (uint64_t)r[1] + r[2] <= now.members_length / WULDAZIN_MEMBER_WORDS;
     return within ? now.members + WULDAZIN_MEMBER_WORDS * r[1] : NULL;
-}
-
-/* How many parts the slot walk of a type has, at most PARTS_MOST. */
-static uint32_t parts(uint32_t ty) {
-    static uint32_t of[TYPES_MOST / 6];
-    if (ty >= now.types_length / 6) return 0;
-    for (uint32_t i = 0; i <= ty; i++) {
-        const uint32_t *r = now.types + 6 * i, *m = member_rows(r);
-        of[i] = 1;
-        for (uint32_t j = 0; m && j < r[2]; j++)
-            if (m[WULDAZIN_MEMBER_WORDS * j] < i && of[i] < PARTS_MOST) of[i] += of[m[WULDAZIN_MEMBER_WORDS * j]];
-        if (of[i] > PARTS_MOST) of[i] = PARTS_MOST;
-    }
-    return of[ty];
 }
 
 /* Any steps, or ones that follow the records, some of them with a change. */
@@ -937,7 +922,6 @@ static void one_call(void) {
 
     make_tables();
     uint32_t ty = type_number(), capabilities = capability_word(), rule = rule_word(), count = now.types_length / 6;
-    if ((door == SLOTS || door == CHOOSE) && parts(ty) >= PARTS_MOST) door = CHECK;
     types_seen[now.types_length] = members_seen[now.members_length] = true;
     size_t tl = now.types_length, ml = now.members_length, rl = rows_length(), sl = door == PLACE ? make_steps(list, ty) : 0;
     size_t pl = door == REPORT ? report_length() : 0;

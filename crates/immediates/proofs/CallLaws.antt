@@ -1,27 +1,39 @@
--- Laws of the call: the types of an accepted arena measure within 32 bits, the answer by what the arena check says, and the meaning of
+-- Laws of the call: the sizes in the rows of an accepted arena, the answer by what the arena check says, and the meaning of
 -- both masks slot by slot.
 -- Assumes nothing.
-use mathlib.Core.Path.{_≡_, refl}
+use mathlib.Core.Path.{_≡_, refl, _∙_}
 use mathlib.Core.Bool.{Bool, true, false}
 use mathlib.Core.List.{List}
 use Prim.Native.Nat.{ℕ, _<_, _≤_}
 use native.Mathlib.Omega.{arith}
 use lib.Dec.{T, ltb}
+use lib.ListN.{length}
 use borrow.Author.Tests.{lt-ltb, le-ltb}
 use Rattle.records.specs.Result.{pick}
 use Rattle.records.specs.Record.{decoded, typeCount, typeInner}
 use Rattle.records.specs.declared.Outcome.{Outcome}
 use Rattle.records.specs.declared.Outcome.the-variants.{Accepted, Refused}
+use Rattle.records.specs.Fields.{mostTypes, capabilitiesKnown, tablesFit}
+use Rattle.records.proofs.ResultLaws.{T-true, and-right}
+use Rattle.records.proofs.RecordLaws.{tables-fitting}
 use Rattle.records.proofs.TableLaws.{also-accepted}
 use Rattle.layouter.specs.Layouter.{layoutOutcome}
 use Rattle.flags.specs.Flags.{bit}
-use Rattle.valid.specs.Arena.{judgeOutcome, arenaFits, arenaOutcome, arenaAnswer}
+use Rattle.rows.specs.Rows.{rowWord}
+use Rattle.type_methods.specs.TypeMethods.{sizeOf}
+use Rattle.type_info.specs.declared.UniformRule.{UniformRule}
+use Rattle.type_info.specs.TypeInfo.{wordsOf}
+use Rattle.type_info.specs.Verdict.{leastFor}
+use Rattle.valid.specs.Arena.{judgeOutcome, arenaFits, arenaOutcome, arenaAnswer, arenaWords}
+use Rattle.valid.proofs.CommonLaws.{refused-common}
+use Rattle.valid.proofs.AcceptedLaws.{AcceptedTypes, row-size}
+use Rattle.valid.proofs.WordLaws.{word-left}
 use Rattle.slots.specs.declared.Slots.{Slots}
 use Rattle.slots.specs.declared.Slots.the-variants.{Mask, Past}
 use Rattle.slots.specs.declared.SlotsAnswer.the-variants as answer
 use Rattle.slots.specs.Slots.{slotCount, maskBy, partAnswer}
-use Rattle.type_slots.specs.Walk.{Measured, CoveredBy, slotsAt}
-use Rattle.type_slots.proofs.MeasuredLaws.{layout-measured}
+use Rattle.type_slots.specs.Walk.{CoveredBy, slotsAt}
+use Rattle.type_slots.proofs.MeasuredLaws.{accepted-parts, layout-measured, layout-size}
 use Rattle.type_slots.proofs.SlotLaws.{walk-slot}
 use Rattle.immediates.specs.Immediates.{typeAnswer, slotsAnswer}
 
@@ -30,15 +42,41 @@ behind : (b : Bool) (o : Outcome) → pick b o (Refused 1 0 0 0) ≡ Accepted �
 behind true o e = e
 behind false o e = let z : _≡_ {A = ℕ} 0 1 = cc in absurd (omega arith)
 
-module _ (c : ℕ) (ts ms rows : List ℕ) (accepted : arenaAnswer c ts ms rows ≡ Accepted) where
-  -- the layouter accepts an accepted arena
-  accepted-layouts : layoutOutcome ts ms ≡ Accepted
-  unfolding arenaAnswer arenaOutcome
-  accepted-layouts = also-accepted (layoutOutcome ts ms) (judgeOutcome c ts ms) (behind (arenaFits c ts ms rows) (arenaOutcome c ts ms) accepted) .0
+-- and the test holds
+behind-test : (b : Bool) (o : Outcome) → pick b o (Refused 1 0 0 0) ≡ Accepted → T b
+behind-test true o e = tt
+behind-test false o e = let z : _≡_ {A = ℕ} 0 1 = cc in absurd (omega arith)
 
-  -- each of its types has a measure
-  pub accepted-measured : (i : ℕ) → i < typeCount ts → Measured (typeInner ts i)
-  accepted-measured = layout-measured ts ms accepted-layouts
+module _ (c : ℕ) (ts ms rows : List ℕ) (accepted : arenaAnswer c ts ms rows ≡ Accepted) where
+  -- the layouter and the validator accept an accepted arena
+  accepted-both : (layoutOutcome ts ms ≡ Accepted) × (judgeOutcome c ts ms ≡ Accepted)
+  unfolding arenaAnswer arenaOutcome
+  accepted-both = also-accepted (layoutOutcome ts ms) (judgeOutcome c ts ms) (behind (arenaFits c ts ms rows) (arenaOutcome c ts ms) accepted)
+
+  accepted-types : AcceptedTypes c (decoded ts ms) (typeCount ts)
+  unfolding judgeOutcome
+  accepted-types =
+      record {
+        bounds = λ i h. layout-measured ts ms (accepted-both .0) i h .bounds;
+        layouts = accepted-parts ts ms (accepted-both .0) .1;
+        rows = λ least. refused-common least c (decoded ts ms) (typeCount ts) ∙ accepted-both .1;
+      }
+
+  -- the first word of each of its rows is the type's measure
+  pub accepted-sizes : (rule : UniformRule) (i : ℕ) → i < typeCount ts → rowWord (arenaWords rule c ts ms rows) i 0 ≡ sizeOf (typeInner ts i)
+  unfolding wordsOf
+  accepted-sizes rule i h =
+      word-left rule c ts ms rows accepted i 0 h (omega arith)
+      ∙ row-size (leastFor rule) c (decoded ts ms) (typeCount ts) accepted-types i h
+      ∙ layout-size ts ms (accepted-both .0) i h
+
+  -- it has no more types than an arena may have
+  pub accepted-few : typeCount ts ≤ mostTypes
+  unfolding arenaAnswer
+  accepted-few =
+      let test = behind-test (arenaFits c ts ms rows) (arenaOutcome c ts ms) accepted in
+      let fit = tablesFit (length ts) (length ms) (length rows) in
+      tables-fitting (length ts) (length ms) (length rows) (T-true fit (and-right (capabilitiesKnown c) fit test)) .types
 
   module _ (ty offset : ℕ) where
     -- a type of the arena is walked

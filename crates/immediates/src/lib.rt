@@ -29,7 +29,7 @@ pub fn immediate_slots(
                     detail: 0,
                 };
             }
-            slots::part_answer(type_slots::type_slots(types, members, ty, offset))
+            slots::part_answer(type_slots::type_slots(types, members, rows, ty, offset))
         }
         Outcome::Refused {
             number,

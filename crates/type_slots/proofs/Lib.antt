@@ -1,3 +1,4 @@
 pub mod WalkLaws
 pub mod SlotLaws
 pub mod MeasuredLaws
+pub mod PartsLaws

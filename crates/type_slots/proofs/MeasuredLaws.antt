@@ -1,6 +1,6 @@
--- The types of an arena that the layouter accepts measure within 32 bits.
+-- The types of an arena that the layouter accepts measure within 32 bits, and their layouts have that size.
 -- Assumes nothing.
-use mathlib.Core.Path.{_≡_, refl, sym, _∙_}
+use mathlib.Core.Path.{_≡_, refl, sym, ap, _∙_}
 use mathlib.Core.Bool.{_&&_}
 use mathlib.Core.List.{List}
 use Prim.Native.Nat.{ℕ, _*_, _<_}
@@ -12,11 +12,12 @@ use Rattle.records.specs.Table.{table, resultAt, firstRefusal}
 use Rattle.records.specs.declared.Outcome.the-variants.{Accepted}
 use Rattle.records.specs.declared.TypeInner.{TypeInner}
 use Rattle.records.specs.declared.TypeInner.the-variants.{Plain, Array, RuntimeArray, Struct, Other}
-use Rattle.records.proofs.ResultLaws.{required}
-use Rattle.records.proofs.TableLaws.{also-accepted, all-ok}
+use Rattle.records.proofs.ResultLaws.{required, ok-inj}
+use Rattle.records.proofs.TableLaws.{also-accepted, all-ok, value-ok}
 use Rattle.records.proofs.RecordLaws.{record-bounds}
 use Rattle.type_methods.specs.TypeMethods.{mostSize, sizeOf, trySize}
-use Rattle.layouter.specs.Layouter.{noLayout, layoutStep, layoutAt, layoutOutcome}
+use Rattle.type_alignment.specs.declared.TypeLayout.{TypeLayout}
+use Rattle.layouter.specs.Layouter.{noLayout, layoutStep, layoutAt, layout, layoutOutcome}
 use Rattle.type_layout.proofs.AcceptedParts.{layout-parts}
 use Rattle.type_slots.specs.Walk.{Measured}
 
@@ -32,7 +33,7 @@ measured (Other o) size e = refl
 
 module _ (ts ms : List ℕ) (accepted : layoutOutcome ts ms ≡ Accepted) where
   -- its records and its layouts are accepted
-  accepted-parts : (firstRefusal (recordAt ts ms) (typeCount ts) ≡ Accepted) × (firstRefusal (layoutAt (decoded ts ms)) (typeCount ts) ≡ Accepted)
+  pub accepted-parts : (firstRefusal (recordAt ts ms) (typeCount ts) ≡ Accepted) × (firstRefusal (layoutAt (decoded ts ms)) (typeCount ts) ≡ Accepted)
   unfolding layoutOutcome
   accepted-parts = also-accepted (firstRefusal (recordAt ts ms) (typeCount ts)) (firstRefusal (layoutAt (decoded ts ms)) (typeCount ts)) accepted
 
@@ -46,3 +47,11 @@ module _ (ts ms : List ℕ) (accepted : layoutOutcome ts ms ≡ Accepted) where
         bounds = record-bounds ts ms i (all-ok (recordAt ts ms) (typeCount ts) (accepted-parts .0) i h .1);
         size = measured (typeInner ts i) (made .0 .size) (parts .0);
       }
+
+  -- the size of its layout is that measure
+  pub layout-size : (i : ℕ) → i < typeCount ts → layout (decoded ts ms) i .size ≡ sizeOf (typeInner ts i)
+  unfolding resultAt
+  layout-size i h =
+      let made = all-ok (layoutAt (decoded ts ms)) (typeCount ts) (accepted-parts .1) i h in
+      let parts = layout-parts (table noLayout (layoutStep (decoded ts ms)) i) i (typeInner ts i) (decoded ts ms i .members) (made .0) (made .1) in
+      ap (λ (l : TypeLayout). l .size) (value-ok noLayout (layoutStep (decoded ts ms)) i (made .0) (made .1)) ∙ ok-inj (sym (parts .0) ∙ layout-measured i h .size)

@@ -1,53 +1,13 @@
--- Laws of the walk: the members of a struct one by one, and the slots of a type by what its record says.
+-- Laws of the walk: the slots of earlier and later types, and of a type by what its record says.
 -- Assumes nothing.
 use mathlib.Core.Path.{_≡_, refl, ap}
-use mathlib.Core.Bool.{Bool, true, false}
-use mathlib.Core.List.{List}
-use Prim.Native.Nat.{ℕ, suc, _+_, _<_, _≤_}
-use native.Mathlib.Decide.{le-ind}
-use lib.Dec.{leb}
-use borrow.Author.Tests.{le-leb, lt-leb}
-use Rattle.records.specs.Record.{Decoded, memberType, memberOffset}
+use Prim.Native.Nat.{ℕ, _<_, _≤_}
+use Rattle.records.specs.Record.{Decoded}
 use Rattle.records.specs.Table.{table, valueAt}
-use Rattle.records.proofs.ResultLaws.{pick-alike}
 use Rattle.records.proofs.TableLaws.{table-value, table-above}
-use Rattle.alignment.specs.Alignment.{most}
 use Rattle.slots.specs.declared.Slots.{Slots}
-use Rattle.slots.specs.declared.Slots.the-variants.{Mask, Past}
-use Rattle.slots.specs.Slots.{join}
-use Rattle.type_slots.specs.Walk.{noSlots, slotsStep, slotsOf, slotsAt, membersSlots}
-
--- a part that is refused refuses both
-join-past : (a : Slots) → join a Past ≡ Past
-join-past (Mask m p) = refl
-join-past Past = refl
-
-module _ (earlier : ℕ → ℕ → Slots) (members : List ℕ) (offset : ℕ) where
-  -- a refusal stays
-  past-stays : (j : ℕ) → membersSlots earlier members offset j ≡ Past → (n : ℕ) → j ≤ n → membersSlots earlier members offset n ≡ Past
-  unfolding membersSlots
-  past-stays j e n h = le-ind (λ (m : ℕ). membersSlots earlier members offset m ≡ Past) e (λ m l p. rw p refl) n h
-
-  module _ (j : ℕ) where
-    -- an offset sum that leaves 32 bits
-    pub members-sum-past : most < offset + memberOffset members j → (n : ℕ) → j < n → membersSlots earlier members offset n ≡ Past
-    unfolding membersSlots
-    members-sum-past h = past-stays (suc j) (rw (lt-leb (offset + memberOffset members j) most h) (join-past (membersSlots earlier members offset j)))
-
-    -- a member whose part is refused
-    pub members-part-past : earlier (memberType members j) (offset + memberOffset members j) ≡ Past → (n : ℕ) → j < n
-        → membersSlots earlier members offset n ≡ Past
-    unfolding membersSlots
-    members-part-past e =
-        past-stays (suc j)
-        (rw (e, pick-alike (λ (x : Slots). x) Past (leb (offset + memberOffset members j) most) Past Past refl refl) (join-past (membersSlots earlier members offset j)))
-
-    -- one more member
-    pub members-more : offset + memberOffset members j ≤ most
-        → membersSlots earlier members offset (suc j)
-        ≡ join (membersSlots earlier members offset j) (earlier (memberType members j) (offset + memberOffset members j))
-    unfolding membersSlots
-    members-more h = rw (le-leb (offset + memberOffset members j) most h) refl
+use Rattle.slots.specs.declared.Slots.the-variants.{Past}
+use Rattle.type_slots.specs.Walk.{noSlots, slotsStep, slotsOf, slotsAt}
 
 module _ (types : ℕ → Decoded) (ty : ℕ) where
   -- the slots of an earlier type

@@ -269,9 +269,8 @@ pub fn range(offset: u32, size: u32) -> Result<Slots, Refusal> {
 /// A part is what is no struct, arrays taken whole. Each mask has the slots of all parts: a slot of which two parts cover a
 /// half each is in `partly`.
 ///
-/// The walk visits every member of every nested struct anew: where structs hold others several times over, it may double
-/// with each level. Do not call it on tables of unknown origin without a limit on time. It recurses, at most once a type:
-/// 200 KB of stack.
+/// The walk goes over the members of each struct at most four times, however often other structs hold it. It recurses, at
+/// most once a type, and keeps what it finds of each struct: 600 KB of stack.
 pub fn slots(
     types: &[u32],
     members: &[u32],

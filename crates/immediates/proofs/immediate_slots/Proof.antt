@@ -3,8 +3,9 @@ use borrow.Author.Needs.{needs}
 use mathlib.Core.Path.{sym, ap, _∙_}
 use native.Mathlib.Omega.{arith}
 use denote.Ref.{now}
+use Rattle.rows.specs.Rows.{rowWord}
 use Rattle.slots.specs.Slots.{partAnswer}
-use Rattle.immediates.proofs.CallLaws.{accepted-measured, answer-walked, answer-outside, answer-refused}
+use Rattle.immediates.proofs.CallLaws.{accepted-sizes, accepted-few, answer-walked, answer-outside, answer-refused}
 use Rattle.immediates.proofs.immediate_slots.Statement.{statement}
 use Rattle.immediates.proofs.immediate_slots.Tie as tie
 
@@ -17,16 +18,19 @@ returns c =
 
 type-slots-requires : tie.Need-type-slots-requires
 type-slots-requires c κs =
-    let a = c .before .before .before .before .before .before .before .before .before .before .args in
-    let accepted = sym (c .before .before .before .before .before .check .ensures .0) ∙ c .before .enum-told .given .1 in
-    λ i h. accepted-measured (a .capabilities) (now (a .types)) (now (a .members)) (now (a .rows)) accepted i (omega (arith, h, c .if1 .left))
+    let a = c .before .before .before .before .before .before .before .before .before .before .before .args in
+    let check = c .before .before .before .before .before .before .check .ensures in
+    let accepted = sym (check .0) ∙ c .before .before .enum-told .given .1 in
+    let few = accepted-few (a .capabilities) (now (a .types)) (now (a .members)) (now (a .rows)) accepted in
+    let outside = c .before .if1 .left in
+    (λ i h. ap (λ w. rowWord w i 0) (check .1) ∙ accepted-sizes (a .capabilities) (now (a .types)) (now (a .members)) (now (a .rows)) accepted (a .rule) i (omega (arith, h, outside)), omega (arith, few, outside))
 
 returns-2 : tie.Need-returns-2
 returns-2 c =
-    let a = c .before .before .before .before .before .before .before .before .before .before .before .before .args in
-    let check = c .before .before .before .before .before .before .before .check .ensures in
-    let accepted = sym (check .0) ∙ c .before .before .before .enum-told .given .1 in
-    (c .part-answer .ensures ∙ ap partAnswer (c .before .type-slots .ensures) ∙ sym (answer-walked (a .capabilities) (now (a .types)) (now (a .members)) (now (a .rows)) accepted (a .ty) (a .offset) (c .before .before .if1 .left)), check .1)
+    let a = c .before .before .before .before .before .before .before .before .before .before .before .before .before .args in
+    let check = c .before .before .before .before .before .before .before .before .check .ensures in
+    let accepted = sym (check .0) ∙ c .before .before .before .before .enum-told .given .1 in
+    (c .part-answer .ensures ∙ ap partAnswer (c .before .type-slots .ensures) ∙ sym (answer-walked (a .capabilities) (now (a .types)) (now (a .members)) (now (a .rows)) accepted (a .ty) (a .offset) (c .before .before .before .if1 .left)), check .1)
 
 returns-3 : tie.Need-returns-3
 returns-3 c =
