@@ -32,6 +32,8 @@ mod growth;
 mod guarded;
 mod held;
 mod histogram;
+#[cfg(all(feature = "check", feature = "slots", feature = "place"))]
+mod large_bench;
 mod leaves;
 #[cfg(test)]
 mod marked;
@@ -122,7 +124,7 @@ const USAGE: &str = "usage: layout COUNT [SEED]
        spirv COUNT [SEED]                       (feature spirv)
        replay COUNT [SEED [STDIN STDOUT]]       (features slots, place, members)
        member_records COUNT SEED FOLDER         (features slots, place)
-       bench                                    (features check, slots, place)
+       bench | bench_large                      (features check, slots, place)
        bench_wgsl                               (feature wgsl)
        bench_short                              (feature short)
        theorem COUNT [SEED] | histogram COUNT [SEED] | show SEED INDEX";
@@ -134,6 +136,11 @@ fn main() -> ExitCode {
     #[cfg(all(feature = "check", feature = "slots", feature = "place"))]
     if command == Some("bench") {
         bench::bench();
+        return ExitCode::SUCCESS;
+    }
+    #[cfg(all(feature = "check", feature = "slots", feature = "place"))]
+    if command == Some("bench_large") {
+        large_bench::bench();
         return ExitCode::SUCCESS;
     }
     #[cfg(feature = "wgsl")]

@@ -46,15 +46,7 @@ pub fn all() -> Vec<(&'static str, Arena)> {
             "1022 structs {f32, array<f32>}",
             small_structs(RUNTIME_F32, &[], &[F32_AT_0, member(1, 4)], 8),
         ),
-        (
-            "1022 structs of 4 f32",
-            small_structs(
-                F32,
-                &[],
-                &[F32_AT_0, member(0, 4), member(0, 8), member(0, 12)],
-                16,
-            ),
-        ),
+        ("1022 structs of 4 f32", structs_of_f32()),
         ("plain kinds only, mixed", plain_types()),
         (
             "plain kinds only, one kind after the other",
@@ -62,6 +54,11 @@ pub fn all() -> Vec<(&'static str, Arena)> {
         ),
         ("arrays only", grown(|builder| builder.array())),
     ]
+}
+
+pub fn structs_of_f32() -> Arena {
+    let members = [F32_AT_0, member(0, 4), member(0, 8), member(0, 12)];
+    small_structs(F32, &[], &members, 16)
 }
 
 /// One struct of all member rows but those of `first`: type 1, which is `first`,
