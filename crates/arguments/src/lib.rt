@@ -5,7 +5,8 @@ ghost use mathlib.Core.Path.{_≡_};
 ghost use Prim.Native.Nat.{_≤_};
 ghost use lib.ListN.{length, drop};
 ghost use Rattle.words.specs.Words.{words};
-ghost use Rattle.arguments.specs.Arguments.{numbersOf, numbersIn, countOf, NumberAt};
+ghost use Rattle.arguments.specs.Arguments.{numbersOf};
+ghost use Rattle.arguments.specs.Serving.{numbersIn, countOf, NumberAt};
 
 pub enum Command {
     Capabilities,

@@ -10,7 +10,7 @@ use borrow.Author.Tests.{ltb-true}
 use Rattle.records.specs.Result.{ok, pick}
 use Rattle.records.specs.Record.{Decoded, memberType, memberOffset}
 use Rattle.records.specs.Table.{table}
-use Rattle.records.specs.Fields.{InnerBounds}
+use Rattle.records.specs.Serving.{InnerBounds}
 use Rattle.records.specs.declared.Leaf.{Leaf}
 use Rattle.records.specs.declared.Leaf.the-variants.{Scalar, Vector, Matrix, CooperativeMatrix, Atomic, RayQuery}
 use Rattle.records.specs.declared.NonData.{NonData}
@@ -31,7 +31,8 @@ use Rattle.term3.specs.Term3.{StridesCover, itself, element, runtimeElement, me
 use Rattle.term3.proofs.ColumnLaws.{columned, length-reach}
 use Rattle.term3.proofs.StepLaws.{contained, leaf-reaches}
 use Rattle.carried.specs.Count.{count, some, sum}
-use Rattle.carried.specs.Carried.{partHas, leafHas, inLeafOf, inLeaf, carried, leafCarried}
+use Rattle.carried.specs.Carried.{partHas, leafHas, inLeafOf, inLeaf, carried}
+use Rattle.carried.specs.Serving.{leafCarried}
 use Rattle.carried.proofs.CountLaws.{count-not, count-none, count-alike, count-below, count-past, Parts, count-parts, sum-alike, sum-same}
 use Rattle.carried.proofs.LeafLaws.{before, in-leaf-is, before-is, held}
 

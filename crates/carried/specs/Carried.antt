@@ -53,10 +53,6 @@ carried types t = count (inLeaf types t) (sizeOf (types t .inner))
 unfoldable pub wasted : (types : ℕ → Decoded) → (t : ℕ) → ℕ
 wasted types t = count (λ k. not (inLeaf types t k)) (sizeOf (types t .inner))
 
--- ---- the carried bytes as sums of the leaves' lengths: what the code works out
-abbrev pub leafCarried : Leaf → (size : ℕ) → ℕ
-leafCarried leaf size = pick (isWhole leaf) size (columnCount leaf * leafLength leaf size)
-
 -- ---- number 27: whether type t reaches an array with a stride below its element's size
 unfoldable pub narrowOf : (size : ℕ → ℕ) (earlier : ℕ → Bool) → TypeInner → (members : List ℕ) → Bool
 narrowOf size earlier (Plain leaf) members = false

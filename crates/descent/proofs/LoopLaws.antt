@@ -10,10 +10,11 @@ use lib.Seq.{drop-cons}
 use borrow.Author.Tests.{le-ltb}
 use Rattle.records.specs.Result.{pick}
 use Rattle.records.specs.Record.{typeCount, typeInner, decoded}
-use Rattle.records.specs.Fields.{InnerBounds}
+use Rattle.records.specs.Serving.{InnerBounds}
 use Rattle.steps.specs.declared.Step.the-variants.{To, Column, NoStep}
 use Rattle.descent.specs.declared.Place.the-variants.{At, NoPlace}
-use Rattle.descent.specs.Place.{ended, follow, stepIn, leafIn, placeIn, placeOf, Descends}
+use Rattle.descent.specs.Place.{ended, follow, stepIn, leafIn, placeIn, placeOf}
+use Rattle.descent.specs.Serving.{Descends}
 use Rattle.descent.proofs.WalkLaws.{place-from}
 
 -- where the loop stands after i steps: the rest of the steps from here lead where all of them lead from the start

@@ -2,13 +2,11 @@
 -- and member records, the start and the steps, never a row.
 -- Assumes nothing.
 use mathlib.Core.Bool.{Bool}
-use mathlib.Core.Path.{_≡_}
 use mathlib.Core.List.{List, [], _∷_}
-use Prim.Native.Nat.{ℕ, _+_, _^_, _≤_, _<_}
+use Prim.Native.Nat.{ℕ, _+_}
 use lib.Dec.{ltb}
 use Rattle.records.specs.Result.{pick}
 use Rattle.records.specs.Record.{typeCount, Decoded, decoded}
-use Rattle.records.specs.Fields.{InnerBounds}
 use Rattle.steps.specs.Steps.{isLeaf, stepOf}
 use Rattle.steps.specs.declared.Step.{Step}
 use Rattle.steps.specs.declared.Step.the-variants.{To, Column, NoStep}
@@ -44,13 +42,3 @@ placeIn types = walk (stepIn types) (leafIn types)
 -- at first the start and 0. Another start, or steps too few, too many or out of range, is no place
 unfoldable pub placeOf : (ts ms : List ℕ) → (start : ℕ) → (steps : List ℕ) → Place
 placeOf ts ms start steps = pick (ltb start (typeCount ts)) (placeIn (decoded ts ms) start 0 steps) NoPlace
-
--- ---- what the code asks of the n types of an arena, so that no byte place passes 64 bits
--- most t: the bytes that steps from type t add at most, in all. A step leads to a type of the arena, and what it adds and the most from
--- there are within the most from here; so is what a step to a column adds. The fields are within the bounds that number 2 leaves
-pub record Descends (types : ℕ → Decoded) (n : ℕ) : Type 0 where
-  pub most : ℕ → ℕ
-  pub fits : (t : ℕ) → t < n → most t < 2 ^ 64
-  pub step : (t s ty bytes : ℕ) → t < n → stepIn types t s ≡ To ty bytes → (ty < n) × (bytes + most ty ≤ most t)
-  pub column : (t s bytes : ℕ) → t < n → stepIn types t s ≡ Column bytes → bytes ≤ most t
-  pub bounds : (t : ℕ) → t < n → InnerBounds (types t .inner)

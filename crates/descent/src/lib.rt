@@ -2,9 +2,10 @@
 use steps::Step;
 ghost use mathlib.Core.Path.{_≡_};
 ghost use Rattle.records.specs.Record.{typeCount, typeInner, decoded};
-ghost use Rattle.records.specs.Fields.{InnerBounds};
+ghost use Rattle.records.specs.Serving.{InnerBounds};
 ghost use Rattle.steps.specs.Steps.{isLeaf};
-ghost use Rattle.descent.specs.Place.{stepIn, placeOf, Descends};
+ghost use Rattle.descent.specs.Place.{stepIn, placeOf};
+ghost use Rattle.descent.specs.Serving.{Descends};
 
 // The byte place of a leaf and its type; of a column, the matrix's type.
 pub enum Place {

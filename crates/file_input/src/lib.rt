@@ -2,7 +2,7 @@
 ghost use mathlib.Core.Path.{_≡_};
 ghost use Prim.Native.Nat.{_≤_};
 ghost use lib.ListN.{length};
-ghost use Rattle.file_input.specs.Held.{HeldWithin};
+ghost use Rattle.file_input.specs.Serving.{HeldWithin};
 
 const STDIN: i32 = 0;
 

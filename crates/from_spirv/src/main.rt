@@ -4,7 +4,7 @@ use spirv::Section;
 ghost use mathlib.Core.Path.{_≡_};
 ghost use Prim.Native.Nat.{_≤_};
 ghost use lib.ListN.{length};
-ghost use Rattle.from_spirv.specs.Held.{HeldWithin};
+ghost use Rattle.from_spirv.specs.Serving.{HeldWithin};
 
 const STDOUT: i32 = 1;
 

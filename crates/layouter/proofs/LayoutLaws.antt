@@ -15,14 +15,16 @@ use Rattle.records.specs.declared.Outcome.{Outcome}
 use Rattle.records.specs.declared.Outcome.the-variants.{Accepted, Refused}
 use Rattle.records.proofs.ResultLaws.{and-then-ok}
 use Rattle.records.proofs.TableLaws.{table-value, table-above, value-ok, flat-length, flat-word, all-ok, accepted-all, also-accepted, outcome-accepted}
-use Rattle.rows.specs.Rows.{rowWord, withRow, cleared}
+use Rattle.rows.specs.Rows.{rowWord, cleared}
+use Rattle.rows.specs.Serving.{withRow}
 use Rattle.rows.proofs.RowLaws.{flat-more, drop-part}
 use Rattle.type_alignment.specs.declared.TypeLayout.{TypeLayout}
-use Rattle.type_alignment.specs.TypeAlignment.{layoutsIn}
+use Rattle.type_alignment.specs.Serving.{layoutsIn}
 use Rattle.type_layout.specs.declared.Laid.{Laid}
 use Rattle.type_layout.specs.declared.Laid.the-variants as laid
-use Rattle.type_layout.specs.TypeLayout.{recordLayout, laidResult}
-use Rattle.layouter.specs.Layouter.{noLayout, layoutStep, layoutAt, layout, layoutOutcome, recordThenLayout, layoutRowAt, rowsAfter, wordsAfter}
+use Rattle.type_layout.specs.Serving.{recordLayout, laidResult}
+use Rattle.layouter.specs.Layouter.{noLayout, layoutStep, layoutAt, layout, layoutOutcome, layoutRowAt, rowsAfter}
+use Rattle.layouter.specs.Serving.{recordThenLayout, wordsAfter}
 
 -- the tests of numbers 2 and 3 and then the rest, apart or in one
 all-required : (located two three : Bool) (rest : Result TypeLayout)

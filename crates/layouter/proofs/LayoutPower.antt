@@ -6,7 +6,8 @@ use Prim.Native.Nat.{ℕ, _<_}
 use native.Mathlib.Nat.{le-refl}
 use Rattle.records.specs.Result.{ok}
 use Rattle.records.specs.Record.{Decoded, decoded, typeCount}
-use Rattle.records.specs.Fields.{InnerBounds, recordAt}
+use Rattle.records.specs.Fields.{recordAt}
+use Rattle.records.specs.Serving.{InnerBounds}
 use Rattle.records.specs.Table.{firstRefusal}
 use Rattle.records.specs.declared.Outcome.the-variants.{Accepted}
 use Rattle.records.proofs.TableLaws.{value-holds, all-ok, also-accepted}

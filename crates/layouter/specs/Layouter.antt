@@ -4,16 +4,14 @@
 use mathlib.Core.List.{List, _++_}
 use Prim.Native.Nat.{ℕ, _*_}
 use lib.ListN.{length, drop}
-use Rattle.records.specs.Result.{Result, pick, andThen}
+use Rattle.records.specs.Result.{Result, pick}
 use Rattle.records.specs.Record.{Decoded, decoded, typeCount}
 use Rattle.records.specs.Fields.{rowWords, tablesFit, recordAt}
 use Rattle.records.specs.Table.{resultAt, valueAt, also, firstRefusal, flat}
 use Rattle.records.specs.declared.Outcome.{Outcome}
 use Rattle.records.specs.declared.Outcome.the-variants.{Accepted, Refused}
-use Rattle.rows.specs.Rows.{layoutRow, withRow, cleared}
+use Rattle.rows.specs.Rows.{layoutRow, cleared}
 use Rattle.type_alignment.specs.declared.TypeLayout.{TypeLayout}
-use Rattle.type_layout.specs.declared.Laid.{Laid}
-use Rattle.type_layout.specs.declared.Laid.the-variants as laid
 use Rattle.type_layout.specs.TypeLayout.{layoutOf}
 
 -- in the place of a layout that is not made yet
@@ -55,13 +53,3 @@ layoutWords ts ms rows =
     pick (tablesFit (length ts) (length ms) (length rows))
     (rowsAfter (layoutOutcome ts ms) (layoutRows ts ms (typeCount ts)) (typeCount ts) rows)
     rows
-
--- ---- what the code answers
--- numbers 2 to 7 of type i in one, in the order of one type
-abbrev pub recordThenLayout : (ts ms : List ℕ) → ℕ → Result TypeLayout
-recordThenLayout ts ms i = andThen (recordAt ts ms i) (λ _. layoutAt (decoded ts ms) i)
-
--- what the layout of one type, to be written from `at` on, makes of the lent words
-abbrev pub wordsAfter : Laid → (at : ℕ) → List ℕ → List ℕ
-wordsAfter (laid.Layout l) at words = withRow words at (layoutRow (l .size) (l .alignment))
-wordsAfter (laid.Refused number member) at words = words

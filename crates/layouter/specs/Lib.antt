@@ -1,1 +1,2 @@
 pub mod Layouter
+pub mod Serving

@@ -6,9 +6,10 @@ ghost use Prim.Native.Nat.{_+_, _*_, _≤_, _<_};
 ghost use lib.ListN.{length, take};
 ghost use Rattle.records.specs.Record.{typeCount};
 ghost use Rattle.records.specs.Table.{also, firstRefusal};
-ghost use Rattle.type_alignment.specs.TypeAlignment.{layoutsIn};
-ghost use Rattle.type_layout.specs.TypeLayout.{recordLayout, laidResult};
-ghost use Rattle.layouter.specs.Layouter.{wordsAfter, recordThenLayout, layoutRows, rowsAfter, layoutOutcome, layoutAnswer, layoutWords};
+ghost use Rattle.type_alignment.specs.Serving.{layoutsIn};
+ghost use Rattle.type_layout.specs.Serving.{recordLayout, laidResult};
+ghost use Rattle.layouter.specs.Layouter.{layoutRows, rowsAfter, layoutOutcome, layoutAnswer, layoutWords};
+ghost use Rattle.layouter.specs.Serving.{wordsAfter, recordThenLayout};
 
 // The first refusal, or else the second.
 fn first_of(first: Outcome, second: Outcome) -> Outcome

@@ -1,1 +1,2 @@
 pub mod MemberBounds
+pub mod Serving

@@ -6,7 +6,7 @@ use mathlib.Core.List.{List}
 use Prim.Native.Nat.{ℕ, zero, suc, _+_}
 use lib.Bits.{bitAnd}
 use lib.Dec.{eqb, leb}
-use Rattle.records.specs.Result.{Result, err, ok, pick, require, andThen}
+use Rattle.records.specs.Result.{Result, ok, pick, require, andThen}
 use Rattle.records.specs.Record.{memberType, memberOffset, structKind}
 use Rattle.records.specs.declared.TypeInner.{TypeInner}
 use Rattle.records.specs.declared.TypeInner.the-variants.{Plain, Array, RuntimeArray, Struct, Other}
@@ -15,8 +15,6 @@ use Rattle.flags.specs.Flags.{bit, dataBit, sizedBit, creationResolvedBit, star
 use Rattle.type_info.specs.declared.Previous.{Previous}
 use Rattle.type_info.specs.Verdict.{previousOf, distanceOk}
 use Rattle.member_bounds.specs.declared.Bounds.{Bounds}
-use Rattle.member_bounds.specs.declared.Bounded.{Bounded}
-use Rattle.member_bounds.specs.declared.Bounded.the-variants.{Within, Refused}
 
 abbrev pub isArray : TypeInner → Bool
 isArray (Plain leaf) = false
@@ -64,8 +62,3 @@ boundsAfter inner sizes flags count span members zero = ok (record { end = 0; fl
 boundsAfter inner sizes flags count span members (suc j) =
     andThen (boundsAfter inner sizes flags count span members j)
     (memberBounds count span (previousOf inner members j) (inner (memberType members j)) (memberOffset members j) j (sizes (memberType members j)) (flags (memberType members j)))
-
--- what the code answers
-abbrev pub boundedResult : (j : ℕ) → Bounded → Result Bounds
-boundedResult j (Within b) = ok b
-boundedResult j (Refused number) = err number j 0

@@ -2,8 +2,9 @@
 use type_info::Distance;
 ghost use mathlib.Core.Path.{_≡_};
 ghost use Rattle.records.specs.Record.{typeInner};
-ghost use Rattle.type_info.specs.Verdict.{isWithin};
-ghost use Rattle.member_bounds.specs.MemberBounds.{isArray, isMemberData, isApart, isMemberSized, memberFlags, boundsBy, boundedResult};
+ghost use Rattle.type_info.specs.Serving.{isWithin};
+ghost use Rattle.member_bounds.specs.MemberBounds.{isArray, isMemberData, isApart, isMemberSized, memberFlags, boundsBy};
+ghost use Rattle.member_bounds.specs.Serving.{boundedResult};
 
 // The running end and the flags after some members.
 pub struct Bounds {

@@ -11,7 +11,7 @@ use Rattle.type_info.specs.declared.Distance.{Distance}
 use Rattle.type_info.specs.declared.Distance.the-variants.{Enough, Short, Overflow}
 use Rattle.type_info.specs.declared.Previous.the-variants.{NoStruct}
 use Rattle.type_info.specs.Verdict.{structAt}
-use Rattle.member_rules.specs.MemberRules.{isEnough}
+use Rattle.member_rules.specs.Serving.{isEnough}
 
 -- what is no struct is none before the next member
 pub no-struct-kind : (k a b c d e offset : ℕ) → (k ≡ structKind → ⊥) → structAt (innerOf k a b c d e) offset ≡ NoStruct

@@ -7,8 +7,10 @@ use Rattle.type_info.specs.declared.Row.{Row}
 use Rattle.type_info.specs.declared.Verdict.{Verdict}
 use Rattle.type_info.specs.declared.Previous.{Previous}
 use Rattle.type_info.specs.declared.Distance.{Distance}
-use Rattle.type_info.specs.Verdict.{afterDistance, distanceVerdict, unsizedVerdict}
-use Rattle.member_rules.specs.MemberRules.{uniformBy, memberUniform}
+use Rattle.type_info.specs.Verdict.{distanceVerdict, unsizedVerdict}
+use Rattle.type_info.specs.Serving.{afterDistance}
+use Rattle.member_rules.specs.MemberRules.{memberUniform}
+use Rattle.member_rules.specs.Serving.{uniformBy}
 
 -- the uniform verdict by a distance that says what the rule says is the rule's
 pub uniform-by : (least : ℕ) (d : Distance) (previous : Previous) (i j t offset : ℕ) (r : Row) (so-far : Verdict)

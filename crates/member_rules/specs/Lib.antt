@@ -1,1 +1,2 @@
 pub mod MemberRules
+pub mod Serving

@@ -1,20 +1,17 @@
 -- 01, 'The result row': a struct, member by member: the verdicts. `rows` are the rows of the types before type i. Acceptance and flags are
 -- in member_bounds.
 -- Assumes nothing.
-use mathlib.Core.Bool.{Bool, true, false, _&&_}
 use mathlib.Core.List.{List}
 use Prim.Native.Nat.{ℕ, zero, suc}
 use lib.Dec.{eqb}
 use Rattle.records.specs.Result.{pick}
 use Rattle.records.specs.Record.{memberType, memberOffset}
 use Rattle.records.specs.declared.TypeInner.{TypeInner}
-use Rattle.flags.specs.Flags.{bit, dataBit, sizedBit, hostShareableBit, creationResolvedBit}
+use Rattle.flags.specs.Flags.{bit, sizedBit, hostShareableBit}
 use Rattle.type_info.specs.declared.Verdict.{Verdict}
 use Rattle.type_info.specs.declared.Previous.{Previous}
 use Rattle.type_info.specs.declared.Row.{Row}
-use Rattle.type_info.specs.declared.Distance.{Distance}
-use Rattle.type_info.specs.declared.Distance.the-variants.{Enough, Short, Overflow}
-use Rattle.type_info.specs.Verdict.{okVerdict, shareVerdict, memberVerdict, previousOf, distanceVerdict, afterDistance, unsizedVerdict, minStorage}
+use Rattle.type_info.specs.Verdict.{okVerdict, shareVerdict, memberVerdict, previousOf, distanceVerdict, unsizedVerdict, minStorage}
 
 -- ---- verdicts: what member j, of type t with row r, makes of those so far
 abbrev pub memberUniform : (least i j t offset : ℕ) → Previous → Row → Verdict → Verdict
@@ -45,20 +42,3 @@ storageAfter rows i members (suc j) =
 unfoldable pub immediatesAfter : (rows : ℕ → Row) (members : List ℕ) → ℕ → ℕ
 immediatesAfter rows members zero = 0
 immediatesAfter rows members (suc j) = memberImmediates (rows (memberType members j) .immediates) (immediatesAfter rows members j)
-
--- ---- what the code answers, and what it has
--- the uniform verdict by the distance that the code has
-abbrev pub uniformBy : (least : ℕ) → Distance → (i j t offset : ℕ) → Row → Verdict → Verdict
-uniformBy least d i j t offset r so-far =
-    unsizedVerdict (bit (r .flags) sizedBit) i j
-    (afterDistance least d i j offset (memberVerdict i j offset (shareVerdict (bit (r .flags) hostShareableBit) t so-far) (r .uniform)))
-
--- the flags of a plain member
-abbrev pub isPlain : (flags : ℕ) → Bool
-isPlain flags = bit flags dataBit && bit flags sizedBit && bit flags hostShareableBit && bit flags creationResolvedBit
-
--- a distance that leaves the verdict as it is
-abbrev pub isEnough : Distance → Bool
-isEnough Enough = true
-isEnough (Short expected) = false
-isEnough Overflow = false

@@ -8,7 +8,8 @@ ghost use Prim.Native.Nat.{_+_, _<_};
 ghost use Rattle.records.specs.Record.{typeInner};
 ghost use Rattle.type_info.specs.Verdict.{structAt};
 ghost use Rattle.type_info.specs.declared.Previous.the-variants.{NoStruct};
-ghost use Rattle.member_rules.specs.MemberRules.{memberStorage, memberImmediates, uniformBy, isPlain, isEnough};
+ghost use Rattle.member_rules.specs.MemberRules.{memberStorage, memberImmediates};
+ghost use Rattle.member_rules.specs.Serving.{uniformBy, isPlain, isEnough};
 
 // The struct that a member of type t is, for the distance of the next one.
 pub fn struct_at(types: &[u32], t: u32, offset: u32) -> Previous

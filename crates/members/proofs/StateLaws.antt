@@ -26,11 +26,11 @@ use Rattle.type_info.specs.Verdict.{structAt, previousOf, okVerdict}
 use Rattle.member_bounds.specs.MemberBounds.{isArray, memberBounds, boundsAfter}
 use Rattle.member_rules.specs.MemberRules.{uniformAfter, storageAfter, immediatesAfter, memberImmediates}
 use Rattle.plain_members.specs.declared.PlainState.{PlainState}
-use Rattle.plain_members.specs.PlainMembers.{leastOf, plainBounds, PlainAfter}
+use Rattle.plain_members.specs.Serving.{leastOf, plainBounds, PlainAfter}
 use Rattle.members.specs.declared.Members.{Members}
 use Rattle.members.specs.declared.Members.the-variants as members
 use Rattle.members.specs.declared.Members.the-variants.{Taken}
-use Rattle.members.specs.Members.{stateAfter, memberStep, membersResult, isClean, Told}
+use Rattle.members.specs.Serving.{stateAfter, memberStep, membersResult, isClean, Told}
 
 module _ (least : ℕ) (inner : ℕ → TypeInner) (rows : ℕ → Row) (i count span : ℕ) (part : List ℕ) where
   -- one member more

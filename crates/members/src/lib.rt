@@ -16,9 +16,9 @@ ghost use Rattle.type_info.specs.declared.UniformRule as rule;
 ghost use Rattle.type_info.specs.TypeInfo.{rowsIn, verdictIn};
 ghost use mathlib.Core.Bool.{false};
 ghost use Rattle.type_info.specs.Verdict.{leastFor, okVerdict, isOk, shareVerdict, memberVerdict, structAt, previousOf};
-ghost use Rattle.plain_members.specs.PlainMembers.{leastOf};
+ghost use Rattle.plain_members.specs.Serving.{leastOf};
 ghost use Rattle.member_bounds.specs.MemberBounds.{isArray};
-ghost use Rattle.members.specs.Members.{memberStep, stateAfter, steppedResult, membersResult, InOrder, orderedStep, isClean, WayFits};
+ghost use Rattle.members.specs.Serving.{memberStep, stateAfter, steppedResult, membersResult, InOrder, orderedStep, isClean, WayFits};
 
 // What is known after some members.
 pub struct State {

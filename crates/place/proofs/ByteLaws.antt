@@ -9,7 +9,8 @@ use native.Mathlib.Omega.{arith}
 use lib.Dec.{T, leb, leb→le}
 use Rattle.records.specs.Result.{ok, pick}
 use Rattle.records.specs.Record.{Decoded}
-use Rattle.records.specs.Fields.{mostTypes, LeafBounds, InnerBounds}
+use Rattle.records.specs.Fields.{mostTypes}
+use Rattle.records.specs.Serving.{LeafBounds, InnerBounds}
 use Rattle.records.specs.Table.{table}
 use Rattle.records.specs.declared.Leaf.{Leaf}
 use Rattle.records.specs.declared.Leaf.the-variants.{Scalar, Vector, Matrix, CooperativeMatrix, Atomic, RayQuery}
@@ -30,7 +31,8 @@ use Rattle.valid.proofs.AcceptedLaws.{AcceptedTypes, base-sized, runtime-array-
 use Rattle.steps.specs.declared.Step.the-variants.{To, Column}
 use Rattle.steps.specs.Columns.{columnCount}
 use Rattle.steps.specs.Steps.{stepOf}
-use Rattle.descent.specs.Place.{stepIn, Descends}
+use Rattle.descent.specs.Place.{stepIn}
+use Rattle.descent.specs.Serving.{Descends}
 use Rattle.descent.proofs.WalkLaws.{plain-step, array-step, runtime-array-step, struct-step, other-step, column-step}
 use Rattle.place.proofs.DescentLaws.{descent}
 

@@ -17,7 +17,7 @@ use Rattle.records.proofs.ResultLaws.{T-true, and-left}
 use Rattle.records.proofs.RecordLaws.{tables-fitting}
 use Rattle.valid.specs.Arena.{arenaOutcome, arenaAnswer, arena}
 use Rattle.valid.proofs.ArenaLaws.{arena-parts, accepted-types}
-use Rattle.descent.specs.Place.{Descends}
+use Rattle.descent.specs.Serving.{Descends}
 use Rattle.place.proofs.ByteLaws.{accepted-descends}
 
 -- ---- an arena that is accepted with the lent rows is accepted

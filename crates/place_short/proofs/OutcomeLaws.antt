@@ -18,7 +18,8 @@ use Rattle.records.proofs.TableLaws.{also-accepted, outcome-accepted, all-ok, a
 use Rattle.layouter.specs.Layouter.{layoutAt, layoutOutcome}
 use Rattle.valid.specs.Arena.{commonAt, judgeOutcome, arenaOutcome, arena}
 use Rattle.place_short_layout.specs.ShortRows.{shortWidth}
-use Rattle.place_short.specs.Short.{lengthsFit, shortFits, shortAnswer, scratchAfter, threeResult}
+use Rattle.place_short.specs.Short.{lengthsFit, shortFits, shortAnswer, scratchAfter}
+use Rattle.place_short.specs.Serving.{threeResult}
 use Rattle.place_short.proofs.ShortLaws.{layoutThenRow, three-refusal}
 
 pub not-accepted : {number ty member detail : ℕ} → Refused number ty member detail ≡ Accepted → ⊥

@@ -25,7 +25,8 @@ use Rattle.validate_type.specs.ValidateType.{flagsOf, rowWith, judgeCommon}
 use Rattle.valid.specs.Arena.{commonStep, commonAt, common}
 use Rattle.place_short_layout.specs.ShortRows.{shortWidth, shortWord, threeWords, shortLayouts}
 use Rattle.place_short_flags.specs.ShortFlags.{shortSizes, shortFlags}
-use Rattle.place_short.specs.Short.{threeAt, layoutFrom, threeFrom, threeResult, laidFrom, writtenAfter}
+use Rattle.place_short.specs.Short.{threeAt}
+use Rattle.place_short.specs.Serving.{layoutFrom, threeFrom, threeResult, laidFrom, writtenAfter}
 
 -- ---- three words for each type, whatever they are
 module _ (three : ℕ → List ℕ) (wide : (i : ℕ) → length (three i) ≡ shortWidth) where

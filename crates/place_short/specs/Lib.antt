@@ -1,2 +1,3 @@
 pub mod Short
 pub mod SamePlaces
+pub mod Serving

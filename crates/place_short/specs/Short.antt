@@ -6,21 +6,17 @@ use mathlib.Core.List.{List, _++_}
 use Prim.Native.Nat.{ℕ, _*_, _/_}
 use lib.Dec.{leb}
 use lib.ListN.{length, drop}
-use Rattle.records.specs.Result.{Result, err, ok, pick, andThen}
-use Rattle.records.specs.Record.{typeWords, typeCount, typeInner, structMembers, decoded}
+use Rattle.records.specs.Result.{pick}
+use Rattle.records.specs.Record.{typeWords, typeCount, decoded}
 use Rattle.records.specs.Fields.{rowWords, tablesFit, capabilitiesKnown}
 use Rattle.records.specs.Table.{flat}
 use Rattle.records.specs.declared.Outcome.{Outcome}
 use Rattle.records.specs.declared.Outcome.the-variants.{Accepted, Refused}
-use Rattle.rows.specs.Rows.{withPart, cleared}
-use Rattle.type_alignment.specs.declared.TypeLayout.{TypeLayout}
-use Rattle.type_layout.specs.TypeLayout.{layoutOf}
-use Rattle.validate_type.specs.ValidateType.{flagsOf}
+use Rattle.rows.specs.Rows.{cleared}
 use Rattle.valid.specs.Arena.{common, arenaOutcome}
 use Rattle.place.specs.declared.PlaceAnswer.{PlaceAnswer}
 use Rattle.place.specs.Place.{startAnswer}
-use Rattle.place_short_layout.specs.ShortRows.{shortWidth, threeWords, shortLayouts}
-use Rattle.place_short_flags.specs.ShortFlags.{shortSizes, shortFlags}
+use Rattle.place_short_layout.specs.ShortRows.{shortWidth, threeWords}
 
 -- ---- the call
 -- the three words of type i
@@ -50,26 +46,3 @@ scratchAfter (Refused number ty member detail) c ts ms n words = cleared words (
 -- number 1 touches nothing
 unfoldable pub shortWords : (c : ℕ) (ts ms scratch : List ℕ) → List ℕ
 shortWords c ts ms scratch = pick (shortFits c ts ms scratch) (scratchAfter (arenaOutcome c ts ms) c ts ms (typeCount ts) scratch) scratch
-
--- ---- what the code answers
--- the three words of type i, or its refusal, from the words of the types before it
-abbrev pub layoutFrom : (ts ms words : List ℕ) → ℕ → Result TypeLayout
-layoutFrom ts ms words i = layoutOf (shortLayouts words) i (typeInner ts i) (structMembers ts ms i)
-
-unfoldable pub threeFrom : (c : ℕ) (ts ms words : List ℕ) → ℕ → Result (List ℕ)
-threeFrom c ts ms words i =
-    andThen (layoutFrom ts ms words i)
-    (λ l. andThen (flagsOf c (typeInner ts) (shortSizes words) (shortFlags words) (typeInner ts i) (structMembers ts ms i)) (λ flags. ok (threeWords (l .size) (l .alignment) flags)))
-
--- from those of the types before it, as they are on acceptance
-abbrev pub threeResult : (c : ℕ) (ts ms : List ℕ) → ℕ → Result (List ℕ)
-threeResult c ts ms i = threeFrom c ts ms (flat (threeAt c ts ms) i) i
-
--- the same with the layout alone, and no flags
-unfoldable pub laidFrom : (ts ms words : List ℕ) → ℕ → Result (List ℕ)
-laidFrom ts ms words i = andThen (layoutFrom ts ms words i) (λ l. ok (threeWords (l .size) (l .alignment) 0))
-
--- written from `at` on where there is no refusal
-abbrev pub writtenAfter : Result (List ℕ) → (at : ℕ) → List ℕ → List ℕ
-writtenAfter (ok three) at words = withPart shortWidth words at three
-writtenAfter (err number member detail) at words = words

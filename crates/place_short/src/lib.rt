@@ -16,7 +16,8 @@ ghost use Rattle.records.specs.declared.Outcome.the-variants.{Accepted};
 ghost use Rattle.rows.specs.Rows.{cleared};
 ghost use Rattle.layouter.specs.Layouter.{layoutAt};
 ghost use Rattle.valid.specs.Arena.{arenaOutcome};
-ghost use Rattle.place_short.specs.Short.{threeAt, lengthsFit, shortFits, shortAnswer, shortLookup, scratchAfter, shortWords, threeResult, threeFrom, laidFrom, writtenAfter};
+ghost use Rattle.place_short.specs.Short.{threeAt, lengthsFit, shortFits, shortAnswer, shortLookup, scratchAfter, shortWords};
+ghost use Rattle.place_short.specs.Serving.{threeResult, threeFrom, laidFrom, writtenAfter};
 
 // Numbers 4 to 7 of type i; its size, its alignment and no flags are written where there is no refusal.
 fn layout_at(types: &[u32], members: &[u32], words: &mut [u32], i: u32) -> Outcome

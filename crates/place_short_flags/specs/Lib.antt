@@ -1,1 +1,2 @@
 pub mod ShortFlags
+pub mod Serving

@@ -16,11 +16,15 @@ ghost use Rattle.records.specs.Record.{memberWords, memberCount, memberType, me
 ghost use Rattle.records.specs.declared.TypeInner.the-variants.{Struct};
 ghost use Rattle.flags.specs.Flags.{bit};
 ghost use Rattle.width.specs.Width.{dualSourceBlending};
-ghost use Rattle.type_flags.specs.TypeFlags.{leafFlags, flaggedResult};
-ghost use Rattle.member_bounds.specs.MemberBounds.{memberBounds, boundsAfter, boundedResult};
-ghost use Rattle.valid_blend.specs.Blend.{structBlend, blendedFlags, blendAnswer};
+ghost use Rattle.type_flags.specs.TypeFlags.{leafFlags};
+ghost use Rattle.type_flags.specs.Serving.{flaggedResult};
+ghost use Rattle.member_bounds.specs.MemberBounds.{memberBounds, boundsAfter};
+ghost use Rattle.member_bounds.specs.Serving.{boundedResult};
+ghost use Rattle.valid_blend.specs.Blend.{structBlend};
+ghost use Rattle.valid_blend.specs.Serving.{blendedFlags, blendAnswer};
 ghost use Rattle.validate_type.specs.ValidateType.{nonDataFlags, flagsOf};
-ghost use Rattle.place_short_flags.specs.ShortFlags.{shortSizes, shortFlags, takenResult, SourcesKnown, arrayBy};
+ghost use Rattle.place_short_flags.specs.ShortFlags.{shortSizes, shortFlags};
+ghost use Rattle.place_short_flags.specs.Serving.{takenResult, SourcesKnown, arrayBy};
 
 // After all members of a struct, and whether one of them may have a blend source.
 pub enum Taken {

@@ -9,10 +9,12 @@ use type_methods::Size;
 ghost use mathlib.Core.Path.{_≡_};
 ghost use Prim.Native.Nat.{_+_, _*_, _≤_, _<_};
 ghost use lib.ListN.{length};
-ghost use Rattle.records.specs.Fields.{LeafBounds, InnerBounds};
+ghost use Rattle.records.specs.Serving.{LeafBounds, InnerBounds};
 ghost use Rattle.rows.specs.Rows.{withPart};
-ghost use Rattle.type_alignment.specs.TypeAlignment.{leafAlignment, baseAlignment, membersAlignment, alignmentOf, alignedResult};
-ghost use Rattle.type_layout.specs.TypeLayout.{sizedLayout, layoutOf, laidResult};
+ghost use Rattle.type_alignment.specs.TypeAlignment.{leafAlignment, baseAlignment, membersAlignment, alignmentOf};
+ghost use Rattle.type_alignment.specs.Serving.{alignedResult};
+ghost use Rattle.type_layout.specs.TypeLayout.{sizedLayout, layoutOf};
+ghost use Rattle.type_layout.specs.Serving.{laidResult};
 ghost use Rattle.place_short_layout.specs.ShortRows.{shortWidth, shortWord, threeWords, shortLayouts};
 
 pub const SHORT_WORDS: usize = 3;

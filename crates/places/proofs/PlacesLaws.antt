@@ -19,7 +19,8 @@ use Rattle.rows.specs.Rows.{withPart}
 use Rattle.rows.proofs.RowLaws.{flat-more, drop-part}
 use Rattle.descent.specs.declared.Place.{Place}
 use Rattle.descent.specs.declared.Place.the-variants.{At, NoPlace}
-use Rattle.descent.specs.Place.{placeOf, Descends}
+use Rattle.descent.specs.Place.{placeOf}
+use Rattle.descent.specs.Serving.{Descends}
 use Rattle.place.specs.declared.PlaceAnswer.{PlaceAnswer}
 use Rattle.place.specs.declared.PlaceAnswer.the-variants as answer
 use Rattle.place.specs.Place.{placeAnswer, startAnswer, lookupAnswer}
@@ -30,8 +31,10 @@ use Rattle.place_short.proofs.OutcomeLaws.{short-accepted}
 use Rattle.place_short.proofs.SamePlacesProof.{same-places}
 use Rattle.places.specs.declared.Runs.{Runs}
 use Rattle.places.specs.declared.Runs.the-variants.{Whole, Cut}
-use Rattle.places.specs.Runs.{runStart, runSteps, runAt, runCount, runsWhole, runsOf}
-use Rattle.places.specs.Places.{pairWidth, answerPair, answerAt, queriesFit, placesAnswer, placesScratch, placesWords, isAccepted, placePair, placeWhere, pairAt}
+use Rattle.places.specs.Runs.{runStart, runSteps, runAt, runCount, runsWhole}
+use Rattle.places.specs.Serving.{runsOf}
+use Rattle.places.specs.Places.{pairWidth, answerPair, answerAt, queriesFit, placesAnswer, placesScratch, placesWords}
+use Rattle.places.specs.Serving.{isAccepted, placePair, placeWhere, pairAt}
 
 -- ---- the two words of an answer
 pub pair-wide : (p : Place) → length (placePair p) ≡ pairWidth

@@ -9,7 +9,8 @@ use native.Mathlib.Omega.{arith}
 use lib.ListN.{length}
 use borrow.Author.Tests.{lt-ltb, le-ltb, eq-eqb, ne-eqb}
 use Rattle.places.specs.declared.Runs.the-variants.{Whole, Cut}
-use Rattle.places.specs.Runs.{runEnd, runAt, countFrom, runCount, runsWhole, runsOf}
+use Rattle.places.specs.Runs.{runEnd, runAt, countFrom, runCount, runsWhole}
+use Rattle.places.specs.Serving.{runsOf}
 
 module _ (q : List ℕ) where
   pub run-next : (n : ℕ) → runAt q (n + 1) ≡ runEnd q (runAt q n)

@@ -1,7 +1,7 @@
 -- 02, E10, for a loader that looks up thousands of places: many in one call, with one judging. Each answer is that of the lookup with three words for
 -- each type. A run cut short, or answers for fewer runs than there are, is number 1, which touches nothing.
 -- Assumes nothing.
-use mathlib.Core.Bool.{Bool, true, false, _&&_}
+use mathlib.Core.Bool.{Bool, _&&_}
 use mathlib.Core.List.{List, [], _∷_, _++_}
 use Prim.Native.Nat.{ℕ, _*_}
 use lib.Dec.{leb}
@@ -10,9 +10,6 @@ use Rattle.records.specs.Result.{pick}
 use Rattle.records.specs.Table.{flat}
 use Rattle.records.specs.declared.Outcome.{Outcome}
 use Rattle.records.specs.declared.Outcome.the-variants as outcome
-use Rattle.descent.specs.declared.Place.{Place}
-use Rattle.descent.specs.declared.Place.the-variants.{At, NoPlace}
-use Rattle.descent.specs.Place.{placeOf}
 use Rattle.place.specs.declared.PlaceAnswer.{PlaceAnswer}
 use Rattle.place.specs.declared.PlaceAnswer.the-variants as answer
 use Rattle.place_short.specs.Short.{shortFits, shortAnswer, shortLookup, shortWords}
@@ -49,19 +46,3 @@ placesWords c ts ms scratch queries answers =
     pick (queriesFit queries answers && shortFits c ts ms scratch)
     (flat (answerAt c ts ms scratch queries) (runCount queries) ++ drop (runCount queries * pairWidth) answers)
     answers
-
--- ---- what the code answers
-abbrev pub isAccepted : Outcome → Bool
-isAccepted outcome.Accepted = true
-isAccepted (outcome.Refused number ty member detail) = false
-
-abbrev pub placePair : Place → List ℕ
-placePair (At byte leaf) = byte ∷ leaf ∷ []
-placePair NoPlace = noneWord ∷ noneWord ∷ []
-
--- the place where the arena is accepted
-abbrev pub placeWhere : (accepted : Bool) (ts ms : List ℕ) (start : ℕ) (steps : List ℕ) → Place
-placeWhere accepted ts ms start steps = pick accepted (placeOf ts ms start steps) NoPlace
-
-abbrev pub pairAt : (accepted : Bool) (ts ms queries : List ℕ) → ℕ → List ℕ
-pairAt accepted ts ms queries j = placePair (placeWhere accepted ts ms (runStart queries j) (runSteps queries j))

@@ -7,8 +7,6 @@ use Prim.Native.Nat.{ℕ, zero, suc, _+_, _*_}
 use lib.Dec.{eqb, ltb}
 use lib.ListN.{length, getD, take, drop}
 use Rattle.records.specs.Result.{pick}
-use Rattle.places.specs.declared.Runs.{Runs}
-use Rattle.places.specs.declared.Runs.the-variants.{Whole, Cut}
 
 -- how many steps the run that begins at `at` has, and where it ends
 abbrev pub stepCount : (queries : List ℕ) (at : ℕ) → ℕ
@@ -39,7 +37,3 @@ runCount queries = countFrom queries (length queries) 0
 -- none is cut short: they end where the words end
 unfoldable pub runsWhole : (queries : List ℕ) → Bool
 runsWhole queries = eqb (runAt queries (runCount queries)) (length queries)
-
--- what the code answers
-abbrev pub runsOf : (queries : List ℕ) → Runs
-runsOf queries = pick (runsWhole queries) (Whole (runCount queries)) Cut

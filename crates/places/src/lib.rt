@@ -10,10 +10,12 @@ ghost use Rattle.records.specs.Record.{typeCount, decoded};
 ghost use Rattle.records.specs.Table.{flat};
 ghost use Rattle.records.specs.declared.Outcome.the-variants.{Refused};
 ghost use Rattle.rows.specs.Rows.{withPart};
-ghost use Rattle.descent.specs.Place.{Descends};
+ghost use Rattle.descent.specs.Serving.{Descends};
 ghost use Rattle.place_short.specs.Short.{shortFits, shortAnswer, shortWords};
-ghost use Rattle.places.specs.Runs.{runAt, runCount, runsWhole, runsOf};
-ghost use Rattle.places.specs.Places.{pairWidth, answerAt, placesAnswer, placesScratch, placesWords, isAccepted, placePair, placeWhere, pairAt};
+ghost use Rattle.places.specs.Runs.{runAt, runCount, runsWhole};
+ghost use Rattle.places.specs.Serving.{runsOf};
+ghost use Rattle.places.specs.Places.{pairWidth, answerAt, placesAnswer, placesScratch, placesWords};
+ghost use Rattle.places.specs.Serving.{isAccepted, placePair, placeWhere, pairAt};
 
 // How many runs the words are, or a run that is cut short.
 pub enum Runs {

@@ -23,9 +23,10 @@ use Rattle.type_info.specs.declared.UniformRule.{UniformRule}
 use Rattle.type_info.specs.Verdict.{minUniform, leastFor, okVerdict, isOk, alignmentIn, distanceOk, distanceVerdict, shareVerdict, memberVerdict, unsizedVerdict}
 use Rattle.type_info.proofs.DistanceLaws.{distance-enough}
 use Rattle.member_bounds.specs.MemberBounds.{memberBounds}
-use Rattle.member_rules.specs.MemberRules.{isPlain, memberUniform, memberStorage}
+use Rattle.member_rules.specs.MemberRules.{memberUniform, memberStorage}
+use Rattle.member_rules.specs.Serving.{isPlain}
 use Rattle.plain_members.specs.declared.PlainState.{PlainState}
-use Rattle.plain_members.specs.PlainMembers.{leastOf, keepsVerdicts, keepsStorage, plainBounds}
+use Rattle.plain_members.specs.Serving.{leastOf, keepsVerdicts, keepsStorage, plainBounds}
 
 -- ---- the least offset
 pub record Apart (end offset i j : ℕ) (before : Previous) : Type 0 where

@@ -1,1 +1,1 @@
-pub mod PlainMembers
+pub mod Serving

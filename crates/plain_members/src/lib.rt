@@ -12,7 +12,7 @@ ghost use Rattle.type_info.specs.declared.UniformRule as rule;
 ghost use Rattle.type_info.specs.declared.Verdict as verdict;
 ghost use Rattle.type_info.specs.TypeInfo.{rowsIn};
 ghost use Rattle.type_info.specs.Verdict.{minStorage, leastFor, okVerdict, isOk, structAt};
-ghost use Rattle.plain_members.specs.PlainMembers.{leastOf, keepsVerdicts, keepsStorage, Stepped, StorageStepped, PlainAfter};
+ghost use Rattle.plain_members.specs.Serving.{leastOf, keepsVerdicts, keepsStorage, Stepped, StorageStepped, PlainAfter};
 
 // So many members are worth a loop of their own.
 pub const LONG: u32 = 16;

@@ -11,7 +11,8 @@ use Rattle.records.proofs.ResultLaws.{and-left, and-right}
 use Rattle.alignment.proofs.Finite.{all, holds}
 use Rattle.type_methods.specs.TypeMethods.{leafSize, leafColumnStep}
 use Rattle.type_alignment.specs.TypeAlignment.{leafWidth, leafFactor}
-use Rattle.plain_types.specs.PlainTypes.{leafWith, workedOut, entryIn}
+use Rattle.plain_types.specs.PlainTypes.{leafWith, workedOut}
+use Rattle.plain_types.specs.Serving.{entryIn}
 
 module _ (numbers : List ℕ) (kind : ℕ) where
   abbrev leaf : (shape place : ℕ) → Leaf

@@ -1,10 +1,8 @@
 -- 02, E14: plain types from a table. 13 shapes at widths 1, 2, 4 and 8, three numbers each: size, alignment and column step.
 -- Assumes nothing.
 use mathlib.Core.Bool.{Bool, _&&_, _||_}
-use mathlib.Core.List.{List}
 use Prim.Native.Nat.{ℕ, _+_, _-_, _*_, _/_, _%_}
 use lib.Dec.{eqb, leb}
-use lib.ListN.{getD}
 use Rattle.records.specs.Result.{pick}
 use Rattle.records.specs.declared.Leaf.{Leaf}
 use Rattle.records.specs.declared.Leaf.the-variants.{Scalar, Vector, Matrix}
@@ -41,11 +39,3 @@ workedOut leaf = Found (leafSize leaf) (leafFactor leaf * leafWidth leaf) (leafC
 -- another shape or width is 2. The scalar kind, here 2 for Float, is in none of the three numbers (PlainLaws `plain-layout`)
 unfoldable pub plainAnswer : (shape width : ℕ) → PlainAnswer
 plainAnswer shape width = pick (leb shape mostShape && plainWidth width) (workedOut (leafWith shape 2 width)) (Refused 2 0 0 0)
-
--- ---- what the code has: the entry of a table that goes shape by shape, through the widths in their places
-unfoldable pub entryIn : (numbers : List ℕ) (shape place : ℕ) → PlainAnswer
-entryIn numbers shape place =
-    Found
-    (getD numbers ((shape * 4 + place) * 3) 0)
-    (getD numbers ((shape * 4 + place) * 3 + 1) 0)
-    (getD numbers ((shape * 4 + place) * 3 + 2) 0)

@@ -2,7 +2,8 @@
 ghost use mathlib.Core.Path.{_≡_};
 ghost use Prim.Native.Nat.{ℕ, _^_, _<_};
 ghost use Rattle.plain_types.specs.declared.PlainAnswer.the-variants.{Refused};
-ghost use Rattle.plain_types.specs.PlainTypes.{entryIn, leafWith, workedOut, plainAnswer};
+ghost use Rattle.plain_types.specs.PlainTypes.{leafWith, workedOut, plainAnswer};
+ghost use Rattle.plain_types.specs.Serving.{entryIn};
 
 pub enum PlainAnswer {
     Found {

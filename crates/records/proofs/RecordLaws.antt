@@ -11,7 +11,8 @@ use lib.ListN.{length, take, drop}
 use borrow.Author.Tests.{lt-ltb, le-leb, eq-eqb, ne-eqb}
 use Rattle.records.specs.Result.{Result, ok, pick, require}
 use Rattle.records.specs.Record.{typeWords, typeWord, typeCount, memberCount, memberWords, memberLocation, memberSource, Sourceless, structKind, structMembers, innerOf, typeInner}
-use Rattle.records.specs.Fields.{mostTypes, mostMembers, rowWords, tablesFit, scalarOk, vectorSizeOk, cooperativeSizeOk, fieldsOk, baseWithin, locatedTo, sourcesLocated, fieldsAt, recordAt, InnerBounds}
+use Rattle.records.specs.Fields.{mostTypes, mostMembers, rowWords, tablesFit, scalarOk, vectorSizeOk, cooperativeSizeOk, fieldsOk, baseWithin, locatedTo, sourcesLocated, fieldsAt, recordAt}
+use Rattle.records.specs.Serving.{InnerBounds}
 use Rattle.records.specs.declared.TypeInner.{TypeInner}
 use Rattle.records.proofs.ResultLaws.{required, true-T, and-left, and-right}
 

@@ -2,14 +2,10 @@
 -- Assumes nothing.
 use mathlib.Core.Bool.{Bool, not, true, false, _&&_, _||_}
 use mathlib.Core.List.{List}
-use Prim.Native.Nat.{ℕ, zero, suc, _+_, _*_, _/_, _%_, _≤_}
-use lib.Dec.{T, eqb, leb, ltb}
+use Prim.Native.Nat.{ℕ, zero, suc, _+_, _*_, _/_, _%_}
+use lib.Dec.{eqb, leb, ltb}
 use lib.ListN.{length}
 use Rattle.records.specs.Result.{Result, ok, pick, require}
-use Rattle.records.specs.declared.Leaf.{Leaf}
-use Rattle.records.specs.declared.Leaf.the-variants.{Scalar, Vector, Matrix, CooperativeMatrix, Atomic, RayQuery}
-use Rattle.records.specs.declared.TypeInner.{TypeInner}
-use Rattle.records.specs.declared.TypeInner.the-variants.{Plain, Array, RuntimeArray, Struct, Other}
 use Rattle.records.specs.Record.{typeWords, typeCount, typeWord, memberWords, memberCount, memberLocation, memberSource, structMembers, scalarKind, vectorKind, matrixKind, cooperativeMatrixKind, atomicKind, pointerKind, valuePointerKind, arrayKind, structKind, imageKind, samplerKind, accelerationStructureKind, rayQueryKind, bindingArrayKind}
 
 -- ---- number 1
@@ -121,19 +117,3 @@ fieldsAt ts ms i =
 
 unfoldable pub recordAt : (ts ms : List ℕ) → ℕ → Result (Unit {0})
 recordAt ts ms i = require (sourcesLocated (structMembers ts ms i)) 2 0 0 (fieldsAt ts ms i)
-
--- ---- what number 2 leaves: the bounds by which sizes fit 32 bits
-abbrev pub LeafBounds : Leaf → Type 0
-LeafBounds (Scalar kind width) = width ≤ 255
-LeafBounds (Vector size kind width) = (size ≤ 4) × (width ≤ 255)
-LeafBounds (Matrix columns rows kind width) = (columns ≤ 4) × (rows ≤ 4) × (width ≤ 255)
-LeafBounds (CooperativeMatrix columns rows kind width role) = T (cooperativeSizeOk columns) × T (cooperativeSizeOk rows) × (width ≤ 255)
-LeafBounds (Atomic kind width) = width ≤ 255
-LeafBounds (RayQuery v) = Unit {0}
-
-abbrev pub InnerBounds : TypeInner → Type 0
-InnerBounds (Plain leaf) = LeafBounds leaf
-InnerBounds (Array base count stride) = Unit {0}
-InnerBounds (RuntimeArray base stride) = Unit {0}
-InnerBounds (Struct count span) = Unit {0}
-InnerBounds (Other o) = Unit {0}

@@ -2,3 +2,4 @@ pub mod Result
 pub mod Record
 pub mod Fields
 pub mod Table
+pub mod Serving

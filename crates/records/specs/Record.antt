@@ -70,18 +70,6 @@ typeCount ts = length ts / typeWords
 abbrev pub typeWord : List ℕ → ℕ → ℕ → ℕ
 typeWord ts i k = getD ts (i * typeWords + k) 0
 
--- the six words of record i, as the code carries them
-abbrev pub recordWords : List ℕ → ℕ → Words
-recordWords ts i =
-    record {
-      kind = typeWord ts i 0;
-      a = typeWord ts i 1;
-      b = typeWord ts i 2;
-      c = typeWord ts i 3;
-      d = typeWord ts i 4;
-      e = typeWord ts i 5;
-    }
-
 -- ---- the member record: four words, type, offset, location and blend source; the last two stored as value plus one, 0 for none
 abbrev pub memberWords : ℕ
 memberWords = 4

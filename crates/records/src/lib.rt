@@ -3,7 +3,8 @@ ghost use mathlib.Core.Path.{_≡_};
 ghost use mathlib.Core.Bool.{_&&_};
 ghost use Prim.Native.Nat.{ℕ, _+_, _*_, _/_, _≤_, _<_};
 ghost use lib.ListN.{length, getD, take, drop};
-ghost use Rattle.records.specs.Record.{recordWords, typeWord, typeCount, memberWords, memberCount, memberType, memberOffset, memberLocation, memberSource, innerOf, typeInner, structMembers};
+ghost use Rattle.records.specs.Record.{typeWord, typeCount, memberWords, memberCount, memberType, memberOffset, memberLocation, memberSource, innerOf, typeInner, structMembers};
+ghost use Rattle.records.specs.Serving.{recordWords};
 ghost use Rattle.records.specs.Fields.{tablesFit, capabilitiesKnown, sourcesLocated};
 
 // Data that is neither array nor struct: 01's leaves.

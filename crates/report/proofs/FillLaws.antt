@@ -25,8 +25,9 @@ use Rattle.carried.proofs.LeavesProof.{carried-and-wasted}
 use Rattle.report.specs.declared.Counts.{Counts}
 use Rattle.report.specs.declared.LeafBytes.the-variants.{Carried, Narrow}
 use Rattle.report.specs.declared.ReportAnswer.the-variants as answer
-use Rattle.report.specs.LeafBytes.{reportWidth, entryWords, isNarrow}
-use Rattle.report.specs.Passes.{RowsOf, entryFor, entryPair, narrowStruct, isReported, countsIn, countsPair, AllCarry, totalsIn, secondPassWords, countsFor, totalsFor}
+use Rattle.report.specs.Report.{reportWidth}
+use Rattle.report.specs.Serving.{entryWords, isNarrow}
+use Rattle.report.specs.Serving.{RowsOf, entryFor, entryPair, narrowStruct, isReported, countsIn, countsPair, AllCarry, totalsIn, secondPassWords, countsFor, totalsFor}
 use Rattle.report.proofs.PassLaws.{pair-length, accepted, size-word}
 
 pub flat-alike : (f g : ℕ → List ℕ) (n : ℕ) → ((k : ℕ) → k < n → f k ≡ g k) → flat f n ≡ flat g n

@@ -19,8 +19,9 @@ use Rattle.type_flags.specs.TypeFlags.{isStruct}
 use Rattle.rows.specs.Rows.{rowWord, withPart, cleared}
 use Rattle.rows.proofs.RowLaws.{flat-more, drop-part, part-length, drop-later}
 use Rattle.report.specs.declared.LeafBytes.{LeafBytes}
-use Rattle.report.specs.LeafBytes.{reportWidth, entryWords, isNarrow, leafBytesAt, SmallBytes, Small}
-use Rattle.report.specs.Passes.{RowsOf, entryFor, entryPair, narrowStruct, firstPassWords}
+use Rattle.report.specs.Report.{reportWidth}
+use Rattle.report.specs.Serving.{entryWords, isNarrow, leafBytesAt, SmallBytes, Small}
+use Rattle.report.specs.Serving.{RowsOf, entryFor, entryPair, narrowStruct, firstPassWords}
 use Rattle.report.proofs.PassLaws.{pair-length, all-small, leaf-bytes-kept, small-at}
 
 -- after i types: no struct is narrow, what each carries stands in its words, and the words behind are as lent

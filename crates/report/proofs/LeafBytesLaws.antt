@@ -19,12 +19,13 @@ use Rattle.type_info.specs.Verdict.{leastFor}
 use Rattle.valid.specs.Arena.{row}
 use Rattle.valid.proofs.AcceptedLaws.{AcceptedTypes, plain-row, array-row, runtime-array-row, struct-row, struct-member, member-earlier}
 use Rattle.carried.specs.Count.{some, sum}
-use Rattle.carried.specs.Carried.{leafCarried, narrowOf, carried, narrow}
+use Rattle.carried.specs.Carried.{narrowOf, carried, narrow}
+use Rattle.carried.specs.Serving.{leafCarried}
 use Rattle.carried.proofs.SumLaws.{size-of, carried-leaf, carried-array, carried-runtime-array, carried-struct, carried-other}
 use Rattle.carried.proofs.NarrowLaws.{narrow-is, narrow-array, narrow-runtime-array, narrow-struct, strides-wide}
 use Rattle.report.specs.declared.LeafBytes.{LeafBytes}
 use Rattle.report.specs.declared.LeafBytes.the-variants.{Carried, Narrow}
-use Rattle.report.specs.LeafBytes.{times, plus, arrayBytes, membersBytes, leafBytesOf, leafBytes}
+use Rattle.report.specs.Serving.{times, plus, arrayBytes, membersBytes, leafBytesOf, leafBytes}
 
 -- where a type is narrow, and where it is not
 bytes-narrow : (types : ℕ → Decoded) (t : ℕ) → narrow types t ≡ true → Narrow ≡ leafBytes types t

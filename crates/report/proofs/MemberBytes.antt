@@ -9,7 +9,7 @@ use native.Mathlib.Omega.{arith}
 use Rattle.records.specs.Record.{memberType}
 use Rattle.report.specs.declared.LeafBytes.{LeafBytes}
 use Rattle.report.specs.declared.LeafBytes.the-variants.{Carried, Narrow}
-use Rattle.report.specs.LeafBytes.{membersBytes, SmallBytes}
+use Rattle.report.specs.Serving.{membersBytes, SmallBytes}
 
 -- where the loop stands after j members: none is narrow, and they carry `total`
 pub record Adding (earlier : ℕ → LeafBytes) (members : List ℕ) (count j total : ℕ) : Type 0 where

@@ -12,7 +12,8 @@ use lib.ListN.{length, getD, take, List·getD-eq-default}
 use lib.Seq.{getD-take}
 use Rattle.records.specs.Result.{pick}
 use Rattle.records.specs.Record.{decoded, typeCount, typeInner, structMembers}
-use Rattle.records.specs.Fields.{rowWords, InnerBounds}
+use Rattle.records.specs.Fields.{rowWords}
+use Rattle.records.specs.Serving.{InnerBounds}
 use Rattle.records.specs.Table.{flat}
 use Rattle.records.proofs.ResultLaws.{T-true}
 use Rattle.records.proofs.TableLaws.{flat-length, flat-word}
@@ -29,8 +30,9 @@ use Rattle.carried.specs.Carried.{carried, narrow}
 use Rattle.carried.proofs.SumLaws.{size-of, carried-within}
 use Rattle.report.specs.declared.LeafBytes.{LeafBytes}
 use Rattle.report.specs.declared.LeafBytes.the-variants.{Carried, Narrow}
-use Rattle.report.specs.LeafBytes.{reportWidth, entryIn, entryWords, leafBytesOf, leafBytesAt, leafBytes, SmallBytes, Small}
-use Rattle.report.specs.Passes.{RowsOf, entryFor, entryPair}
+use Rattle.report.specs.Report.{reportWidth}
+use Rattle.report.specs.Serving.{entryIn, entryWords, leafBytesOf, leafBytesAt, leafBytes, SmallBytes, Small}
+use Rattle.report.specs.Serving.{RowsOf, entryFor, entryPair}
 use Rattle.report.proofs.LeafBytesLaws.{leaf-bytes-is}
 
 -- two words a type

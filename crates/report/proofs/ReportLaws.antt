@@ -30,8 +30,9 @@ use Rattle.carried.proofs.CountLaws.{sum-alike}
 use Rattle.report.specs.declared.Counts.{Counts}
 use Rattle.report.specs.declared.LeafBytes.the-variants.{Carried, Narrow}
 use Rattle.report.specs.declared.ReportAnswer.the-variants as answer
-use Rattle.report.specs.LeafBytes.{reportWidth, isNarrow}
-use Rattle.report.specs.Passes.{RowsOf, narrowStruct, isReported, countsFor, countsPair, totalsFor, answerBy, wordsBy, fillAnswer, fillWords}
+use Rattle.report.specs.Report.{reportWidth}
+use Rattle.report.specs.Serving.{isNarrow}
+use Rattle.report.specs.Serving.{RowsOf, narrowStruct, isReported, countsFor, countsPair, totalsFor, answerBy, wordsBy, fillAnswer, fillWords}
 use Rattle.report.specs.Report.{reported, narrowAt, reportOutcome, carriedAt, wastedAt, reportAt, lengthsFit, answerOf, reportAnswer, reportRows, reportAfter, reportWords}
 use Rattle.report.proofs.PassLaws.{flags-word}
 use Rattle.report.proofs.FillLaws.{flat-alike}

@@ -13,8 +13,9 @@ use Rattle.rows.specs.Rows.{withPart}
 use Rattle.rows.proofs.RowLaws.{flat-more, drop-part, part-length, drop-later}
 use Rattle.carried.specs.Count.{sum}
 use Rattle.report.specs.declared.Counts.{Counts}
-use Rattle.report.specs.LeafBytes.{reportWidth, pairOf}
-use Rattle.report.specs.Passes.{countsOf, countsIn, countsPair, totalsIn, secondPassWords}
+use Rattle.report.specs.Report.{reportWidth}
+use Rattle.report.specs.Serving.{pairOf}
+use Rattle.report.specs.Serving.{countsOf, countsIn, countsPair, totalsIn, secondPassWords}
 
 pub record SecondPass (ts rows lent : List ℕ) (n : ℕ) (report : List ℕ) (carried wasted i : ℕ) : Type 0 where
   pub within : i ≤ n

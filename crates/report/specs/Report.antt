@@ -19,9 +19,12 @@ use Rattle.type_info.specs.declared.UniformRule.{UniformRule}
 use Rattle.valid.specs.Arena.{common, arenaOutcome, arenaWords}
 use Rattle.carried.specs.Count.{sum}
 use Rattle.carried.specs.Carried.{carried, wasted, narrow}
-use Rattle.report.specs.LeafBytes.{reportWidth}
 use Rattle.report.specs.declared.ReportAnswer.{ReportAnswer}
 use Rattle.report.specs.declared.ReportAnswer.the-variants as answer
+
+-- words of the report a type
+abbrev pub reportWidth : ℕ
+reportWidth = 2
 
 -- a host-shareable struct
 abbrev pub reported : (c : ℕ) (types : ℕ → Decoded) → ℕ → Bool

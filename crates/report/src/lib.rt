@@ -9,11 +9,12 @@ ghost use Prim.Native.Nat.{_+_, _*_, _≤_};
 ghost use lib.ListN.{length, getD};
 ghost use Rattle.records.specs.Record.{typeCount, typeInner};
 ghost use Rattle.records.specs.Table.{firstRefusal};
-ghost use Rattle.records.specs.Fields.{LeafBounds, InnerBounds};
+ghost use Rattle.records.specs.Serving.{LeafBounds, InnerBounds};
 ghost use Rattle.rows.specs.Rows.{rowWord, withPart, cleared};
-ghost use Rattle.carried.specs.Carried.{leafCarried};
-ghost use Rattle.report.specs.LeafBytes.{entryIn, reportWidth, entryWords, pairOf, arrayBytes, membersBytes, leafBytesOf, leafBytesAt, isNarrow, SmallBytes, Small};
-ghost use Rattle.report.specs.Passes.{RowsOf, narrowStruct, firstPassWords, Carries, countsOf, AllCarry, totalsIn, secondPassWords, fillAnswer, fillWords};
+ghost use Rattle.carried.specs.Serving.{leafCarried};
+ghost use Rattle.report.specs.Report.{reportWidth};
+ghost use Rattle.report.specs.Serving.{entryIn, entryWords, pairOf, arrayBytes, membersBytes, leafBytesOf, leafBytesAt, isNarrow, SmallBytes, Small};
+ghost use Rattle.report.specs.Serving.{RowsOf, narrowStruct, firstPassWords, Carries, countsOf, AllCarry, totalsIn, secondPassWords, fillAnswer, fillWords};
 ghost use Rattle.report.specs.Report.{lengthsFit, reportAnswer, reportRows, reportWords};
 
 // The bytes of a type that leaves carry; or it is narrow: it reaches an array with a stride below its element's size.

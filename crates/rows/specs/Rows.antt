@@ -17,10 +17,6 @@ layoutRow size alignment = size ∷ alignment ∷ 0 ∷ 0 ∷ 0 ∷ 0 ∷ 0 ∷ 
 abbrev pub withPart : (width : ℕ) → List ℕ → (at : ℕ) → (part : List ℕ) → List ℕ
 withPart width words at part = take at words ++ part ++ drop (at + width) words
 
--- the words with those of one row replaced
-abbrev pub withRow : List ℕ → (at : ℕ) → (row : List ℕ) → List ℕ
-withRow = withPart rowWords
-
 -- the words with the first n zero
 abbrev pub cleared : List ℕ → ℕ → List ℕ
 cleared words n = replicate n 0 ++ drop n words

@@ -2,7 +2,8 @@
 ghost use mathlib.Core.Path.{_≡_};
 ghost use Prim.Native.Nat.{_+_, _*_, _≤_, _<_};
 ghost use lib.ListN.{length};
-ghost use Rattle.rows.specs.Rows.{rowWord, layoutRow, withRow, cleared};
+ghost use Rattle.rows.specs.Rows.{rowWord, layoutRow, cleared};
+ghost use Rattle.rows.specs.Serving.{withRow};
 use records::ROW_WORDS;
 
 // The words of a row. A verdict has five words: its code, and next, where that is 0, its alignment.

@@ -12,7 +12,8 @@ use lib.Pow.{pow-lt}
 use borrow.Author.Tests.{ne-eqb, eq-eqb}
 use Rattle.records.proofs.ResultLaws.{T-true}
 use Rattle.flags.specs.Flags.{bit}
-use Rattle.slots.specs.Slots.{slotCount, slotBytes, inPart, covers, coversAll, coversPartly, cuts, maskOf}
+use Rattle.slots.specs.Slots.{slotCount, slotBytes, inPart, covers, coversAll, coversPartly, maskOf}
+use Rattle.slots.specs.Serving.{cuts}
 use Rattle.slots.proofs.MaskLaws.{mask-same, mask-lt, bit-mask, union-word}
 use Rattle.slots.proofs.RangeLaws.{in-part, before-part, past-part, run-mask, covers-before, covers-after, covers-within}
 

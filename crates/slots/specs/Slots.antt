@@ -2,7 +2,7 @@
 -- two masks: the slots that it touches, and those that it covers only in part.
 -- Assumes nothing.
 use mathlib.Core.Bool.{Bool, true, false, _&&_, _||_, not}
-use Prim.Native.Nat.{ℕ, zero, suc, _+_, _*_, _/_, _%_, _^_}
+use Prim.Native.Nat.{ℕ, zero, suc, _+_, _*_, _^_}
 use lib.Dec.{eqb, leb, ltb}
 use Rattle.records.specs.Result.{pick}
 use Rattle.flags.specs.Flags.{bit}
@@ -51,10 +51,6 @@ maskBy true first second = second
 unfoldable pub maskOf : (ℕ → Bool) → (n : ℕ) → ℕ
 maskOf test zero = 0
 maskOf test (suc k) = maskOf test k + pick (test k) (2 ^ k) 0
-
--- the border of a part, its offset or its end, lies inside slot k: a name for the code, no term of 02
-abbrev pub cuts : (border k : ℕ) → Bool
-cuts border k = not (eqb (border % 4) 0) && eqb (border / 4) k
 
 -- a part given as two numbers: an empty part has no slot at any offset; a nonempty part that ends past byte 256 is number 25
 unfoldable pub rangeSlots : (offset size : ℕ) → Slots

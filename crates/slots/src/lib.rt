@@ -1,7 +1,8 @@
 // Slot masks: ImmediateSlots of naga's valid/immediates.rs without the walk of a type.
 ghost use mathlib.Core.Path.{_≡_};
 ghost use Prim.Native.Nat.{_≤_};
-ghost use Rattle.slots.specs.Slots.{slotCount, slotBytes, maskOf, cuts, rangeSlots, contains, difference, union, join, partAnswer};
+ghost use Rattle.slots.specs.Slots.{slotCount, slotBytes, maskOf, rangeSlots, contains, difference, union, join, partAnswer};
+ghost use Rattle.slots.specs.Serving.{cuts};
 
 // The slots that a part touches, and those that it covers only in part.
 // Past: number 25, a nonempty part ends past byte 256 or an offset sum leaves 32 bits.

@@ -11,11 +11,11 @@ use lib.ListN.{length, getD, take, drop, replicate, drop-of-length-le, length-ap
 use lib.Seq.{getD-append-add}
 use Rattle.records.specs.declared.Words.{Words}
 use Rattle.records.specs.Record.{typeWords, memberWords, typeWord, typeInner, innerIn, innerOf}
-use Rattle.records.specs.Fields.{InnerBounds}
+use Rattle.records.specs.Serving.{InnerBounds}
 use Rattle.rows.specs.Rows.{withPart, cleared}
 use Rattle.rows.proofs.RowLaws.{take-part, drop-part, part-length}
 use Rattle.spirv_members.specs.Members.{memberNumber, offsetOf, memberRows}
-use Rattle.spirv_members.specs.Ready.{Bounded}
+use Rattle.spirv_members.specs.Serving.{Bounded}
 use Rattle.spirv_members.proofs.AlignmentLaws.{rows-length}
 use Rattle.spirv_instruction.specs.Instruction.{listed}
 

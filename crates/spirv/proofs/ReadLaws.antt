@@ -16,12 +16,12 @@ use Rattle.spirv_words.specs.Module.{headerOk, headerWords, wordCount, opcode, 
 use Rattle.spirv_ids.specs.Ids.{typeNumber}
 use Rattle.spirv_ids.specs.Places.{Stands}
 use Rattle.spirv_ids.proofs.PlaceLaws.{stands-first, stands-next, number-next}
-use Rattle.spirv_members.specs.Ready.{Bounded}
+use Rattle.spirv_members.specs.Serving.{Bounded}
 use Rattle.spirv_types.specs.Types.{State}
 use Rattle.spirv_instruction.specs.Instruction.{instruction, typesRoom, membersRoom}
 use Rattle.spirv.specs.declared.Section.the-variants.{Read, Refused}
 use Rattle.spirv.specs.Read.{readFrom, none, readModule, readInto, sectionOf, typesAfter, membersAfter}
-use Rattle.spirv.specs.Step.{stateIn, Room, Held, Stepped, FilledTypes, FilledMembers}
+use Rattle.spirv.specs.Serving.{stateIn, Room, Held, Stepped, FilledTypes, FilledMembers}
 use Rattle.spirv.proofs.PutLaws.{bounded-none}
 
 module _ (t m : ℕ) (ws : List ℕ) (types₀ members₀ alignments₀ : List ℕ) where

@@ -10,17 +10,17 @@ use lib.Seq.{length-take-le}
 use Rattle.records.specs.Result.{Result, err, ok, pick}
 use Rattle.records.specs.declared.Words.{Words}
 use Rattle.records.specs.Record.{typeWords, memberWords, typeCount, memberCount, innerIn}
-use Rattle.records.specs.Fields.{InnerBounds}
+use Rattle.records.specs.Serving.{InnerBounds}
 use Rattle.rows.specs.Rows.{withPart}
 use Rattle.rows.proofs.RowLaws.{take-part, drop-part}
 use Rattle.spirv_words.specs.Module.{wordCount, opcode, isRead}
 use Rattle.spirv_ids.specs.Ids.{typeNumber}
 use Rattle.spirv_members.specs.Members.{memberRows}
-use Rattle.spirv_members.specs.Ready.{Bounded}
+use Rattle.spirv_members.specs.Serving.{Bounded}
 use Rattle.spirv_members.proofs.AlignmentLaws.{rows-length}
 use Rattle.spirv_types.specs.Types.{State}
 use Rattle.spirv_instruction.specs.Instruction.{listed, withType, instruction}
-use Rattle.spirv.specs.Step.{stateIn, Room, Held, Stepped}
+use Rattle.spirv.specs.Serving.{stateIn, Room, Held, Stepped}
 use Rattle.spirv.proofs.PutLaws.{bounded-more}
 
 module _ (t m : ℕ) (ws : List ℕ) (at : ℕ) (types members alignments : List ℕ) (room : Room t m types members alignments) (a b : ℕ) (held : Held t m ws at types a b) where

@@ -9,10 +9,10 @@ ghost use Rattle.rows.specs.Rows.{withPart};
 ghost use Rattle.spirv_words.specs.Module.{headerOk, headerWords};
 ghost use Rattle.spirv_ids.specs.Places.{GivesFrom};
 ghost use Rattle.spirv_members.specs.Members.{memberNumber, offsetOf, memberRows};
-ghost use Rattle.spirv_members.specs.Ready.{Ready};
+ghost use Rattle.spirv_members.specs.Serving.{Ready};
 ghost use Rattle.spirv_instruction.specs.Instruction.{listed};
 ghost use Rattle.spirv.specs.Read.{readFrom, none, readInto, sectionOf, typesAfter, membersAfter};
-ghost use Rattle.spirv.specs.Step.{Room, Held, StepIs, FilledTypes, FilledMembers};
+ghost use Rattle.spirv.specs.Serving.{Room, Held, StepIs, FilledTypes, FilledMembers};
 
 // How many types and members were read, or the number of the refusal.
 pub enum Section {

@@ -9,12 +9,12 @@ use lib.Dec.{eqb, leb, ltb}
 use borrow.Author.Tests.{eqb-true, leb-true}
 use Rattle.records.specs.Result.{Result, err, ok, pick, require}
 use Rattle.records.specs.Record.{innerIn, innerOf, memberCount, scalarKind, vectorKind, matrixKind, arrayKind, structKind}
-use Rattle.records.specs.Fields.{InnerBounds}
+use Rattle.records.specs.Serving.{InnerBounds}
 use Rattle.records.proofs.ResultLaws.{ok-inj}
 use Rattle.alignment.specs.Alignment.{most}
 use Rattle.spirv_words.specs.Module.{opcode, word, wordCount, typeBool, typeInt, typeFloat, typeVector, typeMatrix, typeArray, typeRuntimeArray}
 use Rattle.spirv_members.specs.Members.{isTypeRead, isOther, numberOf, memberCountAt, memberRows, membersUnsupported, membersSound}
-use Rattle.spirv_members.specs.Ready.{Bounded}
+use Rattle.spirv_members.specs.Serving.{Bounded}
 use Rattle.spirv_members.proofs.MemberLaws.{scalar-width, vector-bounds}
 use Rattle.spirv_members.proofs.NumberLaws.{and-true}
 use Rattle.spirv_types.specs.Types.{State, Typed, judged, typed, wordsOf, isFresh, widthOk, signKind, partsOk, baseSort, baseWord, strideAt, strideOf, lengthOf, lengthSort, spanOf, boolType, intType, floatType, vectorType, matrixType, arrayType, runtimeArrayType, structType, typeBy, typeAt}

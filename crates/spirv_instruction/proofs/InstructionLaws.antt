@@ -16,7 +16,8 @@ use Rattle.spirv_members.proofs.NumberLaws.{and-true}
 use Rattle.spirv_types.specs.Types.{State, Typed, typeAt}
 use Rattle.spirv_instruction.specs.declared.Judged.{Judged}
 use Rattle.spirv_instruction.specs.declared.Judged.the-variants as judge
-use Rattle.spirv_instruction.specs.Instruction.{leastWords, toldBy, wordsOk, rowCount, fits, withType, typeRead, otherRead, instruction, NoType, TypeTold, Told}
+use Rattle.spirv_instruction.specs.Instruction.{leastWords, toldBy, wordsOk, rowCount, fits, withType, typeRead, otherRead, instruction}
+use Rattle.spirv_instruction.specs.Serving.{NoType, TypeTold, Told}
 
 -- a table of so many rows
 abbrev pub someRows : (n : ℕ) → List ℕ

@@ -1,22 +1,19 @@
 -- 02, E5: one instruction: its word count (28), then 29 and 30 of a type, or of an id that is given before, then number 1.
 -- Assumes nothing.
-use mathlib.Core.Path.{_≡_}
-use mathlib.Core.Bool.{Bool, true, false, _&&_, _||_}
+use mathlib.Core.Bool.{Bool, _&&_, _||_}
 use mathlib.Core.List.{List, [], _∷_, _++_}
-use Prim.Native.Nat.{ℕ, _+_, _/_, _≤_, _<_, min}
+use Prim.Native.Nat.{ℕ, _+_, _/_, min}
 use lib.Dec.{eqb, leb, ltb}
 use lib.ListN.{length}
-use Rattle.records.specs.Result.{Result, err, ok, pick, require, andThen}
+use Rattle.records.specs.Result.{Result, ok, pick, require, andThen}
 use Rattle.records.specs.declared.Words.{Words}
-use Rattle.records.specs.Record.{typeWords, memberWords, typeCount, memberCount, innerIn}
-use Rattle.records.specs.Fields.{mostTypes, mostMembers, InnerBounds}
+use Rattle.records.specs.Record.{typeWords, memberWords, typeCount, memberCount}
+use Rattle.records.specs.Fields.{mostTypes, mostMembers}
 use Rattle.spirv_words.specs.Module.{wordCount, opcode, word, isType, isRead, typeInt, typeFloat, typeVector, typeMatrix, typeArray, typeRuntimeArray, typeStruct, constant, decorate, memberDecorate}
 use Rattle.spirv_words.specs.Decorations.{arrayStride, offset, matrixStride}
 use Rattle.spirv_ids.specs.Ids.{giver, integerBefore, isConstant}
 use Rattle.spirv_members.specs.Members.{memberCountAt, memberRows}
 use Rattle.spirv_types.specs.Types.{State, Typed, typeAt}
-use Rattle.spirv_instruction.specs.declared.Judged.{Judged}
-use Rattle.spirv_instruction.specs.declared.Judged.the-variants as judge
 
 -- ---- 28: the least word count of an instruction whose words are looked at
 -- an OpConstant of a 64-bit integer type has two words of value; one of no integer type is skipped
@@ -89,26 +86,3 @@ otherRead ws at s =
 
 unfoldable pub instruction : (t m : ℕ) (ws : List ℕ) (at : ℕ) → State → Result State
 instruction t m ws at s = require (wordsOk ws at) 28 0 0 (pick (isRead (opcode ws at)) (typeRead t m ws at s) (otherRead ws at s))
-
--- ---- what the code makes of it
-abbrev pub judgedResult : (ws : List ℕ) (at : ℕ) → State → Judged → Result State
-judgedResult ws at s judge.Skipped = ok s
-judgedResult ws at s (judge.Type words alignment rows) = ok (withType s (record { words = words; alignment = alignment }) (memberRows ws at rows))
-judgedResult ws at s (judge.Refused number) = err number 0 0
-
--- and what its caller goes by: there is a next instruction, and a new record's fields and place are within their bounds
-abbrev pub NoType : Judged → Type 0
-NoType judge.Skipped = Unit {0}
-NoType (judge.Type words alignment rows) = ⊥
-NoType (judge.Refused number) = Unit {0}
-
-abbrev pub TypeTold : (t m types members : ℕ) → Judged → Type 0
-TypeTold t m types members judge.Skipped = ⊥
-TypeTold t m types members (judge.Type words alignment rows) = InnerBounds (innerIn words) × (types < t) × (members + rows ≤ m)
-TypeTold t m types members (judge.Refused number) = Unit {0}
-
-abbrev pub Told : (t m : ℕ) (ws : List ℕ) (at types members : ℕ) → Judged → Type 0
-Told t m ws at types members judge.Skipped = (0 < wordCount ws at) × (isRead (opcode ws at) ≡ false)
-Told t m ws at types members (judge.Type words alignment rows) =
-    (0 < wordCount ws at) × (isRead (opcode ws at) ≡ true) × InnerBounds (innerIn words) × (types < t) × (members + rows ≤ m)
-Told t m ws at types members (judge.Refused number) = Unit {0}

@@ -1,1 +1,2 @@
 pub mod Instruction
+pub mod Serving

@@ -10,9 +10,10 @@ ghost use Rattle.records.specs.Record.{memberCount, typeCount};
 ghost use Rattle.spirv_words.specs.Module.{typeStruct, opcode, isRead};
 ghost use Rattle.spirv_ids.specs.Ids.{typeNumber};
 ghost use Rattle.spirv_ids.specs.Places.{GivesFrom};
-ghost use Rattle.spirv_members.specs.Ready.{Bounded, Ready};
+ghost use Rattle.spirv_members.specs.Serving.{Bounded, Ready};
 ghost use Rattle.spirv_types.specs.Types.{State};
-ghost use Rattle.spirv_instruction.specs.Instruction.{leastType, leastConstant, leastDecorate, leastMemberDecorate, leastWords, toldBy, wordsOk, rowCount, typeRead, newId, instruction, otherRead, judgedResult, NoType, TypeTold, Told};
+ghost use Rattle.spirv_instruction.specs.Instruction.{leastType, leastConstant, leastDecorate, leastMemberDecorate, leastWords, toldBy, wordsOk, rowCount, typeRead, newId, instruction, otherRead};
+ghost use Rattle.spirv_instruction.specs.Serving.{judgedResult, NoType, TypeTold, Told};
 
 // What one instruction is: a type with so many member rows, one that makes no record, or a refusal.
 pub enum Judged {

@@ -15,7 +15,8 @@ use Rattle.records.specs.Record.{memberWords, memberType}
 use Rattle.type_alignment.specs.TypeAlignment.{membersAlignment}
 use Rattle.spirv_words.specs.Module.{word}
 use Rattle.spirv_ids.specs.Ids.{typeNumber}
-use Rattle.spirv_members.specs.Members.{isTypeRead, memberSort, memberNumber, offsetAt, offsetOf, memberRows, memberSound, membersSound, layoutsOf, structAlignment, largestAlignment}
+use Rattle.spirv_members.specs.Members.{isTypeRead, memberSort, memberNumber, offsetAt, offsetOf, memberRows, memberSound, membersSound, layoutsOf, structAlignment}
+use Rattle.spirv_members.specs.Serving.{largestAlignment}
 use Rattle.spirv_members.proofs.NumberLaws.{and-true, read-below}
 
 module _ (ws : List ℕ) (at : ℕ) where

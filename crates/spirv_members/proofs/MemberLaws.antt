@@ -10,8 +10,9 @@ use lib.ListN.{getD}
 use borrow.Author.Tests.{ne-eqb}
 use Rattle.records.specs.Record.{typeWord, typeInner, innerOf, scalarKind, vectorKind, matrixKind, arrayKind}
 use Rattle.type_methods.specs.TypeMethods.{columnStep}
-use Rattle.spirv_members.specs.Members.{columnStepIn, memberNumber, memberUnsupported, membersUnsupported, memberSound, membersSound, largestAlignment}
-use Rattle.spirv_members.specs.Ready.{Bounded}
+use Rattle.spirv_members.specs.Members.{columnStepIn, memberNumber, memberUnsupported, membersUnsupported, memberSound, membersSound}
+use Rattle.spirv_members.specs.Serving.{largestAlignment}
+use Rattle.spirv_members.specs.Serving.{Bounded}
 
 module _ (ts : List ℕ) (k : ℕ) where
   module _ (left : ℕ) where

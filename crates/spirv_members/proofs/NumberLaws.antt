@@ -15,7 +15,7 @@ use Rattle.spirv_ids.specs.declared.Sort.the-variants.{Unknown, OtherType, Type
 use Rattle.spirv_ids.specs.Places.{Stands}
 use Rattle.spirv_ids.proofs.PlaceLaws.{stands-first, stands-next, number-upto, giver-below, giver-before}
 use Rattle.spirv_members.specs.Members.{isTypeRead, numberOf}
-use Rattle.spirv_members.specs.Ready.{SortBelow}
+use Rattle.spirv_members.specs.Serving.{SortBelow}
 
 pub and-true : (a b : Bool) → (a && b) ≡ true → (a ≡ true) × (b ≡ true)
 and-true true b e = (refl, e)

@@ -1,2 +1,2 @@
 pub mod Members
-pub mod Ready
+pub mod Serving

@@ -2,7 +2,7 @@
 -- Assumes nothing.
 use mathlib.Core.Bool.{Bool, true, false, _&&_, _||_}
 use mathlib.Core.List.{List, [], _∷_, _++_}
-use Prim.Native.Nat.{ℕ, zero, suc, _+_, _-_, max}
+use Prim.Native.Nat.{ℕ, zero, suc, _+_, _-_}
 use lib.Dec.{eqb, ltb}
 use lib.ListN.{getD, length}
 use Rattle.records.specs.Result.{pick, valueOr}
@@ -105,8 +105,3 @@ sizeIn ts t = sizeOf (typeInner ts t)
 unfoldable pub lastEnd : (ws ts : List ℕ) (at j : ℕ) → ℕ
 lastEnd ws ts at zero = 0
 lastEnd ws ts at (suc j) = offsetOf ws at j + sizeIn ts (memberNumber ws at j)
-
--- ---- what the code's loop makes: the largest alignment of the first j members
-unfoldable pub largestAlignment : (ws al : List ℕ) (at j : ℕ) → ℕ
-largestAlignment ws al at zero = 1
-largestAlignment ws al at (suc j) = max (largestAlignment ws al at j) (getD al (memberNumber ws at j) 0)

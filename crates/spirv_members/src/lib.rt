@@ -9,10 +9,11 @@ ghost use Prim.Native.Nat.{suc, _*_, _≤_, _<_, max};
 ghost use lib.ListN.{length, getD};
 ghost use Rattle.records.specs.Result.{ok};
 ghost use Rattle.records.specs.Record.{typeInner};
-ghost use Rattle.records.specs.Fields.{InnerBounds};
+ghost use Rattle.records.specs.Serving.{InnerBounds};
 ghost use Rattle.type_methods.specs.TypeMethods.{trySize, sizeOf};
-ghost use Rattle.spirv_members.specs.Members.{isOther, isTypeRead, numberOf, memberCountAt, memberSort, memberNumber, offsetAt, offsetOf, columnStepIn, storedOtherwise, memberUnsupported, membersUnsupported, memberSound, membersSound, sizeIn, lastEnd, largestAlignment};
-ghost use Rattle.spirv_members.specs.Ready.{Bounded, Ready};
+ghost use Rattle.spirv_members.specs.Members.{isOther, isTypeRead, numberOf, memberCountAt, memberSort, memberNumber, offsetAt, offsetOf, columnStepIn, storedOtherwise, memberUnsupported, membersUnsupported, memberSound, membersSound, sizeIn, lastEnd};
+ghost use Rattle.spirv_members.specs.Serving.{largestAlignment};
+ghost use Rattle.spirv_members.specs.Serving.{Bounded, Ready};
 
 // What is known of the first members: one is unsupported (29), all are sound (else 30), and their largest alignment.
 pub struct Members {

@@ -11,7 +11,8 @@ use lib.ListN.{length}
 use borrow.Author.Tests.{eqb-true}
 use Rattle.records.specs.Result.{err, ok, require}
 use Rattle.records.specs.declared.Words.{Words}
-use Rattle.records.specs.Record.{recordWords, memberCount, innerOf, structKind}
+use Rattle.records.specs.Record.{memberCount, innerOf, structKind}
+use Rattle.records.specs.Serving.{recordWords}
 use Rattle.alignment.specs.Alignment.{vectorAlignment, roundUp, most}
 use Rattle.alignment.proofs.PowerLaws.{vector-within}
 use Rattle.type_alignment.specs.TypeAlignment.{alignmentOf}
@@ -19,8 +20,9 @@ use Rattle.spirv_words.specs.Module.{headerWords, before, first}
 use Rattle.spirv_words.specs.Decorations.{isInteger}
 use Rattle.spirv_words.proofs.SearchLaws.{found-below}
 use Rattle.spirv_ids.specs.Ids.{integerBefore, typeNumber}
-use Rattle.spirv_members.specs.Members.{memberCountAt, membersUnsupported, membersSound, structAlignment, lastEnd, largestAlignment}
-use Rattle.spirv_members.specs.Ready.{Bounded}
+use Rattle.spirv_members.specs.Members.{memberCountAt, membersUnsupported, membersSound, structAlignment, lastEnd}
+use Rattle.spirv_members.specs.Serving.{largestAlignment}
+use Rattle.spirv_members.specs.Serving.{Bounded}
 use Rattle.spirv_members.proofs.MemberLaws.{scalar-width, vector-bounds}
 use Rattle.spirv_members.proofs.NumberLaws.{and-true}
 use Rattle.spirv_members.proofs.AlignmentLaws.{largest-is}

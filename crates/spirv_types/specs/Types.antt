@@ -5,7 +5,7 @@ use mathlib.Core.List.{List, []}
 use Prim.Native.Nat.{ℕ, _*_, _/_}
 use lib.Dec.{eqb, leb, ltb}
 use lib.ListN.{length}
-use Rattle.records.specs.Result.{Result, err, ok, pick, require, valueOr}
+use Rattle.records.specs.Result.{Result, ok, pick, require, valueOr}
 use Rattle.records.specs.declared.Words.{Words}
 use Rattle.records.specs.Record.{typeWord, memberCount, innerIn, scalarKind, vectorKind, matrixKind, arrayKind, structKind}
 use Rattle.alignment.specs.Alignment.{roundUp, most}
@@ -15,8 +15,6 @@ use Rattle.spirv_words.specs.Decorations.{isStrideOf, isMisplaced}
 use Rattle.spirv_ids.specs.declared.Sort.{Sort}
 use Rattle.spirv_ids.specs.declared.Sort.the-variants.{Unknown, OtherType, TypeRead, ConstantAt}
 use Rattle.spirv_ids.specs.Ids.{integerBefore, giver, sort}
-use Rattle.spirv_types.specs.declared.Made.{Made}
-use Rattle.spirv_types.specs.declared.Made.the-variants as made
 use Rattle.spirv_members.specs.Members.{isOther, isTypeRead, numberOf, memberCountAt, memberRows, membersUnsupported, membersSound, layoutsOf, structAlignment, lastEnd}
 
 -- the records made so far, and 01's layout alignment of each type
@@ -148,8 +146,3 @@ typeBy ws s at op fresh =
 
 unfoldable pub typeAt : (ws : List ℕ) (s : State) (at : ℕ) → Result Typed
 typeAt ws s at = typeBy ws s at (opcode ws at) (isFresh ws at)
-
--- ---- what the code answers
-abbrev pub madeResult : Made → Result Typed
-madeResult (made.Type words alignment) = ok (record { words = words; alignment = alignment })
-madeResult (made.Refused number) = err number 0 0

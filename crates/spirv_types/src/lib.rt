@@ -12,13 +12,15 @@ ghost use lib.ListN.{length};
 ghost use Rattle.records.specs.Result.{ok, pick, require, valueOr};
 ghost use Rattle.records.specs.Record.{memberCount, structKind};
 ghost use Rattle.alignment.specs.Alignment.{roundUp, most};
-ghost use Rattle.type_alignment.specs.TypeAlignment.{widthAlignment, baseAlignment, alignedResult};
+ghost use Rattle.type_alignment.specs.TypeAlignment.{widthAlignment, baseAlignment};
+ghost use Rattle.type_alignment.specs.Serving.{alignedResult};
 ghost use Rattle.spirv_ids.specs.Ids.{integerBefore, typeNumber};
 ghost use Rattle.spirv_ids.specs.Places.{GivesFrom};
 ghost use Rattle.spirv_words.specs.Module.{word};
 ghost use Rattle.spirv_members.specs.Members.{layoutsOf};
-ghost use Rattle.spirv_members.specs.Ready.{Bounded, Ready, SortBelow};
-ghost use Rattle.spirv_types.specs.Types.{judged, wordsOf, isFresh, widthOk, signKind, partsOk, strideAt, strideOf, constantLength, lengthOf, boolType, intType, floatType, vectorType, matrixType, arrayType, runtimeArrayType, structType, typeAt, madeResult};
+ghost use Rattle.spirv_members.specs.Serving.{Bounded, Ready, SortBelow};
+ghost use Rattle.spirv_types.specs.Types.{judged, wordsOf, isFresh, widthOk, signKind, partsOk, strideAt, strideOf, constantLength, lengthOf, boolType, intType, floatType, vectorType, matrixType, arrayType, runtimeArrayType, structType, typeAt};
+ghost use Rattle.spirv_types.specs.Serving.{madeResult};
 
 // A type's record and its layout alignment, or 29 or 30.
 pub enum Made {

@@ -3,7 +3,7 @@ use records::Leaf;
 use records::TypeInner;
 ghost use mathlib.Core.Path.{_≡_};
 ghost use Prim.Native.Nat.{_*_};
-ghost use Rattle.records.specs.Fields.{LeafBounds, InnerBounds};
+ghost use Rattle.records.specs.Serving.{LeafBounds, InnerBounds};
 ghost use Rattle.steps.specs.declared.Step.the-variants.{To};
 ghost use Rattle.type_methods.specs.TypeMethods.{leafColumnStep};
 ghost use Rattle.steps.specs.Columns.{isWhole, columnCount, columnOf};

@@ -8,7 +8,7 @@ use native.Mathlib.Omega.{arith}
 use lib.Dec.{T, eqb}
 use borrow.Author.Tests.{eqb-true}
 use Rattle.records.specs.Result.{pick}
-use Rattle.records.specs.Fields.{InnerBounds}
+use Rattle.records.specs.Serving.{InnerBounds}
 use Rattle.records.specs.declared.Leaf.{Leaf}
 use Rattle.records.specs.declared.Leaf.the-variants.{Scalar, Vector, Matrix, CooperativeMatrix, Atomic, RayQuery}
 use Rattle.records.specs.declared.TypeInner.{TypeInner}

@@ -13,7 +13,8 @@ use lib.Seq.{drop-cons, getD-drop}
 use borrow.Author.Tests.{ltb-true, eqb-true}
 use Rattle.records.specs.Result.{pick}
 use Rattle.records.proofs.ResultLaws.{true-T, T-true, and-left, and-right}
-use Rattle.text.specs.Line.{same, packed, nameOf, commandOf}
+use Rattle.text.specs.Line.{same, commandOf}
+use Rattle.text.specs.Serving.{packed, nameOf}
 
 abbrev pub Bytes : List ℕ → Type 0
 Bytes w = (k : ℕ) → Fits w8 (getD w k 0)

@@ -3,7 +3,7 @@
 use mathlib.Core.Path.{_≡_}
 use mathlib.Core.Bool.{Bool, true, false, _&&_}
 use mathlib.Core.List.{List, [], _∷_}
-use Prim.Native.Nat.{ℕ, _+_, _*_, _-_}
+use Prim.Native.Nat.{ℕ, _-_}
 use lib.Dec.{eqb, leb}
 use lib.ListN.{length, getD, take}
 use Rattle.records.specs.Result.{pick}
@@ -182,12 +182,3 @@ lineNumbers s = numbersUnless (strayIn s) (words (textOf s))
 -- the words begin with the numbers
 abbrev pub Holds : List ℕ → List ℕ → Type 0
 Holds xs ns = take (length ns) xs ≡ ns
-
--- ---- what the code has
--- a word as one number, its first byte lowest and a 1 above its last; 0 for more than seven bytes
-unfoldable pub packed : List ℕ → ℕ
-packed [] = 1
-packed (b ∷ w) = b + packed w * 256
-
-unfoldable pub nameOf : List ℕ → ℕ
-nameOf w = pick (leb (length w) 7) (packed w) 0

@@ -8,7 +8,8 @@ ghost use mathlib.Core.Path.{_≡_};
 ghost use Prim.Native.Nat.{_≤_};
 ghost use lib.ListN.{length, drop};
 ghost use Rattle.words.specs.Words.{textOf, words};
-ghost use Rattle.text.specs.Line.{nameOf, commandOf, leastOf, mostOf, argumentsOf, listOf, Holds, lineBy, lineWith, lineOf, numbersRead, lineIn, lineNumbers};
+ghost use Rattle.text.specs.Line.{commandOf, leastOf, mostOf, argumentsOf, listOf, Holds, lineBy, lineWith, lineOf, numbersRead, lineIn, lineNumbers};
+ghost use Rattle.text.specs.Serving.{nameOf};
 
 pub enum Line {
     Nothing,

@@ -5,7 +5,7 @@ use mathlib.Core.List.{List}
 use Prim.Native.Nat.{ℕ, zero, suc, _*_, _<_}
 use Rattle.records.specs.Result.{ok}
 use Rattle.records.specs.Record.{memberType}
-use Rattle.records.specs.Fields.{LeafBounds, InnerBounds}
+use Rattle.records.specs.Serving.{LeafBounds, InnerBounds}
 use Rattle.records.specs.declared.Leaf.{Leaf}
 use Rattle.records.specs.declared.Leaf.the-variants.{Scalar, Vector, Matrix, CooperativeMatrix, Atomic, RayQuery}
 use Rattle.records.specs.declared.TypeInner.{TypeInner}

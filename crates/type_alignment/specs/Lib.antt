@@ -1,1 +1,2 @@
 pub mod TypeAlignment
+pub mod Serving

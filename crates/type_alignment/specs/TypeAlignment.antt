@@ -1,25 +1,17 @@
 -- 01, 'The layout': the alignment of one type (`Layouter::update` of naga's proc/layouter.rs) from the layouts of the types before it,
 -- numbers 5 to 7.
 -- Assumes nothing.
-use mathlib.Core.Bool.{false}
 use mathlib.Core.List.{List}
-use mathlib.Core.Path.{_≡_}
 use Prim.Native.Nat.{ℕ, zero, suc, _*_, max}
 use lib.Dec.{ltb}
-use Rattle.records.specs.Result.{Result, err, ok, require, andThen}
-use Rattle.records.specs.Record.{memberType, memberCount, Sourceless}
-use Rattle.records.specs.Fields.{sourcesLocated}
+use Rattle.records.specs.Result.{Result, ok, require, andThen}
+use Rattle.records.specs.Record.{memberType}
 use Rattle.records.specs.declared.Leaf.{Leaf}
 use Rattle.records.specs.declared.Leaf.the-variants.{Scalar, Vector, Matrix, CooperativeMatrix, Atomic, RayQuery}
 use Rattle.records.specs.declared.TypeInner.{TypeInner}
 use Rattle.records.specs.declared.TypeInner.the-variants.{Plain, Array, RuntimeArray, Struct, Other}
-use Rattle.rows.specs.Rows.{rowWord}
 use Rattle.alignment.specs.Alignment.{powerOfTwo, vectorAlignment}
 use Rattle.type_alignment.specs.declared.TypeLayout.{TypeLayout}
-use Rattle.type_alignment.specs.declared.Aligned.{Aligned}
-use Rattle.type_alignment.specs.declared.Aligned.the-variants as aligned
-use Rattle.type_alignment.specs.declared.Located.{Located}
-use Rattle.type_alignment.specs.declared.Located.the-variants as located
 
 -- the width that has to be a power of two
 abbrev pub leafWidth : Leaf → ℕ
@@ -46,10 +38,6 @@ membersAlignment layouts i members (suc j) =
     andThen (membersAlignment layouts i members j)
     (λ a. require (ltb (memberType members j) i) 6 j 0 (ok (max a (layouts (memberType members j) .alignment))))
 
--- after number 2 of its rows
-abbrev pub structAlignment : (layouts : ℕ → TypeLayout) (i : ℕ) (members : List ℕ) → ℕ → Result ℕ
-structAlignment layouts i members count = require (sourcesLocated members) 2 0 0 (membersAlignment layouts i members count)
-
 -- number 5: an array's element is an earlier type
 abbrev pub baseAlignment : (layouts : ℕ → TypeLayout) (i base : ℕ) → Result ℕ
 baseAlignment layouts i base = require (ltb base i) 5 0 0 (ok (layouts base .alignment))
@@ -68,21 +56,3 @@ alignmentOf layouts i (Array base count stride) members = baseAlignment layouts 
 alignmentOf layouts i (RuntimeArray base stride) members = baseAlignment layouts i base
 alignmentOf layouts i (Struct count span) members = membersAlignment layouts i members count
 alignmentOf layouts i (Other o) members = ok 1
-
--- ---- what the code reads and answers
--- the layouts in the first two words of fourteen-word rows
-abbrev pub layoutsIn : List ℕ → ℕ → TypeLayout
-layoutsIn rows k = record { size = rowWord rows k 0; alignment = rowWord rows k 1 }
-
-abbrev pub alignedResult : Aligned → Result ℕ
-alignedResult (aligned.To alignment) = ok alignment
-alignedResult (aligned.Refused number member) = err number member 0
-
-abbrev pub locatedResult : Located → Result ℕ
-locatedResult (located.To alignment sourced) = ok alignment
-locatedResult (located.Refused number member) = err number member 0
-
--- no member has a blend source where the answer says so
-abbrev pub SourcesTold : (members : List ℕ) → Located → Type 0
-SourcesTold members (located.To alignment sourced) = sourced ≡ false → Sourceless members (memberCount members)
-SourcesTold members (located.Refused number member) = Unit {0}

@@ -5,7 +5,8 @@ ghost use lib.ListN.{length};
 ghost use Rattle.records.specs.Result.{err, ok, require};
 ghost use Rattle.records.specs.Record.{memberWords, memberCount, Sourceless};
 ghost use Rattle.records.specs.Fields.{sourcesLocated};
-ghost use Rattle.type_alignment.specs.TypeAlignment.{widthAlignment, structAlignment, baseAlignment, layoutsIn, alignedResult, locatedResult, SourcesTold};
+ghost use Rattle.type_alignment.specs.TypeAlignment.{widthAlignment, baseAlignment};
+ghost use Rattle.type_alignment.specs.Serving.{structAlignment, layoutsIn, alignedResult, locatedResult, SourcesTold};
 
 // naga's TypeLayout.
 pub struct TypeLayout {

@@ -4,7 +4,7 @@
 use mathlib.Core.Bool.{Bool, true, false, not, _&&_, _||_}
 use Prim.Native.Nat.{ℕ}
 use lib.Dec.{eqb}
-use Rattle.records.specs.Result.{Result, err, ok, require, andThen}
+use Rattle.records.specs.Result.{Result, ok, require, andThen}
 use Rattle.records.specs.Record.{scalarKind, vectorKind, matrixKind, cooperativeMatrixKind, atomicKind, pointerKind, imageKind, accelerationStructureKind, rayQueryKind}
 use Rattle.records.specs.declared.Leaf.{Leaf}
 use Rattle.records.specs.declared.Leaf.the-variants.{Scalar, Vector, Matrix, CooperativeMatrix, Atomic, RayQuery}
@@ -14,8 +14,6 @@ use Rattle.records.specs.declared.TypeInner.{TypeInner}
 use Rattle.records.specs.declared.TypeInner.the-variants.{Plain, Array, RuntimeArray, Struct, Other}
 use Rattle.flags.specs.Flags.{bit, dataBit, sizedBit, creationResolvedBit, startingFlags, scalarFlags, pointerFlags, bindingArrayFlags}
 use Rattle.width.specs.Width.{float, capability, checkWidth, atomicWidth, cooperativeMatrix, cubeArrayTextures, textureExternal, rayQuery, rayTracingPipeline, rayHitVertexPosition}
-use Rattle.type_flags.specs.declared.Flagged.{Flagged}
-use Rattle.type_flags.specs.declared.Flagged.the-variants.{Flags, Refused}
 
 -- ---- flags of a leaf, numbers 8 to 12
 -- where the width is allowed
@@ -106,8 +104,3 @@ bindingArrayOf inner base form =
     require (isBindingBase inner base) 23 0 0
     (require (not (isExternalImage inner)) 24 0 0
     (require (bit base creationResolvedBit) 17 0 0 (ok (bindingArrayFlags form base))))
-
--- ---- what the code answers
-abbrev pub flaggedResult : Flagged → Result ℕ
-flaggedResult (Flags flags) = ok flags
-flaggedResult (Refused number member detail) = err number member detail

@@ -4,8 +4,10 @@ ghost use mathlib.Core.Path.{_≡_};
 ghost use Rattle.records.specs.Result.{err, ok};
 ghost use Rattle.records.specs.Record.{atomicKind, valuePointerKind, samplerKind, typeInner};
 ghost use Rattle.flags.specs.Flags.{startingFlags, pointerFlags};
-ghost use Rattle.width.specs.Width.{widthResult, checkWidth, atomicWidth};
-ghost use Rattle.type_flags.specs.TypeFlags.{withWidth, cooperativeFlags, vertexFlags, matrixFlags, rayQueryFlags, isFlat, cubeAllowed, isExternalForm, externalAllowed, imageFlags, isStruct, isExternalImage, pointerTo, accelerationFlags, isBindingBase, bindingArrayOf, flaggedResult};
+ghost use Rattle.width.specs.Width.{checkWidth, atomicWidth};
+ghost use Rattle.width.specs.Serving.{widthResult};
+ghost use Rattle.type_flags.specs.TypeFlags.{withWidth, cooperativeFlags, vertexFlags, matrixFlags, rayQueryFlags, isFlat, cubeAllowed, isExternalForm, externalAllowed, imageFlags, isStruct, isExternalImage, pointerTo, accelerationFlags, isBindingBase, bindingArrayOf};
+ghost use Rattle.type_flags.specs.Serving.{flaggedResult};
 
 // The flags of a type, or its refusal.
 pub enum Flagged {

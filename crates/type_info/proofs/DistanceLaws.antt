@@ -12,7 +12,8 @@ use Rattle.type_info.specs.declared.UniformRule.the-variants.{Older, New
 use Rattle.type_info.specs.declared.Distance.the-variants.{Short}
 use Rattle.type_info.specs.declared.Previous.{Previous}
 use Rattle.type_info.specs.declared.Previous.the-variants.{NoStruct, StructBefore}
-use Rattle.type_info.specs.Verdict.{minUniform, minStorage, leastFor, distanceVerdict, afterDistance}
+use Rattle.type_info.specs.Verdict.{minUniform, minStorage, leastFor, distanceVerdict}
+use Rattle.type_info.specs.Serving.{afterDistance}
 
 -- by the minimum alignment of storage no distance is asked
 pub no-distance : (i j offset : ℕ) (previous : Previous) (v : Verdict) → distanceVerdict minStorage i j offset previous v ≡ v

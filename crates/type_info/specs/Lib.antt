@@ -1,2 +1,3 @@
 pub mod TypeInfo
 pub mod Verdict
+pub mod Serving

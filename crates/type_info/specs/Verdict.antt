@@ -1,7 +1,7 @@
 -- 01, 'The result row': verdicts (naga's LayoutCompatibility), and the rules that make them.
 -- i is the type that is judged; `least` is the minimum alignment: 1 for storage verdicts, for uniform ones by the rule that the caller chose.
 -- Assumes nothing.
-use mathlib.Core.Bool.{Bool, true, false, _&&_, _||_}
+use mathlib.Core.Bool.{Bool, true, _&&_, _||_}
 use mathlib.Core.List.{List}
 use Prim.Native.Nat.{ℕ, zero, suc, _+_, _-_, max}
 use lib.Dec.{eqb, leb}
@@ -13,8 +13,6 @@ use Rattle.alignment.specs.Alignment.{isAligned, roundUp, most}
 use Rattle.type_info.specs.declared.Verdict.{Verdict}
 use Rattle.type_info.specs.declared.UniformRule.{UniformRule}
 use Rattle.type_info.specs.declared.UniformRule.the-variants.{Older, Newer}
-use Rattle.type_info.specs.declared.Distance.{Distance}
-use Rattle.type_info.specs.declared.Distance.the-variants.{Enough, Short, Overflow}
 use Rattle.type_info.specs.declared.Previous.{Previous}
 use Rattle.type_info.specs.declared.Previous.the-variants.{NoStruct, StructBefore}
 
@@ -111,17 +109,6 @@ distanceOk (StructBefore span at) offset =
     leb at offset
     && leb (span + (minUniform - 1)) most
     && (leb (roundUp minUniform span) (offset - at) || leb (at + roundUp minUniform span) most)
-
--- what the code answers of both at once
-abbrev pub isWithin : Distance → Bool
-isWithin Enough = true
-isWithin (Short expected) = true
-isWithin Overflow = false
-
-abbrev pub afterDistance : (least : ℕ) → Distance → (i j offset : ℕ) → Verdict → Verdict
-afterDistance least Enough i j offset so-far = so-far
-afterDistance least (Short expected) i j offset so-far = pick (leb least minStorage) so-far (memberOffsetAfterStruct i j offset expected)
-afterDistance least Overflow i j offset so-far = so-far
 
 -- a member that is not sized has no place in a uniform buffer; an earlier error stays
 unfoldable pub unsizedVerdict : (sized : Bool) (i j : ℕ) → Verdict → Verdict

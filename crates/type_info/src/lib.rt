@@ -4,7 +4,8 @@ ghost use mathlib.Core.Bool.{Bool, true};
 ghost use Prim.Native.Nat.{ℕ};
 ghost use Rattle.type_info.specs.declared.Verdict as verdict;
 ghost use Rattle.type_info.specs.declared.UniformRule as rule;
-ghost use Rattle.type_info.specs.Verdict.{minUniform, leastFor, okVerdict, arrayVerdict, shareVerdict, offsetVerdict, memberVerdict, distanceVerdict, distanceOk, afterDistance, isWithin, unsizedVerdict, spanVerdict};
+ghost use Rattle.type_info.specs.Verdict.{minUniform, leastFor, okVerdict, arrayVerdict, shareVerdict, offsetVerdict, memberVerdict, distanceVerdict, distanceOk, unsizedVerdict, spanVerdict};
+ghost use Rattle.type_info.specs.Serving.{afterDistance, isWithin};
 
 // naga's LayoutCompatibility: code 0 is Ok, with the alignment in ty.
 pub struct Verdict {

@@ -10,8 +10,10 @@ use lib.ListN.{length, take, drop, length-drop}
 use lib.Seq.{length-take-le}
 use borrow.Author.Tests.{ne-eqb}
 use Rattle.records.specs.Result.{err, pick, require, andThen}
-use Rattle.records.specs.Record.{memberWords, memberCount, typeCount, typeWord, recordWords, structKind, structMembers, innerOf}
-use Rattle.records.specs.Fields.{fieldsOk, sourcesLocated, InnerBounds}
+use Rattle.records.specs.Record.{memberWords, memberCount, typeCount, typeWord, structKind, structMembers, innerOf}
+use Rattle.records.specs.Serving.{recordWords}
+use Rattle.records.specs.Fields.{fieldsOk, sourcesLocated}
+use Rattle.records.specs.Serving.{InnerBounds}
 use Rattle.records.specs.declared.Words.{Words}
 use Rattle.records.specs.declared.TypeInner.the-variants.{Array, RuntimeArray}
 use Rattle.records.proofs.ResultLaws.{true-T, and-left, refused-twice}
@@ -19,7 +21,8 @@ use Rattle.records.proofs.RecordLaws.{members-no-struct, members-part, no-rows-
 use Rattle.type_methods.specs.TypeMethods.{arraySize, runtimeArraySize, trySize}
 use Rattle.type_alignment.specs.declared.TypeLayout.{TypeLayout}
 use Rattle.type_alignment.specs.TypeAlignment.{baseAlignment, alignmentOf}
-use Rattle.type_layout.specs.TypeLayout.{sizedLayout, layoutOf, wordsLayout, recordLayout}
+use Rattle.type_layout.specs.TypeLayout.{sizedLayout, layoutOf}
+use Rattle.type_layout.specs.Serving.{wordsLayout, recordLayout}
 
 -- ---- one type
 -- the bounds of the fields behind a test that was taken

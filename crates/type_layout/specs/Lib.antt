@@ -1,1 +1,2 @@
 pub mod TypeLayout
+pub mod Serving

@@ -9,10 +9,12 @@ ghost use lib.ListN.{length, take, drop};
 ghost use Rattle.records.specs.Result.{err, ok, require, andThen};
 ghost use Rattle.records.specs.Fields.{sourcesLocated};
 ghost use Rattle.records.specs.Record.{scalarKind, vectorKind, matrixKind, cooperativeMatrixKind, arrayKind, structKind, memberWords, memberCount};
-ghost use Rattle.type_methods.specs.TypeMethods.{sizeByForm};
+ghost use Rattle.type_methods.specs.Serving.{sizeByForm};
 ghost use Rattle.type_alignment.specs.declared.TypeLayout as layout;
-ghost use Rattle.type_alignment.specs.TypeAlignment.{baseAlignment, layoutsIn, alignedResult};
-ghost use Rattle.type_layout.specs.TypeLayout.{sizedLayout, wordsLayout, recordLayout, laidResult};
+ghost use Rattle.type_alignment.specs.TypeAlignment.{baseAlignment};
+ghost use Rattle.type_alignment.specs.Serving.{layoutsIn, alignedResult};
+ghost use Rattle.type_layout.specs.TypeLayout.{sizedLayout};
+ghost use Rattle.type_layout.specs.Serving.{wordsLayout, recordLayout, laidResult};
 
 pub enum Laid {
     Layout(TypeLayout),

@@ -1,1 +1,2 @@
 pub mod TypeMethods
+pub mod Serving

@@ -2,8 +2,8 @@
 -- Assumes nothing.
 use mathlib.Core.Bool.{_&&_}
 use Prim.Native.Nat.{ℕ, _*_}
-use lib.Dec.{eqb, leb}
-use Rattle.records.specs.Result.{Result, err, ok, pick, require}
+use lib.Dec.{leb}
+use Rattle.records.specs.Result.{Result, ok, require}
 use Rattle.records.specs.declared.Leaf.{Leaf}
 use Rattle.records.specs.declared.Leaf.the-variants.{Scalar, Vector, Matrix, CooperativeMatrix, Atomic, RayQuery}
 use Rattle.records.specs.declared.NonData.{NonData}
@@ -11,8 +11,6 @@ use Rattle.records.specs.declared.NonData.the-variants.{Pointer, ValuePointer, 
 use Rattle.records.specs.declared.TypeInner.{TypeInner}
 use Rattle.records.specs.declared.TypeInner.the-variants.{Plain, Array, RuntimeArray, Struct, Other}
 use Rattle.alignment.specs.Alignment.{vectorAlignment}
-use Rattle.type_methods.specs.declared.Size.{Size}
-use Rattle.type_methods.specs.declared.Size.the-variants.{Bytes, TooLarge}
 
 -- naga's MAX_TYPE_SIZE
 abbrev pub mostSize : ℕ
@@ -70,12 +68,3 @@ trySize (Array base count stride) = arraySize count stride
 trySize (RuntimeArray base stride) = runtimeArraySize stride
 trySize (Struct count span) = ok span
 trySize (Other o) = ok (nonDataSize o)
-
--- what the code answers
-abbrev pub sizeResult : Size → Result ℕ
-sizeResult (Bytes size) = ok size
-sizeResult TooLarge = err 4 0 0
-
--- of an array by its form
-abbrev pub sizeByForm : (form count stride : ℕ) → Result ℕ
-sizeByForm form count stride = pick (eqb form 0) (arraySize count stride) (runtimeArraySize stride)

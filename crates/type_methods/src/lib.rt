@@ -4,8 +4,9 @@ use records::NonData;
 use records::TypeInner;
 ghost use mathlib.Core.Path.{_≡_};
 ghost use Prim.Native.Nat.{_*_, _≤_};
-ghost use Rattle.records.specs.Fields.{LeafBounds, InnerBounds};
-ghost use Rattle.type_methods.specs.TypeMethods.{columnStep, leafSize, nonDataSize, arraySize, runtimeArraySize, sizeByForm, trySize, sizeResult};
+ghost use Rattle.records.specs.Serving.{LeafBounds, InnerBounds};
+ghost use Rattle.type_methods.specs.TypeMethods.{columnStep, leafSize, nonDataSize, arraySize, runtimeArraySize, trySize};
+ghost use Rattle.type_methods.specs.Serving.{sizeByForm, sizeResult};
 
 // Number 4 is TooLarge.
 pub enum Size {

@@ -4,7 +4,7 @@ use type_info::Verdict;
 ghost use mathlib.Core.Path.{_≡_};
 ghost use Prim.Native.Nat.{_+_, _*_, _%_, _≤_, _<_};
 ghost use lib.ListN.{length};
-ghost use Rattle.rows.specs.Rows.{withRow};
+ghost use Rattle.rows.specs.Serving.{withRow};
 ghost use Rattle.type_info.specs.TypeInfo.{wordsOf, rowsIn, emptyRow, verdictIn};
 ghost use Rattle.type_info.specs.Verdict.{memberVerdict};
 

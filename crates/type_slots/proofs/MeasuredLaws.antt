@@ -19,7 +19,7 @@ use Rattle.type_methods.specs.TypeMethods.{mostSize, sizeOf, trySize}
 use Rattle.type_alignment.specs.declared.TypeLayout.{TypeLayout}
 use Rattle.layouter.specs.Layouter.{noLayout, layoutStep, layoutAt, layout, layoutOutcome}
 use Rattle.type_layout.proofs.AcceptedParts.{layout-parts}
-use Rattle.type_slots.specs.Walk.{Measured}
+use Rattle.type_slots.specs.Serving.{Measured}
 
 -- a size that is accepted is the measure
 measured : (inner : TypeInner) (size : ℕ) → trySize inner ≡ ok size → trySize inner ≡ ok (sizeOf inner)

@@ -11,8 +11,7 @@ use Rattle.records.specs.Table.{valueAt}
 use Rattle.records.specs.declared.TypeInner.{TypeInner}
 use Rattle.records.specs.declared.TypeInner.the-variants.{Plain, Array, RuntimeArray, Struct, Other}
 use Rattle.alignment.specs.Alignment.{most}
-use Rattle.records.specs.Fields.{InnerBounds}
-use Rattle.type_methods.specs.TypeMethods.{sizeOf, trySize}
+use Rattle.type_methods.specs.TypeMethods.{sizeOf}
 use Rattle.type_flags.specs.TypeFlags.{isStruct}
 use Rattle.slots.specs.declared.Slots.{Slots}
 use Rattle.slots.specs.declared.Slots.the-variants.{Mask, Past}
@@ -45,11 +44,6 @@ slotsStep types earlier i = ok (slotsOf earlier (types i .inner) (types i .membe
 -- of type ty of an arena at an offset, types in ascending order
 abbrev pub slotsAt : (types : ℕ → Decoded) → (ty offset : ℕ) → Slots
 slotsAt types = valueAt noSlots (slotsStep types)
-
--- a type that number 4 does not refuse, with fields within their bounds: its measure fits
-pub record Measured (inner : TypeInner) : Type 0 where
-  pub bounds : InnerBounds inner
-  pub size : trySize inner ≡ ok (sizeOf inner)
 
 -- a non-struct part of type ty, which stands at `offset`, covers slot k, by the test of one of the two masks: the type itself where it is no
 -- struct, or a part of a member

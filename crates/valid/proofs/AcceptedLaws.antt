@@ -12,7 +12,7 @@ use lib.Bits.{bitAnd, bitOr}
 use lib.Dec.{T, ltb, ltb→lt}
 use Rattle.records.specs.Result.{ok}
 use Rattle.records.specs.Record.{Decoded, memberType}
-use Rattle.records.specs.Fields.{InnerBounds}
+use Rattle.records.specs.Serving.{InnerBounds}
 use Rattle.records.specs.Table.{table, resultAt, firstRefusal}
 use Rattle.records.specs.declared.Outcome.the-variants.{Accepted}
 use Rattle.records.specs.declared.Leaf.{Leaf}

@@ -19,7 +19,8 @@ use Rattle.rows.specs.Rows.{cleared}
 use Rattle.layouter.specs.Layouter.{layoutAt, layoutRowAt, layoutRows, layoutOutcome, layoutAnswer, layoutWords, rowsAfter}
 use Rattle.type_info.specs.declared.UniformRule.{UniformRule}
 use Rattle.type_info.specs.Verdict.{leastFor}
-use Rattle.valid.specs.Arena.{judgedAt, commonAt, row, rowAt, laidThenJudged, judgeOutcome, arenaOutcome, arenaFits, arenaAnswer, arenaRows, arenaWords, afterBoth}
+use Rattle.valid.specs.Arena.{judgedAt, commonAt, row, rowAt, judgeOutcome, arenaOutcome, arenaFits, arenaAnswer, arenaRows, arenaWords}
+use Rattle.valid.specs.Serving.{laidThenJudged, afterBoth}
 use Rattle.valid.proofs.CommonLaws.{refused-common}
 use Rattle.valid.proofs.JudgeRows.{row-length, passed-records, passed-layouts, passed-rows}
 

@@ -14,21 +14,25 @@ use Rattle.records.specs.declared.Outcome.the-variants.{Accepted}
 use Rattle.records.proofs.ResultLaws.{and-then-ok}
 use Rattle.records.proofs.RecordLaws.{record-bounds}
 use Rattle.records.proofs.TableLaws.{table-value, table-above, value-ok, flat-length, flat-word, all-ok, accepted-all}
-use Rattle.rows.specs.Rows.{rowWord, withRow}
+use Rattle.rows.specs.Rows.{rowWord}
+use Rattle.rows.specs.Serving.{withRow}
 use Rattle.rows.proofs.RowLaws.{flat-more, drop-part}
 use Rattle.type_alignment.specs.declared.TypeLayout.{TypeLayout}
-use Rattle.type_alignment.specs.TypeAlignment.{layoutsIn}
-use Rattle.type_layout.specs.TypeLayout.{recordLayout}
-use Rattle.layouter.specs.Layouter.{noLayout, layoutStep, layoutAt, layout, recordThenLayout}
+use Rattle.type_alignment.specs.Serving.{layoutsIn}
+use Rattle.type_layout.specs.Serving.{recordLayout}
+use Rattle.layouter.specs.Layouter.{noLayout, layoutStep, layoutAt, layout}
+use Rattle.layouter.specs.Serving.{recordThenLayout}
 use Rattle.layouter.proofs.LayoutLaws.{record-laid}
 use Rattle.type_info.specs.declared.Row.{Row}
 use Rattle.type_info.specs.TypeInfo.{wordsOf, rowsIn, emptyRow}
 use Rattle.validate_type.specs.declared.Judged.{Judged}
 use Rattle.validate_type.specs.declared.Judged.the-variants.{Made}
-use Rattle.validate_type.specs.ValidateType.{judge, Settled}
-use Rattle.validate_type.specs.TypeRow.{recordRow}
+use Rattle.validate_type.specs.ValidateType.{judge}
+use Rattle.validate_type.specs.Serving.{Settled}
+use Rattle.validate_type.specs.Serving.{recordRow}
 use Rattle.validate_type.proofs.TypeRowLaws.{and-then-same}
-use Rattle.valid.specs.Arena.{judgeStep, judgedAt, row, rowAt, laidThenJudged, judgedOutcome}
+use Rattle.valid.specs.Arena.{judgeStep, judgedAt, row, rowAt}
+use Rattle.valid.specs.Serving.{laidThenJudged, judgedOutcome}
 use Rattle.valid.proofs.CommonLaws.{refused-common}
 use Rattle.valid.proofs.AcceptedLaws.{AcceptedTypes, row-size, row-alignment}
 

@@ -6,20 +6,17 @@ use mathlib.Core.Bool.{Bool, _&&_}
 use mathlib.Core.List.{List}
 use Prim.Native.Nat.{ℕ, _*_}
 use lib.ListN.{length}
-use Rattle.records.specs.Result.{Result, pick, andThen}
+use Rattle.records.specs.Result.{Result, pick}
 use Rattle.records.specs.Record.{Decoded, decoded, typeCount}
 use Rattle.records.specs.Fields.{rowWords, tablesFit, capabilitiesKnown}
 use Rattle.records.specs.Table.{resultAt, valueAt, also, firstRefusal, flat}
 use Rattle.records.specs.declared.Outcome.{Outcome}
-use Rattle.records.specs.declared.Outcome.the-variants.{Accepted, Refused}
-use Rattle.layouter.specs.Layouter.{layout, layoutOutcome, recordThenLayout, rowsAfter}
+use Rattle.records.specs.declared.Outcome.the-variants.{Refused}
+use Rattle.layouter.specs.Layouter.{layout, layoutOutcome, rowsAfter}
 use Rattle.type_info.specs.declared.Row.{Row}
 use Rattle.type_info.specs.declared.UniformRule.{UniformRule}
 use Rattle.type_info.specs.Verdict.{leastFor}
 use Rattle.type_info.specs.TypeInfo.{emptyRow, wordsOf}
-use Rattle.validate_type.specs.declared.Judged.{Judged}
-use Rattle.validate_type.specs.declared.Judged.the-variants as judged
-use Rattle.validate_type.specs.declared.Judged.the-variants.{Made}
 use Rattle.validate_type.specs.ValidateType.{judge, judgeCommon}
 
 -- ---- types in ascending order; `least` is the minimum alignment of uniform verdicts
@@ -71,18 +68,3 @@ arenaRows rule c ts ms n = flat (rowAt (leastFor rule) c ts ms) n
 unfoldable pub arenaWords : (rule : UniformRule) (c : ℕ) (ts ms rows : List ℕ) → List ℕ
 arenaWords rule c ts ms rows =
     pick (arenaFits c ts ms rows) (rowsAfter (arenaOutcome c ts ms) (arenaRows rule c ts ms (typeCount ts)) (typeCount ts) rows) rows
-
--- ---- two calls, the second where the first accepts: the words after both
-abbrev pub afterBoth : Outcome → (second first : List ℕ) → List ℕ
-afterBoth Accepted second first = second
-afterBoth (Refused number ty member detail) second first = first
-
--- ---- what the code answers
--- numbers 2 to 7 of type i and then its row, in the order of one type
-abbrev pub laidThenJudged : (least c : ℕ) (ts ms : List ℕ) → ℕ → Result Row
-laidThenJudged least c ts ms i = andThen (recordThenLayout ts ms i) (λ _. judgedAt least c (decoded ts ms) i)
-
--- the answer for one type as the arena's
-abbrev pub judgedOutcome : ℕ → Judged → Outcome
-judgedOutcome i Made = Accepted
-judgedOutcome i (judged.Refused number member detail) = Refused number i member detail

@@ -1,2 +1,3 @@
 pub mod Arena
 pub mod UniformRules
+pub mod Serving

@@ -14,7 +14,8 @@ ghost use Rattle.records.specs.declared.Outcome.the-variants.{Accepted};
 ghost use Rattle.rows.specs.Rows.{cleared};
 ghost use Rattle.layouter.specs.Layouter.{layoutOutcome, rowsAfter};
 ghost use Rattle.type_info.specs.Verdict.{leastFor};
-ghost use Rattle.valid.specs.Arena.{rowAt, laidThenJudged, arenaOutcome, arenaRows, arenaAnswer, arenaWords};
+ghost use Rattle.valid.specs.Arena.{rowAt, arenaOutcome, arenaRows, arenaAnswer, arenaWords};
+ghost use Rattle.valid.specs.Serving.{laidThenJudged};
 
 // Numbers 2 to 7 and then the row, type by type, over n types, up to the first refusal. Each row is made from those that this loop has written.
 fn judge_all(

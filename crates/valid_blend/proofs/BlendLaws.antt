@@ -23,7 +23,8 @@ use Rattle.type_info.specs.declared.Previous.{Previous}
 use Rattle.type_info.specs.Verdict.{previousOf, distanceOk}
 use Rattle.member_bounds.specs.declared.Bounds.{Bounds}
 use Rattle.member_bounds.specs.MemberBounds.{isArray, isMemberData, isApart, isMemberSized, memberBounds, boundsAfter}
-use Rattle.valid_blend.specs.Blend.{sourceAt, sourceRules, sourceResult, sourcesAfter, sourcesBefore, blendedAfter, otherLocation, sameType, pairOf, pairResult, structBlend, blendedFlags}
+use Rattle.valid_blend.specs.Blend.{sourceAt, sourceRules, sourceResult, sourcesAfter, blendedAfter, otherLocation, sameType, pairOf, pairResult, structBlend}
+use Rattle.valid_blend.specs.Serving.{sourcesBefore, blendedFlags}
 
 -- each of the first j members passes the rules of its blend source
 abbrev pub Pass : (dual : Bool) (members : List ℕ) → ℕ → Type 0

@@ -18,10 +18,6 @@ use Rattle.width.specs.Width.{dualSourceBlending}
 use Rattle.type_info.specs.Verdict.{previousOf}
 use Rattle.member_bounds.specs.declared.Bounds.{Bounds}
 use Rattle.member_bounds.specs.MemberBounds.{isMemberData, memberBounds}
-use Rattle.valid_blend.specs.declared.Source.{Source}
-use Rattle.valid_blend.specs.declared.Source.the-variants as source
-use Rattle.valid_blend.specs.declared.Blend.{Blend}
-use Rattle.valid_blend.specs.declared.Blend.the-variants as blend
 
 -- ---- one member
 -- the number plus one of the last of the first j members whose blend source is stored as this word; 0 for none
@@ -107,20 +103,3 @@ pairResult inner flags members other left (suc a) (suc b) = pairOf inner flags m
 unfoldable pub structBlend : (inner : ℕ → TypeInner) (flags : ℕ → ℕ) (members : List ℕ) (count left : ℕ) → Result ℕ
 structBlend inner flags members count left =
     pairResult inner flags members (otherLocation members count) left (sourceAt members 1 count) (sourceAt members 2 count)
-
--- ---- what the code answers
--- all rules of blend sources
-abbrev pub blendedFlags : (dual : Bool) (inner : ℕ → TypeInner) (flags : ℕ → ℕ) (members : List ℕ) (count left : ℕ) → Result ℕ
-blendedFlags dual inner flags members count left = andThen (sourcesAfter dual members count) (λ _. structBlend inner flags members count left)
-
--- how many members' blend sources come before a number of a member: 17 is asked first
-abbrev pub sourcesBefore : (number member : ℕ) → ℕ
-sourcesBefore number member = pick (eqb number 17) member (suc member)
-
-abbrev pub sourceAnswer : Source → Result (Unit {0})
-sourceAnswer source.Fine = ok tt
-sourceAnswer (source.Refused number detail) = err number 0 detail
-
-abbrev pub blendAnswer : Blend → Result ℕ
-blendAnswer (blend.Flags f) = ok f
-blendAnswer (blend.Refused number detail) = err number 0 detail

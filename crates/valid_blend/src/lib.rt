@@ -10,7 +10,8 @@ ghost use Rattle.records.specs.Record.{memberWords, memberCount, typeInner, mem
 ghost use Rattle.flags.specs.Flags.{bit};
 ghost use Rattle.width.specs.Width.{dualSourceBlending};
 ghost use Rattle.type_info.specs.TypeInfo.{rowsIn, rowFlags};
-ghost use Rattle.valid_blend.specs.Blend.{sourceAt, sourceResult, sourcesAfter, sourcesBefore, otherLocation, leafWords, innerWords, sameWords, sameType, pairOf, structBlend, blendedFlags, sourceAnswer, blendAnswer};
+ghost use Rattle.valid_blend.specs.Blend.{sourceAt, sourceResult, sourcesAfter, otherLocation, leafWords, innerWords, sameWords, sameType, pairOf, structBlend};
+ghost use Rattle.valid_blend.specs.Serving.{sourcesBefore, blendedFlags, sourceAnswer, blendAnswer};
 
 pub enum Source {
     Fine,

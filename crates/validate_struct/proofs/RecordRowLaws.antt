@@ -7,7 +7,8 @@ use Prim.Native.Nat.{ℕ, _+_, _*_, _≤_}
 use native.Mathlib.Omega.{arith}
 use lib.ListN.{length, take, drop}
 use Rattle.records.specs.Result.{ok, err, require}
-use Rattle.records.specs.Record.{memberWords, memberCount, typeCount, typeWord, recordWords, structKind, innerOf, typeInner, structMembers}
+use Rattle.records.specs.Record.{memberWords, memberCount, typeCount, typeWord, structKind, innerOf, typeInner, structMembers}
+use Rattle.records.specs.Serving.{recordWords}
 use Rattle.records.specs.Fields.{fieldsOk, sourcesLocated}
 use Rattle.records.specs.declared.Words.{Words}
 use Rattle.records.specs.declared.TypeInner.{TypeInner}
@@ -15,12 +16,14 @@ use Rattle.records.specs.declared.TypeInner.the-variants.{Struct}
 use Rattle.records.proofs.ResultLaws.{refused-twice, require-then}
 use Rattle.records.proofs.RecordLaws.{members-no-struct, members-part, no-rows-located}
 use Rattle.type_methods.specs.TypeMethods.{trySize}
-use Rattle.type_alignment.specs.TypeAlignment.{membersAlignment, alignmentOf, layoutsIn}
-use Rattle.type_layout.specs.TypeLayout.{layoutOf, recordLayout}
+use Rattle.type_alignment.specs.TypeAlignment.{membersAlignment, alignmentOf}
+use Rattle.type_alignment.specs.Serving.{layoutsIn}
+use Rattle.type_layout.specs.TypeLayout.{layoutOf}
+use Rattle.type_layout.specs.Serving.{recordLayout}
 use Rattle.type_layout.proofs.TypeLayoutLaws.{members-within}
 use Rattle.type_info.specs.TypeInfo.{rowsIn}
 use Rattle.validate_type.specs.ValidateType.{judge}
-use Rattle.validate_type.specs.TypeRow.{wordsRow, recordRow}
+use Rattle.validate_type.specs.Serving.{wordsRow, recordRow}
 
 -- a struct whose fields are in order
 module _ (least c m n : ℕ) (inner : ℕ → TypeInner) (words : List ℕ) (i first count span d e : ℕ) (members : List ℕ) (fit : fieldsOk m structKind first count span d e ≡ true) where

@@ -10,7 +10,7 @@ use Rattle.type_info.specs.declared.Row.{Row}
 use Rattle.type_info.specs.Verdict.{okVerdict, minStorage, previousOf}
 use Rattle.member_bounds.specs.MemberBounds.{boundsAfter}
 use Rattle.member_rules.specs.MemberRules.{uniformAfter, storageAfter, immediatesAfter}
-use Rattle.plain_members.specs.PlainMembers.{PlainAfter}
+use Rattle.plain_members.specs.Serving.{PlainAfter}
 
 pub plain-start : (least : ℕ) (inner : ℕ → TypeInner) (rows : ℕ → Row) (i count span : ℕ) (part : List ℕ)
     → PlainAfter least inner rows i count span part 0 (okVerdict least) 0

@@ -18,9 +18,10 @@ ghost use Rattle.records.specs.Fields.{sourcesLocated};
 ghost use Rattle.records.specs.declared.TypeInner.the-variants.{Struct};
 ghost use Rattle.type_info.specs.TypeInfo.{rowsIn};
 ghost use Rattle.type_info.specs.Verdict.{leastFor};
-ghost use Rattle.members.specs.Members.{Told};
-ghost use Rattle.validate_type.specs.ValidateType.{judge, Settled};
-ghost use Rattle.validate_type.specs.TypeRow.{wordsRow, recordRow};
+ghost use Rattle.members.specs.Serving.{Told};
+ghost use Rattle.validate_type.specs.ValidateType.{judge};
+ghost use Rattle.validate_type.specs.Serving.{Settled};
+ghost use Rattle.validate_type.specs.Serving.{wordsRow, recordRow};
 
 // All members of struct i, by the rules that do not read blend sources. Where none breaks a rule, no member comes next, and the struct right before it
 // is not looked for.

@@ -15,7 +15,8 @@ use Rattle.flags.specs.Flags.{arrayFlags, runtimeArrayFlags, isSizedData}
 use Rattle.type_flags.specs.TypeFlags.{leafFlags}
 use Rattle.type_info.specs.declared.Row.{Row}
 use Rattle.type_info.specs.TypeInfo.{rowFlags}
-use Rattle.validate_type.specs.ValidateType.{nonDataFlags, flagsOf, leafVerdictAlignment, leafImmediates, uniformOf, storageOf, immediatesOf, rowOf, judge, plainJudged, arrayRow, arrayOf}
+use Rattle.validate_type.specs.ValidateType.{nonDataFlags, flagsOf, leafVerdictAlignment, leafImmediates, uniformOf, storageOf, immediatesOf, rowOf, judge}
+use Rattle.validate_type.specs.Serving.{plainJudged, arrayRow, arrayOf}
 
 -- what follows a value that a test lets through
 pub require-then {ℓ κ} : {A : Type ℓ} {B : Type κ} (b : Bool) (n m d : ℕ) (a : A) (f : A → Result B)

@@ -13,15 +13,18 @@ use Rattle.records.specs.declared.TypeInner.{TypeInner}
 use Rattle.records.specs.declared.TypeInner.the-variants.{Plain, Other}
 use Rattle.records.proofs.ResultLaws.{required}
 use Rattle.type_alignment.specs.declared.TypeLayout.{TypeLayout}
-use Rattle.type_alignment.specs.TypeAlignment.{leafWidth, leafFactor, alignmentOf, layoutsIn}
+use Rattle.type_alignment.specs.TypeAlignment.{leafWidth, leafFactor, alignmentOf}
+use Rattle.type_alignment.specs.Serving.{layoutsIn}
 use Rattle.type_alignment.proofs.AcceptedAlignment.{leaf-accepted}
-use Rattle.type_layout.specs.TypeLayout.{layoutOf, wordsLayout}
+use Rattle.type_layout.specs.TypeLayout.{layoutOf}
+use Rattle.type_layout.specs.Serving.{wordsLayout}
 use Rattle.type_layout.proofs.AcceptedParts.{layout-parts}
 use Rattle.type_flags.specs.TypeFlags.{leafFlags}
 use Rattle.type_info.specs.TypeInfo.{rowsIn, rowFlags}
 use Rattle.validate_type.specs.declared.PlainRow.{PlainRow}
-use Rattle.validate_type.specs.ValidateType.{nonDataFlags, leafVerdictAlignment, leafImmediates, judge, plainJudged, plainResult, arrayOf}
-use Rattle.validate_type.specs.TypeRow.{wordsRow}
+use Rattle.validate_type.specs.ValidateType.{nonDataFlags, leafVerdictAlignment, leafImmediates, judge}
+use Rattle.validate_type.specs.Serving.{plainJudged, plainResult, arrayOf}
+use Rattle.validate_type.specs.Serving.{wordsRow}
 use Rattle.validate_type.proofs.RowParts.{leaf-judged, other-judged, array-judged}
 
 -- what follows a result may differ where there is none

@@ -1,2 +1,2 @@
 pub mod ValidateType
-pub mod TypeRow
+pub mod Serving

@@ -3,10 +3,9 @@
 -- sizes and flags alone; verdicts on the other.
 -- Assumes nothing.
 use mathlib.Core.List.{List}
-use mathlib.Core.Path.{_≡_}
 use Prim.Native.Nat.{ℕ, _*_}
-use lib.Dec.{eqb, ltb}
-use Rattle.records.specs.Result.{Result, err, ok, pick, require, andThen}
+use lib.Dec.{ltb}
+use Rattle.records.specs.Result.{Result, ok, require, andThen}
 use Rattle.records.specs.Record.{valuePointerKind, samplerKind}
 use Rattle.records.specs.declared.Leaf.{Leaf}
 use Rattle.records.specs.declared.Leaf.the-variants.{Scalar, Vector, Matrix, CooperativeMatrix, Atomic, RayQuery}
@@ -22,13 +21,7 @@ use Rattle.type_flags.specs.TypeFlags.{withWidth, leafFlags, imageFlags, pointe
 use Rattle.type_info.specs.declared.Verdict.{Verdict}
 use Rattle.type_info.specs.declared.Row.{Row}
 use Rattle.type_info.specs.Verdict.{minStorage, okVerdict, arrayVerdict, spanVerdict}
-use Rattle.rows.specs.Rows.{withRow}
-use Rattle.type_info.specs.TypeInfo.{wordsOf, rowSizes, rowFlags, noVerdict}
-use Rattle.validate_type.specs.declared.PlainRow.{PlainRow}
-use Rattle.validate_type.specs.declared.PlainRow.the-variants as plain
-use Rattle.validate_type.specs.declared.Judged.{Judged}
-use Rattle.validate_type.specs.declared.Judged.the-variants as judged
-use Rattle.validate_type.specs.declared.Judged.the-variants.{Made}
+use Rattle.type_info.specs.TypeInfo.{rowSizes, rowFlags, noVerdict}
 use Rattle.valid_blend.specs.Blend.{blendedAfter, structBlend}
 use Rattle.member_rules.specs.MemberRules.{uniformAfter, storageAfter, immediatesAfter}
 
@@ -123,46 +116,3 @@ judge least c inner rows i layout this members =
 unfoldable pub judgeCommon : (c : ℕ) (inner : ℕ → TypeInner) (rows : ℕ → Row) (i : ℕ) → TypeLayout → TypeInner → (members : List ℕ) → Result Row
 judgeCommon c inner rows i layout this members =
     andThen (flagsOf c inner (rowSizes rows) (rowFlags rows) this members) (λ flags. ok (rowWith noVerdict rows i layout this members flags))
-
--- ---- what the code answers
--- the row of a type that is neither array nor struct, with one alignment in both verdicts
-abbrev pub plainRow : TypeLayout → (alignment immediates flags : ℕ) → Row
-plainRow layout alignment immediates flags =
-    record {
-      size = layout .size;
-      alignment = layout .alignment;
-      flags = flags;
-      uniform = okVerdict alignment;
-      storage = okVerdict alignment;
-      immediates = immediates;
-    }
-
--- that row, or the refusal of its flags
-abbrev pub plainJudged : TypeLayout → (alignment immediates : ℕ) → (flags : Result ℕ) → Result Row
-plainJudged layout alignment immediates flags = andThen flags (λ f. ok (plainRow layout alignment immediates f))
-
-abbrev pub plainResult : PlainRow → Result Row
-plainResult (plain.Made size alignment flags verdict immediates) = ok (plainRow (record { size = size; alignment = alignment }) verdict immediates flags)
-plainResult (plain.Refused number member detail) = err number member detail
-
--- the row of an array over a base, with the flags that its form leaves
-abbrev pub arrayRow : (least i stride : ℕ) → (base : Row) → TypeLayout → (flags : ℕ) → Row
-arrayRow least i stride base layout flags =
-    record {
-      size = layout .size;
-      alignment = layout .alignment;
-      flags = flags;
-      uniform = arrayVerdict least i stride (base .alignment) (base .uniform);
-      storage = arrayVerdict minStorage i stride (base .alignment) (base .storage);
-      immediates = base .immediates;
-    }
-
--- by the array's form: 0 for one of a count, else a runtime array
-abbrev pub arrayOf : (least form i stride : ℕ) → (base : Row) → TypeLayout → Result Row
-arrayOf least form i stride base layout =
-    require (isSizedData (base .flags)) 15 0 0 (ok (arrayRow least i stride base layout (pick (eqb form 0) (arrayFlags (base .flags)) (runtimeArrayFlags (base .flags)))))
-
--- the code's answer and what it makes of the lent words, by one type's judgement, whose row is to be written from `at` on
-abbrev pub Settled : Judged → (at : ℕ) (before after : List ℕ) → Result Row → Type 0
-Settled r at before after (ok row) = (r ≡ Made) × (after ≡ withRow before at (wordsOf row))
-Settled r at before after (err number member detail) = (r ≡ judged.Refused number member detail) × (after ≡ before)

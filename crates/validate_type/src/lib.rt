@@ -14,11 +14,12 @@ ghost use Rattle.records.specs.declared.TypeInner as inner;
 ghost use Rattle.flags.specs.Flags.{startingFlags, scalarFlags, arrayFlags, runtimeArrayFlags};
 ghost use Rattle.width.specs.Width.{checkWidth};
 ghost use Rattle.type_alignment.specs.declared.TypeLayout as layout;
-ghost use Rattle.type_layout.specs.TypeLayout.{laidResult};
-ghost use Rattle.type_flags.specs.TypeFlags.{withWidth, flaggedResult};
+ghost use Rattle.type_layout.specs.Serving.{laidResult};
+ghost use Rattle.type_flags.specs.TypeFlags.{withWidth};
+ghost use Rattle.type_flags.specs.Serving.{flaggedResult};
 ghost use Rattle.type_info.specs.TypeInfo.{rowsIn};
-ghost use Rattle.validate_type.specs.ValidateType.{plainJudged, plainResult, arrayOf, Settled};
-ghost use Rattle.validate_type.specs.TypeRow.{wordsRow};
+ghost use Rattle.validate_type.specs.Serving.{plainJudged, plainResult, arrayOf, Settled};
+ghost use Rattle.validate_type.specs.Serving.{wordsRow};
 
 // A type that is neither array nor struct: its row, both verdicts Ok with one alignment; or its refusal.
 pub enum PlainRow {

@@ -1,2 +1,2 @@
 pub mod Grammar
-pub mod Read
+pub mod Serving

@@ -3,7 +3,7 @@ use wgsl_tokens::Lexed;
 ghost use mathlib.Core.Path.{_≡_};
 ghost use Rattle.wgsl_tokens.specs.Tokens.{from};
 ghost use Rattle.wgsl_grammar.specs.Grammar.{expect, skipping, nameOf, numberOf};
-ghost use Rattle.wgsl_grammar.specs.Read.{nextRead, NameRead, numberRead};
+ghost use Rattle.wgsl_grammar.specs.Serving.{nextRead, NameRead, numberRead};
 
 // A refusal's number; beside it, for a message, a position before the token at which it stands, and what was wrong there.
 // No contract speaks of the last two.

@@ -17,9 +17,9 @@ use Rattle.wgsl_placement.specs.declared.Shape.{Shape}
 use Rattle.wgsl_tables.specs.Tables.{recordsIn, nameIn, Named}
 use Rattle.wgsl_tables.proofs.TableLaws.{one-name, one-record, name-within}
 use Rattle.wgsl_types.specs.Types.{mostDepth, Closing, closed, typeOf}
-use Rattle.wgsl_types.specs.TypeRead.{Room}
+use Rattle.wgsl_types.specs.Serving.{Room}
 use Rattle.wgsl_members.specs.Members.{Attributed, attributeOf, afterAt, attributesOf, attributesFit, alignOfMember, sizeOfMember, Rooms, Members, withMember, typedMember}
-use Rattle.wgsl_members.specs.MemberRead.{Tables, tables, membersIn, Bounds, Kept, PlacedIn}
+use Rattle.wgsl_members.specs.Serving.{Tables, tables, membersIn, Bounds, Kept, PlacedIn}
 use Rattle.wgsl_members.specs.declared.Attributes.{Attributes}
 use Rattle.wgsl_members.specs.declared.Body.{Body}
 

@@ -15,10 +15,10 @@ ghost use lib.ListN.{length};
 ghost use Rattle.records.specs.Result.{pick};
 ghost use Rattle.words.specs.Words.{part};
 ghost use Rattle.wgsl_tokens.specs.Tokens.{from};
-ghost use Rattle.wgsl_grammar.specs.Read.{numberRead};
+ghost use Rattle.wgsl_grammar.specs.Serving.{numberRead};
 ghost use Rattle.wgsl_tables.specs.Tables.{structsIn};
 ghost use Rattle.wgsl_members.specs.Members.{attributes, again, valueOf, attributeNamed, attributeOf, attributesOf, alignFits, sizeFits, attributesFit, givenOr, typedMember, namedMember, memberOf};
-ghost use Rattle.wgsl_members.specs.MemberRead.{attributesRead, rooms, tables, membersIn, Bounds, MemberRead, Placeable, PlacedIn};
+ghost use Rattle.wgsl_members.specs.Serving.{attributesRead, rooms, tables, membersIn, Bounds, MemberRead, Placeable, PlacedIn};
 
 // How often an attribute was given.
 pub enum Given {

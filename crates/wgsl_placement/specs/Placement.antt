@@ -1,7 +1,6 @@
 -- The placement of the W3C WGSL specification, in its words, as the reader of WGSL text works it out: AlignOf, SizeOf and StrideOf of types.
 -- roundUp(k, n) = ⌈n ÷ k⌉ × k is the one of the alignment crate.
 -- Assumes nothing.
-use mathlib.Core.Path.{_≡_}
 use mathlib.Core.Bool.{Bool, true, false, _&&_}
 use mathlib.Core.List.{List, [], _∷_}
 use Prim.Native.Nat.{ℕ, _*_}
@@ -16,8 +15,6 @@ use Rattle.wgsl_names.specs.declared.Template.the-variants.{Vector, Matrix, Ato
 use Rattle.wgsl_placement.specs.declared.Shape.{Shape}
 use Rattle.wgsl_placement.specs.declared.Count.{Count}
 use Rattle.wgsl_placement.specs.declared.Count.the-variants.{Of, Runtime}
-use Rattle.wgsl_placement.specs.declared.Measure.{Measure}
-use Rattle.wgsl_placement.specs.declared.Measure.the-variants.{Bytes, TooLarge}
 
 -- the record's number, SizeOf, AlignOf, and whether the footprint is creation-fixed
 abbrev pub shape : (number size align : ℕ) → Bool → Shape
@@ -90,8 +87,3 @@ arrayRecord n e = arrayWords n (e .number) (strideOf e)
 
 abbrev pub structRecord : (first count span : ℕ) → Words
 structRecord first count span = recordOf 8 first count span 0
-
--- what the code answers of an array: SizeOf and StrideOf, or that they leave 32 bits
-abbrev pub Measured : Count → Shape → Measure → Type 0
-Measured n e (Bytes size stride) = (arrayFits n e ≡ true) × (size ≡ elements n * strideOf e) × (stride ≡ strideOf e)
-Measured n e TooLarge = arrayFits n e ≡ false

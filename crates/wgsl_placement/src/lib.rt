@@ -8,7 +8,8 @@ ghost use mathlib.Core.Bool.{true};
 ghost use Prim.Native.Nat.{_≤_, _+_, _*_};
 ghost use Rattle.alignment.specs.Alignment.{roundUp};
 ghost use Rattle.wgsl_names.specs.Names.{bytesOf, numberOf};
-ghost use Rattle.wgsl_placement.specs.Placement.{shape, alignOfVector, sizeOfVector, alignOfTemplate, sizeOfTemplate, elements, isCounted, recordOf, scalarRecord, templateRecord, arrayWords, Measured};
+ghost use Rattle.wgsl_placement.specs.Placement.{shape, alignOfVector, sizeOfVector, alignOfTemplate, sizeOfTemplate, elements, isCounted, recordOf, scalarRecord, templateRecord, arrayWords};
+ghost use Rattle.wgsl_placement.specs.Serving.{Measured};
 
 // A type that has closed: its record's number, SizeOf, AlignOf, and whether its footprint is creation-fixed.
 pub struct Shape {

@@ -11,7 +11,7 @@ use Rattle.wgsl_grammar.specs.Grammar.{Reading, refused, read}
 use Rattle.wgsl_tables.specs.Tables.{recordsIn, structsIn}
 use Rattle.wgsl_members.specs.Members.{Rooms}
 use Rattle.wgsl_structs.specs.Structs.{Declared, declarationsOf}
-use Rattle.wgsl_structs.specs.StructRead.{Declarations, declaredIn, StructRead, first}
+use Rattle.wgsl_structs.specs.Serving.{Declarations, declaredIn, StructRead, first}
 use Rattle.wgsl_structs.specs.declared.StructAt.{StructAt}
 use Rattle.wgsl_structs.specs.declared.StructAt.the-variants as struct
 use Rattle.wgsl_read.specs.Text.{roomsIn, textOf, leftIn, Filled}

@@ -18,10 +18,10 @@ use Rattle.words.specs.Words.{part}
 use Rattle.wgsl_tables.specs.Tables.{recordsIn, nameIn, namesIn, structsIn, flag, Named}
 use Rattle.wgsl_tables.proofs.TableLaws.{one-struct, one-record, name-within}
 use Rattle.wgsl_members.specs.Members.{Members, Rooms, memberOf}
-use Rattle.wgsl_members.specs.MemberRead.{rooms, Tables, tables, membersIn, Bounds, Kept}
+use Rattle.wgsl_members.specs.Serving.{rooms, Tables, tables, membersIn, Bounds, Kept}
 use Rattle.wgsl_members.specs.declared.Body.{Body}
 use Rattle.wgsl_structs.specs.Structs.{memberEnd, afterMember, membersOf, Declared, startOf, withStruct, closeStruct, structBody, structOf, declaredBy, declarationOf, afterDeclaration, declarationsOf}
-use Rattle.wgsl_structs.specs.StructRead.{Declarations, declarations, declaredIn, StateBounds, StateKept, StructRead, ClosedIn, declaredAt, DeclarationRead}
+use Rattle.wgsl_structs.specs.Serving.{Declarations, declarations, declaredIn, StateBounds, StateKept, StructRead, ClosedIn, declaredAt, DeclarationRead}
 use Rattle.wgsl_structs.specs.declared.StructAt.{StructAt}
 use Rattle.wgsl_structs.specs.declared.StructAt.the-variants as struct
 use Rattle.wgsl_structs.specs.declared.State.{State}

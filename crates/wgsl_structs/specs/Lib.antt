@@ -1,2 +1,2 @@
 pub mod Structs
-pub mod StructRead
+pub mod Serving

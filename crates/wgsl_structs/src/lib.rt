@@ -15,9 +15,9 @@ ghost use Rattle.words.specs.Words.{part};
 ghost use Rattle.wgsl_tokens.specs.Tokens.{from};
 ghost use Rattle.wgsl_grammar.specs.Grammar.{expect};
 ghost use Rattle.wgsl_tables.specs.Tables.{structsIn};
-ghost use Rattle.wgsl_members.specs.MemberRead.{rooms, tables, membersIn, Bounds};
+ghost use Rattle.wgsl_members.specs.Serving.{rooms, tables, membersIn, Bounds};
 ghost use Rattle.wgsl_structs.specs.Structs.{goes, closesOr, memberEnd, membersOf, isUnknown, structBody, structOf, declarationOf, declarationsOf};
-ghost use Rattle.wgsl_structs.specs.StructRead.{endRead, MembersRead, declarations, declaredIn, StateBounds, StructRead, Closable, ClosedIn, first, declaredAt, DeclarationRead};
+ghost use Rattle.wgsl_structs.specs.Serving.{endRead, MembersRead, declarations, declaredIn, StateBounds, StructRead, Closable, ClosedIn, first, declaredAt, DeclarationRead};
 
 // What follows a member: the struct closes, or there is another member.
 pub enum EndAt {

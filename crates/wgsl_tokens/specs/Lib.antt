@@ -1,2 +1,2 @@
 pub mod Tokens
-pub mod Lexed
+pub mod Serving

@@ -21,7 +21,7 @@ use Rattle.wgsl_placement.specs.declared.Shape.{Shape}
 use Rattle.wgsl_tables.specs.Tables.{Records, recordsIn, Named}
 use Rattle.wgsl_tables.proofs.TableLaws.{one-record}
 use Rattle.wgsl_types.specs.Types.{Closing, stopped, closing, makeType, scalarOf, templateOf, templateType, typeAfter, typeOf}
-use Rattle.wgsl_types.specs.TypeRead.{TypeRead}
+use Rattle.wgsl_types.specs.Serving.{TypeRead}
 use Rattle.wgsl_types.specs.declared.Closed.{Closed}
 use Rattle.wgsl_types.specs.declared.Closed.the-variants.{Whole, Full, Refused}
 

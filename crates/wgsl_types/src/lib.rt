@@ -21,7 +21,7 @@ ghost use Rattle.words.specs.Words.{part};
 ghost use Rattle.wgsl_tokens.specs.Tokens.{Token, from};
 ghost use Rattle.wgsl_tables.specs.Tables.{Records, recordsIn, structsIn};
 ghost use Rattle.wgsl_types.specs.Types.{knownType, Closing, makeType, scalarType, closeTemplate, templateOf, templateType, numberCount, commaCount, countOf, closeArray, arrayOf, argumentsOf, typeNamed, typeAfter, typeOf};
-ghost use Rattle.wgsl_types.specs.TypeRead.{countRead, openedType, TypeRead, Room};
+ghost use Rattle.wgsl_types.specs.Serving.{countRead, openedType, TypeRead, Room};
 
 // What a name stands for.
 pub enum Known {

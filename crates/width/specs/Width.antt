@@ -5,8 +5,6 @@ use Prim.Native.Nat.{ℕ, _+_}
 use lib.Dec.{eqb, leb}
 use Rattle.records.specs.Result.{Result, err, ok, pick, require}
 use Rattle.flags.specs.Flags.{bit}
-use Rattle.width.specs.declared.Width.{Width}
-use Rattle.width.specs.declared.Width.the-variants.{Allowed, Refused}
 
 -- ---- 01's capability word, by bit
 abbrev pub float64 : ℕ
@@ -110,8 +108,3 @@ atomicWidth c kind width =
 -- ---- the immediates word: 0, or 1 plus the scalar kind, for an integer or float of width 2
 abbrev pub immediatesWord : (kind width : ℕ) → ℕ
 immediatesWord kind width = pick (eqb width 2 && leb kind float) (1 + kind) 0
-
--- what the code answers
-abbrev pub widthResult : Width → Result (Unit {0})
-widthResult Allowed = ok tt
-widthResult (Refused number detail) = err number 0 detail

@@ -1,7 +1,8 @@
 // check_width of naga's valid/type.rs, and the widths of atomics.
 ghost use mathlib.Core.Path.{_≡_};
 ghost use Prim.Native.Nat.{_+_, _≤_};
-ghost use Rattle.width.specs.Width.{allowedWith, allowedOnly, integerWidth, integerAtomic, floatWidth, checkWidth, atomicWidth, immediatesWord, widthResult};
+ghost use Rattle.width.specs.Width.{allowedWith, allowedOnly, integerWidth, integerAtomic, floatWidth, checkWidth, atomicWidth, immediatesWord};
+ghost use Rattle.width.specs.Serving.{widthResult};
 
 pub enum Width {
     Allowed,

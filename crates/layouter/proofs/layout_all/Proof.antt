@@ -11,7 +11,8 @@ use denote.Ref.{now}
 use Rattle.records.specs.Table.{firstRefusal, flat}
 use Rattle.records.specs.declared.Outcome.the-variants.{Accepted}
 use Rattle.records.proofs.TableLaws.{stays}
-use Rattle.layouter.specs.Layouter.{recordThenLayout, layoutRowAt, layoutRows}
+use Rattle.layouter.specs.Layouter.{layoutRowAt, layoutRows}
+use Rattle.layouter.specs.Serving.{recordThenLayout}
 use Rattle.layouter.proofs.LayoutLaws.{laid-at, row-written, rest-kept, zeros-kept}
 use Rattle.layouter.proofs.layout_all.Statement.{statement}
 use Rattle.layouter.proofs.layout_all.Tie as tie

@@ -5,7 +5,7 @@ use native.Mathlib.Omega.{arith}
 use denote.Ref.{now}
 use Rattle.records.specs.Record.{typeInner}
 use Rattle.type_info.specs.Verdict.{previousOf}
-use Rattle.plain_members.specs.PlainMembers.{leastOf}
+use Rattle.plain_members.specs.Serving.{leastOf}
 use Rattle.members.proofs.least_at.Statement.{statement}
 use Rattle.members.proofs.least_at.Tie as tie
 

@@ -1,7 +1,8 @@
 use borrow.Author.Needs.{needs}
 use mathlib.Core.Path.{refl, sym, _∙_}
-use Rattle.type_info.specs.Verdict.{leastFor, isWithin}
-use Rattle.members.specs.Members.{memberStep}
+use Rattle.type_info.specs.Verdict.{leastFor}
+use Rattle.type_info.specs.Serving.{isWithin}
+use Rattle.members.specs.Serving.{memberStep}
 use Rattle.member_bounds.proofs.BoundsLaws.{bounds-within}
 use Rattle.member_rules.proofs.RuleLaws.{uniform-by}
 use Rattle.members.proofs.member.Statement.{statement}

@@ -9,7 +9,7 @@ use Rattle.records.specs.Result.{ok}
 use Rattle.records.specs.Record.{typeInner}
 use Rattle.type_info.specs.TypeInfo.{rowsIn}
 use Rattle.type_info.specs.Verdict.{leastFor}
-use Rattle.members.specs.Members.{stateAfter}
+use Rattle.members.specs.Serving.{stateAfter}
 use Rattle.members.proofs.StateLaws.{state-refused}
 use Rattle.members.proofs.members_of.Statement.{statement}
 use Rattle.members.proofs.members_of.Tie as tie

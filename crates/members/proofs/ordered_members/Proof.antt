@@ -10,7 +10,7 @@ use Rattle.records.specs.Record.{typeInner}
 use Rattle.type_info.specs.TypeInfo.{rowsIn}
 use Rattle.type_info.specs.Verdict.{leastFor}
 use Rattle.type_info.specs.declared.UniformRule.{UniformRule}
-use Rattle.members.specs.Members.{stateAfter}
+use Rattle.members.specs.Serving.{stateAfter}
 use Rattle.members.proofs.StateLaws.{state-step}
 use Rattle.members.proofs.ordered_members.Statement.{statement}
 use Rattle.members.proofs.ordered_members.Tie as tie

@@ -13,7 +13,8 @@ use Rattle.records.specs.Fields.{recordAt}
 use Rattle.records.specs.Table.{outcomeAt, firstRefusal, flat}
 use Rattle.records.specs.declared.Outcome.the-variants.{Accepted}
 use Rattle.records.proofs.TableLaws.{stays, all-ok}
-use Rattle.place_short.specs.Short.{threeAt, threeFrom, threeResult}
+use Rattle.place_short.specs.Short.{threeAt}
+use Rattle.place_short.specs.Serving.{threeFrom, threeResult}
 use Rattle.place_short.proofs.ShortLaws.{three-wide, three-there, three-refusal, three-written, rest-kept}
 use Rattle.place_short.proofs.OutcomeLaws.{not-accepted}
 use Rattle.place_short.proofs.judge_all.Statement.{statement}

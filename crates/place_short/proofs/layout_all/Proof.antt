@@ -14,7 +14,7 @@ use Rattle.records.specs.Table.{firstRefusal, flat}
 use Rattle.records.specs.declared.Outcome.the-variants.{Accepted}
 use Rattle.records.proofs.TableLaws.{stays, all-ok}
 use Rattle.layouter.specs.Layouter.{layoutAt}
-use Rattle.place_short.specs.Short.{laidFrom}
+use Rattle.place_short.specs.Serving.{laidFrom}
 use Rattle.place_short.proofs.ShortLaws.{laidAt, laid-wide, laid-outcome, laid-three, three-written, rest-kept}
 use Rattle.place_short.proofs.layout_all.Statement.{statement}
 use Rattle.place_short.proofs.layout_all.Tie as tie

@@ -6,7 +6,7 @@ use denote.Ref.{now}
 use Rattle.records.specs.Record.{typeInner, Sourceless}
 use Rattle.flags.specs.Flags.{bit}
 use Rattle.width.specs.Width.{dualSourceBlending}
-use Rattle.valid_blend.specs.Blend.{sourceAnswer}
+use Rattle.valid_blend.specs.Serving.{sourceAnswer}
 use Rattle.valid_blend.proofs.BlendLaws.{no-sources, no-blend}
 use Rattle.place_short_flags.specs.ShortFlags.{shortFlags}
 use Rattle.place_short_flags.proofs.blended_flags.Statement.{statement}

@@ -7,7 +7,7 @@ use denote.Ref.{now}
 use Rattle.records.specs.Record.{typeInner}
 use Rattle.flags.specs.Flags.{bit}
 use Rattle.width.specs.Width.{dualSourceBlending}
-use Rattle.valid_blend.specs.Blend.{sourceAnswer, blendAnswer}
+use Rattle.valid_blend.specs.Serving.{sourceAnswer, blendAnswer}
 use Rattle.valid_blend.proofs.BlendLaws.{blended-refused, flags-taken, flags-refused}
 use Rattle.validate_type.specs.ValidateType.{flagsOf}
 use Rattle.place_short_flags.specs.ShortFlags.{shortSizes, shortFlags}

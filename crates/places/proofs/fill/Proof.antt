@@ -8,7 +8,7 @@ use lib.ListN.{length, take, drop, take-append-drop}
 use denote.Ref.{now}
 use Rattle.records.specs.Table.{flat}
 use Rattle.places.specs.Runs.{runAt}
-use Rattle.places.specs.Places.{pairAt}
+use Rattle.places.specs.Serving.{pairAt}
 use Rattle.places.proofs.RunLaws.{run-next, run-room}
 use Rattle.places.proofs.PlacesLaws.{pair-written, pair-rest}
 use Rattle.places.proofs.fill.Statement.{statement}

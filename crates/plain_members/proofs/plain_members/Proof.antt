@@ -14,7 +14,7 @@ use Rattle.type_info.specs.declared.UniformRule.{UniformRule}
 use Rattle.type_info.specs.Verdict.{leastFor, okVerdict, previousOf}
 use Rattle.member_bounds.specs.MemberBounds.{boundsAfter}
 use Rattle.member_rules.specs.MemberRules.{uniformAfter, storageAfter, immediatesAfter}
-use Rattle.plain_members.specs.PlainMembers.{PlainAfter}
+use Rattle.plain_members.specs.Serving.{PlainAfter}
 use Rattle.plain_members.proofs.plain_members.Statement.{statement}
 use Rattle.plain_members.proofs.plain_members.Tie as tie
 

@@ -16,7 +16,7 @@ use Rattle.type_info.specs.declared.Verdict.{Verdict}
 use Rattle.type_info.specs.Verdict.{leastFor, isOk, previousOf}
 use Rattle.member_bounds.specs.MemberBounds.{boundsAfter}
 use Rattle.member_rules.specs.MemberRules.{uniformAfter, storageAfter, immediatesAfter}
-use Rattle.plain_members.specs.PlainMembers.{PlainAfter}
+use Rattle.plain_members.specs.Serving.{PlainAfter}
 use Rattle.plain_members.proofs.storage_members.Statement.{statement}
 use Rattle.plain_members.proofs.storage_members.Tie as tie
 

@@ -1,6 +1,6 @@
 use borrow.Author.Needs.{needs}
 use mathlib.Core.Path.{refl}
-use Rattle.plain_types.specs.PlainTypes.{entryIn}
+use Rattle.plain_types.specs.Serving.{entryIn}
 use Rattle.plain_types.proofs.entry_in.Statement.{statement}
 use Rattle.plain_types.proofs.entry_in.Tie as tie
 

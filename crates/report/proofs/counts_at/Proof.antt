@@ -5,7 +5,7 @@ use mathlib.Core.Bool.{true, false}
 use Prim.Native.Nat.{_<_, _^_}
 use native.Mathlib.Omega.{arith}
 use denote.Ref.{now}
-use Rattle.report.specs.Passes.{isReported}
+use Rattle.report.specs.Serving.{isReported}
 use Rattle.report.proofs.counts_at.Statement.{statement}
 use Rattle.report.proofs.counts_at.Tie as tie
 

@@ -6,7 +6,7 @@ use Prim.Native.Nat.{ℕ}
 use native.Mathlib.Omega.{arith}
 use denote.Ref.{now}
 use Rattle.records.specs.declared.Outcome.{Outcome}
-use Rattle.report.specs.Passes.{firstPassWords, AllCarry, totalsIn, secondPassWords, fillAnswer, fillWords}
+use Rattle.report.specs.Serving.{firstPassWords, AllCarry, totalsIn, secondPassWords, fillAnswer, fillWords}
 use Rattle.report.proofs.FillLaws.{all-carry, totals-same, words-same}
 use Rattle.report.proofs.fill.Statement.{statement}
 use Rattle.report.proofs.fill.Tie as tie

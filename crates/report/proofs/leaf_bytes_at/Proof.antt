@@ -1,6 +1,6 @@
 use borrow.Author.Needs.{needs}
 use mathlib.Core.Path.{sym, _∙_}
-use Rattle.report.specs.LeafBytes.{leafBytesAt}
+use Rattle.report.specs.Serving.{leafBytesAt}
 use Rattle.report.proofs.leaf_bytes_at.Statement.{statement}
 use Rattle.report.proofs.leaf_bytes_at.Tie as tie
 

@@ -1,6 +1,6 @@
 -- `report::leaf_bytes_of` meets its contract: each answer follows from what the type is. Assumes nothing.
 use borrow.Author.Needs.{needs}
-use Rattle.report.specs.LeafBytes.{leafBytesOf}
+use Rattle.report.specs.Serving.{leafBytesOf}
 use Rattle.report.proofs.leaf_bytes_of.Statement.{statement}
 use Rattle.report.proofs.leaf_bytes_of.Tie as tie
 

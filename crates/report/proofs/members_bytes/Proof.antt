@@ -4,7 +4,7 @@ use mathlib.Core.Path.{sym, _∙_}
 use Prim.Native.Nat.{_-_}
 use native.Mathlib.Nat.{le-antisymm}
 use denote.Ref.{now}
-use Rattle.report.specs.LeafBytes.{entryIn}
+use Rattle.report.specs.Serving.{entryIn}
 use Rattle.report.proofs.MemberBytes.{Adding, adding-start, adding-fits, adding-more, adding-narrow}
 use Rattle.report.proofs.members_bytes.Statement.{statement}
 use Rattle.report.proofs.members_bytes.Tie as tie

@@ -3,7 +3,7 @@ use native.Mathlib.Numerals.{add-one}
 use native.Mathlib.Omega.{arith}
 use lib.ListN.{length-set}
 use lib.Seq.{sets-eq}
-use Rattle.report.specs.LeafBytes.{pairOf}
+use Rattle.report.specs.Serving.{pairOf}
 use Rattle.report.proofs.put_pair.Statement.{statement}
 use Rattle.report.proofs.put_pair.Tie as tie
 

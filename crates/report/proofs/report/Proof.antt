@@ -7,7 +7,7 @@ use native.Mathlib.Omega.{arith}
 use denote.Ref.{now}
 use borrow.Author.Tests.{not-true, not-false}
 use Rattle.records.specs.Record.{typeCount}
-use Rattle.report.specs.Passes.{RowsOf, fillAnswer, fillWords}
+use Rattle.report.specs.Serving.{RowsOf, fillAnswer, fillWords}
 use Rattle.report.proofs.ReportLaws.{lengths, rows-made, refused-same, filled-same, short-same}
 use Rattle.report.proofs.report.Statement.{statement}
 use Rattle.report.proofs.report.Tie as tie

@@ -5,7 +5,8 @@ use Prim.Native.Nat.{ℕ, _-_, _≤_}
 use native.Mathlib.Nat.{le-antisymm}
 use native.Mathlib.Omega.{arith}
 use denote.Ref.{now}
-use Rattle.spirv_members.specs.Members.{membersUnsupported, membersSound, largestAlignment}
+use Rattle.spirv_members.specs.Members.{membersUnsupported, membersSound}
+use Rattle.spirv_members.specs.Serving.{largestAlignment}
 use Rattle.spirv_members.proofs.MemberLaws.{unsupported-more, sound-more, largest-more}
 use Rattle.spirv_members.proofs.members_of.Statement.{statement}
 use Rattle.spirv_members.proofs.members_of.Tie as tie

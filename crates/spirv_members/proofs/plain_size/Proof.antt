@@ -5,7 +5,7 @@ use Prim.Native.Nat.{ℕ, _≤_}
 use native.Mathlib.Omega.{arith}
 use Rattle.records.specs.Result.{ok, err}
 use Rattle.records.proofs.ResultLaws.{ok-inj}
-use Rattle.type_methods.specs.TypeMethods.{sizeResult}
+use Rattle.type_methods.specs.Serving.{sizeResult}
 use Rattle.spirv_members.proofs.plain_size.Statement.{statement}
 use Rattle.spirv_members.proofs.plain_size.Tie as tie
 

@@ -3,7 +3,8 @@ use borrow.Author.Needs.{needs}
 use mathlib.Core.Path.{refl, sym, _∙_}
 use mathlib.Core.List.{[], _∷_}
 use denote.Ref.{now}
-use Rattle.text.specs.Line.{same, packed, nameOf, lastCommandOf, answerCommandOf, laterCommandOf, commandOf}
+use Rattle.text.specs.Line.{same, lastCommandOf, answerCommandOf, laterCommandOf, commandOf}
+use Rattle.text.specs.Serving.{packed, nameOf}
 use Rattle.text.proofs.NameLaws.{named, unnamed}
 use Rattle.text.proofs.command_of.Statement.{statement}
 use Rattle.text.proofs.command_of.Tie as tie

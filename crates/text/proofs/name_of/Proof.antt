@@ -6,7 +6,7 @@ use native.Mathlib.Omega.{arith}
 use denote.Ref.{now}
 use lib.ListN.{length, drop, drop-of-length-le}
 use borrow.Author.Tests.{le-leb, lt-leb}
-use Rattle.text.specs.Line.{packed, nameOf}
+use Rattle.text.specs.Serving.{packed, nameOf}
 use Rattle.text.proofs.NameLaws.{rest-within, packed-more}
 use Rattle.text.proofs.name_of.Statement.{statement}
 use Rattle.text.proofs.name_of.Tie as tie

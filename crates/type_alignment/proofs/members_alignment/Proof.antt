@@ -10,7 +10,8 @@ use denote.Ref.{now}
 use Rattle.records.specs.Result.{Result, ok, require}
 use Rattle.records.specs.Record.{memberCount, Sourceless}
 use Rattle.records.specs.Fields.{sourcesLocated}
-use Rattle.type_alignment.specs.TypeAlignment.{membersAlignment, layoutsIn}
+use Rattle.type_alignment.specs.TypeAlignment.{membersAlignment}
+use Rattle.type_alignment.specs.Serving.{layoutsIn}
 use Rattle.type_alignment.proofs.AlignmentLaws.{member-earlier, member-late, one-more-sourceless}
 use Rattle.type_alignment.proofs.members_alignment.Statement.{statement}
 use Rattle.type_alignment.proofs.members_alignment.Tie as tie

@@ -3,7 +3,7 @@ use mathlib.Core.Path.{sym, _∙_}
 use denote.Ref.{now}
 use lib.Dec.{eqb}
 use Rattle.records.specs.Record.{innerOf}
-use Rattle.type_alignment.specs.TypeAlignment.{layoutsIn}
+use Rattle.type_alignment.specs.Serving.{layoutsIn}
 use Rattle.type_layout.proofs.TypeLayoutLaws.{array-laid}
 use Rattle.type_layout.proofs.array_record.Statement.{statement}
 use Rattle.type_layout.proofs.array_record.Tie as tie

@@ -6,7 +6,8 @@ use denote.Ref.{now}
 use Rattle.records.specs.Record.{memberCount, typeCount, innerOf, structMembers}
 use Rattle.records.specs.Fields.{fieldsOk}
 use Rattle.type_methods.specs.TypeMethods.{trySize}
-use Rattle.type_alignment.specs.TypeAlignment.{alignmentOf, layoutsIn}
+use Rattle.type_alignment.specs.TypeAlignment.{alignmentOf}
+use Rattle.type_alignment.specs.Serving.{layoutsIn}
 use Rattle.type_layout.specs.TypeLayout.{layoutOf}
 use Rattle.type_layout.proofs.TypeLayoutLaws.{past, no-kind, by-words, struct-words, unfit-words}
 use Rattle.type_layout.proofs.layout_of.Statement.{statement}

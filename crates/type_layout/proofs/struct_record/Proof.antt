@@ -8,7 +8,8 @@ use Rattle.records.specs.Record.{memberWords, memberCount, innerOf}
 use Rattle.records.specs.Fields.{sourcesLocated}
 use Rattle.records.proofs.ResultLaws.{refused-twice, require-then}
 use Rattle.type_methods.specs.TypeMethods.{trySize}
-use Rattle.type_alignment.specs.TypeAlignment.{membersAlignment, alignmentOf, layoutsIn}
+use Rattle.type_alignment.specs.TypeAlignment.{membersAlignment, alignmentOf}
+use Rattle.type_alignment.specs.Serving.{layoutsIn}
 use Rattle.type_layout.specs.TypeLayout.{sizedLayout, layoutOf}
 use Rattle.type_layout.proofs.TypeLayoutLaws.{members-within, part-length}
 use Rattle.type_layout.proofs.struct_record.Statement.{statement}

@@ -12,7 +12,8 @@ use Rattle.records.specs.Table.{firstRefusal, flat}
 use Rattle.records.specs.declared.Outcome.the-variants.{Accepted}
 use Rattle.records.proofs.TableLaws.{stays}
 use Rattle.type_info.specs.Verdict.{leastFor}
-use Rattle.valid.specs.Arena.{rowAt, laidThenJudged}
+use Rattle.valid.specs.Arena.{rowAt}
+use Rattle.valid.specs.Serving.{laidThenJudged}
 use Rattle.valid.proofs.JudgeRows.{outcome-at, rest-kept, row-written}
 use Rattle.valid.proofs.judge_all.Statement.{statement}
 use Rattle.valid.proofs.judge_all.Tie as tie

@@ -7,7 +7,7 @@ use Rattle.records.specs.Record.{typeInner, Sourceless}
 use Rattle.flags.specs.Flags.{bit}
 use Rattle.width.specs.Width.{dualSourceBlending}
 use Rattle.type_info.specs.TypeInfo.{rowsIn, rowFlags}
-use Rattle.valid_blend.specs.Blend.{sourceAnswer}
+use Rattle.valid_blend.specs.Serving.{sourceAnswer}
 use Rattle.valid_blend.proofs.BlendLaws.{no-sources, no-blend}
 use Rattle.valid_blend.proofs.blended_flags.Statement.{statement}
 use Rattle.valid_blend.proofs.blended_flags.Tie as tie

@@ -6,7 +6,7 @@ use borrow.Author.Tests.{ne-eqb, not-true}
 use denote.Ref.{now}
 use Rattle.flags.specs.Flags.{bit}
 use Rattle.width.specs.Width.{dualSourceBlending}
-use Rattle.valid_blend.specs.Blend.{sourcesBefore}
+use Rattle.valid_blend.specs.Serving.{sourcesBefore}
 use Rattle.valid_blend.proofs.BlendLaws.{before-within, no-sources}
 use Rattle.valid_blend.proofs.source_before.Statement.{statement}
 use Rattle.valid_blend.proofs.source_before.Tie as tie

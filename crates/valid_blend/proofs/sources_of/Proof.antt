@@ -6,7 +6,8 @@ use Prim.Native.Nat.{_≤_, _-_}
 use native.Mathlib.Nat.{le-antisymm}
 use denote.Ref.{now}
 use Rattle.records.specs.Result.{ok}
-use Rattle.valid_blend.specs.Blend.{sourcesAfter, sourceAnswer}
+use Rattle.valid_blend.specs.Blend.{sourcesAfter}
+use Rattle.valid_blend.specs.Serving.{sourceAnswer}
 use Rattle.valid_blend.proofs.BlendLaws.{source-passes, source-stops}
 use Rattle.valid_blend.proofs.sources_of.Statement.{statement}
 use Rattle.valid_blend.proofs.sources_of.Tie as tie

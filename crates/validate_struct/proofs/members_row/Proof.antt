@@ -10,7 +10,7 @@ use Rattle.records.specs.Record.{typeInner}
 use Rattle.flags.specs.Flags.{bit}
 use Rattle.width.specs.Width.{dualSourceBlending}
 use Rattle.type_info.specs.TypeInfo.{rowsIn, rowSizes, rowFlags}
-use Rattle.valid_blend.specs.Blend.{sourceAnswer, blendAnswer}
+use Rattle.valid_blend.specs.Serving.{sourceAnswer, blendAnswer}
 use Rattle.valid_blend.proofs.BlendLaws.{blended-refused, flags-taken, flags-refused}
 use Rattle.validate_type.specs.ValidateType.{judge, flagsOf, rowOf, uniformOf, storageOf, immediatesOf}
 use Rattle.validate_struct.proofs.members_row.Statement.{statement}

@@ -9,7 +9,8 @@ use borrow.Author.Tests.{not-true, not-false}
 use Rattle.records.specs.Record.{memberWords, memberCount, typeInner}
 use Rattle.records.specs.Fields.{sourcesLocated}
 use Rattle.records.proofs.ResultLaws.{required, refused-twice, T-true}
-use Rattle.type_alignment.specs.TypeAlignment.{membersAlignment, layoutsIn, locatedResult}
+use Rattle.type_alignment.specs.TypeAlignment.{membersAlignment}
+use Rattle.type_alignment.specs.Serving.{layoutsIn, locatedResult}
 use Rattle.type_alignment.proofs.AcceptedAlignment.{members-earlier}
 use Rattle.type_layout.proofs.TypeLayoutLaws.{members-within, part-length}
 use Rattle.type_info.specs.Verdict.{leastFor}

@@ -5,7 +5,7 @@ use native.Mathlib.Omega.{arith}
 use lib.ListN.{take}
 use lib.Seq.{length-take-le}
 use denote.Ref.{now}
-use Rattle.type_layout.specs.TypeLayout.{laidResult}
+use Rattle.type_layout.specs.Serving.{laidResult}
 use Rattle.validate_type.proofs.TypeRowLaws.{array-row-is, refused-row}
 use Rattle.validate_type.proofs.array_row.Statement.{statement}
 use Rattle.validate_type.proofs.array_row.Tie as tie

@@ -4,7 +4,8 @@ use Rattle.records.specs.Record.{innerOf}
 use Rattle.records.specs.Fields.{fieldsOk}
 use Rattle.records.specs.declared.Leaf.the-variants.{Atomic}
 use Rattle.type_methods.specs.TypeMethods.{trySize}
-use Rattle.type_alignment.specs.TypeAlignment.{alignmentOf, layoutsIn}
+use Rattle.type_alignment.specs.TypeAlignment.{alignmentOf}
+use Rattle.type_alignment.specs.Serving.{layoutsIn}
 use Rattle.type_layout.specs.TypeLayout.{layoutOf}
 use Rattle.type_flags.specs.TypeFlags.{leafFlags}
 use Rattle.validate_type.proofs.TypeRowLaws.{leaf-row}

@@ -5,7 +5,7 @@ use denote.Ref.{now}
 use borrow.Author.Tests.{lt-ltb, le-ltb, not-true, not-false}
 use Rattle.wgsl_grammar.specs.Grammar.{Reading, read}
 use Rattle.wgsl_members.specs.Members.{typedMember}
-use Rattle.wgsl_members.specs.MemberRead.{rooms, tables}
+use Rattle.wgsl_members.specs.Serving.{rooms, tables}
 use Rattle.wgsl_members.proofs.MemberLaws.{full-number, placed-bounds, placed-kept, placed-read}
 use borrow.Author.Needs.{needs}
 use Rattle.wgsl_members.proofs.typed_member.Statement.{statement}

@@ -1,8 +1,8 @@
 use mathlib.Core.Path.{_≡_, refl, sym, ap, _∙_}
 use lib.ListN.{length}
 use denote.Ref.{now}
-use Rattle.wgsl_members.specs.MemberRead.{rooms}
-use Rattle.wgsl_structs.specs.StructRead.{declarations}
+use Rattle.wgsl_members.specs.Serving.{rooms}
+use Rattle.wgsl_structs.specs.Serving.{declarations}
 use Rattle.wgsl_read.proofs.TextLaws.{text-filled}
 use borrow.Author.Needs.{needs}
 use Rattle.wgsl_read.proofs.fill.Statement.{statement}

@@ -6,9 +6,9 @@ use denote.Ref.{now}
 use borrow.Author.Tests.{ne-eqb}
 use Rattle.words.specs.Words.{part}
 use Rattle.wgsl_tokens.specs.Tokens.{from}
-use Rattle.wgsl_members.specs.MemberRead.{rooms}
+use Rattle.wgsl_members.specs.Serving.{rooms}
 use Rattle.wgsl_structs.specs.Structs.{structOf}
-use Rattle.wgsl_structs.specs.StructRead.{declarations, declaredIn}
+use Rattle.wgsl_structs.specs.Serving.{declarations, declaredIn}
 use Rattle.wgsl_structs.proofs.StructLaws.{state-same, state-bounds-at, state-kept-at, declared-read, struct-declared}
 use borrow.Author.Needs.{needs}
 use Rattle.wgsl_structs.proofs.declaration_at.Statement.{statement}

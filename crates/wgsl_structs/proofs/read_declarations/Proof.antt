@@ -5,9 +5,9 @@ use Prim.Native.Nat.{_+_, _*_, _-_, _≤_, _<_}
 use native.Mathlib.Omega.{arith}
 use lib.ListN.{length}
 use denote.Ref.{now}
-use Rattle.wgsl_members.specs.MemberRead.{rooms}
+use Rattle.wgsl_members.specs.Serving.{rooms}
 use Rattle.wgsl_structs.specs.Structs.{declarationsOf}
-use Rattle.wgsl_structs.specs.StructRead.{declarations, declaredIn, StateBounds, StateKept, Declarations, first}
+use Rattle.wgsl_structs.specs.Serving.{declarations, declaredIn, StateBounds, StateKept, Declarations, first}
 use Rattle.wgsl_structs.proofs.StructLaws.{declarations-step, state-same, state-both}
 use borrow.Author.Needs.{needs}
 use Rattle.wgsl_structs.proofs.read_declarations.Statement.{statement}

@@ -6,7 +6,7 @@ use native.Mathlib.Omega.{arith}
 use lib.ListN.{length}
 use denote.Ref.{now}
 use Rattle.wgsl_tables.specs.Tables.{structsIn}
-use Rattle.wgsl_members.specs.MemberRead.{rooms, tables, membersIn, Bounds, Kept}
+use Rattle.wgsl_members.specs.Serving.{rooms, tables, membersIn, Bounds, Kept}
 use Rattle.wgsl_structs.specs.Structs.{membersOf}
 use Rattle.wgsl_structs.proofs.StructLaws.{members-step, bounds-at, kept-at, kept-same, kept-both}
 use borrow.Author.Needs.{needs}

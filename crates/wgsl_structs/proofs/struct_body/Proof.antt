@@ -4,8 +4,8 @@ use native.Mathlib.Omega.{arith}
 use lib.ListN.{length}
 use denote.Ref.{now}
 use Rattle.words.specs.Words.{part}
-use Rattle.wgsl_members.specs.MemberRead.{rooms}
-use Rattle.wgsl_structs.specs.StructRead.{declarations}
+use Rattle.wgsl_members.specs.Serving.{rooms}
+use Rattle.wgsl_structs.specs.Serving.{declarations}
 use Rattle.wgsl_structs.proofs.StructLaws.{start-bounds, body-stopped, struct-read}
 use borrow.Author.Needs.{needs}
 use Rattle.wgsl_structs.proofs.struct_body.Statement.{statement}

@@ -7,7 +7,7 @@ use denote.Ref.{now}
 use mathlib.Core.List.{[], _∷_}
 use lib.ListN.{drop-of-length-le}
 use Rattle.wgsl_tokens.specs.Tokens.{bad, block, tokens}
-use Rattle.wgsl_tokens.specs.Lexed.{BlockAt}
+use Rattle.wgsl_tokens.specs.Serving.{BlockAt}
 use borrow.Author.Needs.{needs}
 use Rattle.wgsl_tokens.proofs.block_end.Statement.{statement}
 use Rattle.wgsl_tokens.proofs.block_end.Tie as tie

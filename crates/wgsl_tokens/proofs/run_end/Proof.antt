@@ -7,7 +7,7 @@ use denote.Ref.{now}
 use borrow.Author.Tests.{not-true, not-false}
 use Rattle.words.specs.Words.{runOf}
 use Rattle.words.proofs.WordLaws.{run-more, run-stop, run-done}
-use Rattle.wgsl_tokens.specs.Lexed.{isIn}
+use Rattle.wgsl_tokens.specs.Serving.{isIn}
 use borrow.Author.Needs.{needs}
 use Rattle.wgsl_tokens.proofs.run_end.Statement.{statement}
 use Rattle.wgsl_tokens.proofs.run_end.Tie as tie

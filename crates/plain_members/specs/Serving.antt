@@ -1,3 +1,4 @@
+-- Serves the contracts of functions inside the library: it adds nothing to what the other files say, and a reader may skip it.
 -- 01, 'The result row': members of a struct one after the other, as long as none breaks a rule, by the rules of one member (member_rules:
 -- MemberRules). `rows` are the rows of the types before type i.
 -- Assumes nothing.

@@ -1,3 +1,4 @@
+-- Serves the contracts of functions inside the library: it adds nothing to what the other files say, and a reader may skip it.
 -- What the functions over positions in a text answer, by the tokens that the text has from there on.
 -- Assumes nothing.
 use mathlib.Core.Path.{_≡_}
@@ -6,7 +7,7 @@ use mathlib.Core.List.{List, [], _∷_}
 use Prim.Native.Nat.{ℕ, _+_, _≤_, _<_}
 use lib.ListN.{length, getD, drop}
 use Rattle.words.specs.Words.{part}
-use Rattle.wgsl_tokens.specs.Tokens.{Token, word, number, large, mark, bad, isBlank, opensLine, opensBlock, inWord, Mode, code, block, tokens, from}
+use Rattle.wgsl_tokens.specs.Tokens.{Token, word, number, large, mark, bad, isBlank, opensLine, opensBlock, inWord, Mode, block, tokens, from}
 use Rattle.words.specs.Number.{isDigit}
 use Rattle.wgsl_tokens.specs.declared.Run.{Run}
 use Rattle.wgsl_tokens.specs.declared.Run.the-variants as run

@@ -1,3 +1,4 @@
+-- Serves the contracts of functions inside the library: it adds nothing to what the other files say, and a reader may skip it.
 -- What the functions over positions answer, as the readings of the tokens from there on.
 -- Assumes nothing.
 use mathlib.Core.Path.{_≡_}
@@ -7,7 +8,6 @@ use lib.ListN.{length}
 use Rattle.words.specs.Words.{part}
 use Rattle.wgsl_tokens.specs.Tokens.{Token, from}
 use Rattle.wgsl_grammar.specs.Grammar.{Reading, refused, read, Name, nameOf, Value}
-use Rattle.wgsl_grammar.specs.declared.Refusal.{Refusal}
 use Rattle.wgsl_grammar.specs.declared.Next.{Next}
 use Rattle.wgsl_grammar.specs.declared.Next.the-variants as next
 use Rattle.wgsl_grammar.specs.declared.NameAt.{NameAt}

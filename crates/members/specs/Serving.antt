@@ -1,3 +1,4 @@
+-- Serves the contracts of functions inside the library: it adds nothing to what the other files say, and a reader may skip it.
 -- 01, 'The result row': a struct, member by member. What the code carries from member to member, by the rules of one member
 -- (member_rules: MemberRules), and what it answers. `rows` are the rows of the types before type i.
 -- Assumes nothing.

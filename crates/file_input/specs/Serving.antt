@@ -1,3 +1,4 @@
+-- Serves the contracts of functions inside the library: it adds nothing to what the other files say, and a reader may skip it.
 -- How many bytes are held: none fewer than before, and no more than there is room for.
 -- Assumes nothing.
 use Prim.Native.Nat.{ℕ, _≤_}

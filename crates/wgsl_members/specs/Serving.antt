@@ -1,3 +1,4 @@
+-- Serves the contracts of functions inside the library: it adds nothing to what the other files say, and a reader may skip it.
 -- What the functions over positions answer, as the readings of the tokens from there on. The members read so far, by the code's numbers and the words
 -- of its tables.
 -- Assumes nothing.
@@ -7,12 +8,10 @@ use Prim.Native.Nat.{ℕ, _+_, _*_, _≤_, _<_}
 use lib.ListN.{length, drop}
 use Rattle.records.specs.Record.{typeWords, memberWords}
 use Rattle.wgsl_tokens.specs.Tokens.{from}
-use Rattle.wgsl_grammar.specs.Grammar.{Reading, refused, read, Value}
-use Rattle.wgsl_grammar.specs.declared.Refusal.{Refusal}
-use Rattle.wgsl_grammar.specs.declared.NumberAt.{NumberAt}
+use Rattle.wgsl_grammar.specs.Grammar.{Reading, refused, read}
 use Rattle.wgsl_placement.specs.declared.Shape.{Shape}
 use Rattle.wgsl_tables.specs.Tables.{recordsIn, nameIn, namesIn}
-use Rattle.wgsl_types.specs.TypeRead.{Room}
+use Rattle.wgsl_types.specs.Serving.{Room}
 use Rattle.wgsl_members.specs.Members.{Attributed, Members, Rooms, withMember}
 use Rattle.wgsl_members.specs.declared.Attributes.{Attributes}
 use Rattle.wgsl_members.specs.declared.AttributesAt.{AttributesAt}

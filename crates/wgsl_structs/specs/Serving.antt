@@ -1,3 +1,4 @@
+-- Serves the contracts of functions inside the library: it adds nothing to what the other files say, and a reader may skip it.
 -- What the functions over positions answer, as the readings of the tokens from there on, by the code's numbers and the words of its tables.
 -- Assumes nothing.
 use mathlib.Core.Path.{_≡_}
@@ -7,11 +8,10 @@ use lib.ListN.{length, drop}
 use Rattle.records.specs.Record.{typeWords, memberWords}
 use Rattle.wgsl_tokens.specs.Tokens.{from}
 use Rattle.wgsl_grammar.specs.Grammar.{Reading, refused, read}
-use Rattle.wgsl_grammar.specs.declared.Refusal.{Refusal}
 use Rattle.wgsl_tables.specs.Tables.{recordsIn, nameIn, structsIn}
-use Rattle.wgsl_types.specs.TypeRead.{Room}
+use Rattle.wgsl_types.specs.Serving.{Room}
 use Rattle.wgsl_members.specs.Members.{Members, Rooms}
-use Rattle.wgsl_members.specs.MemberRead.{Tables, tables, membersIn, Bounds, Kept}
+use Rattle.wgsl_members.specs.Serving.{Tables, tables, membersIn, Bounds, Kept}
 use Rattle.wgsl_members.specs.declared.Body.{Body}
 use Rattle.wgsl_structs.specs.Structs.{MemberEnd, stops, closes, goes, Declared, Declaration, finished, wrong, further, closeStruct}
 use Rattle.wgsl_structs.specs.declared.EndAt.{EndAt}

@@ -1,3 +1,4 @@
+-- Serves the contracts of functions inside the library: it adds nothing to what the other files say, and a reader may skip it.
 -- What the code holds while it reads: t types and m members in the lent tables; and what it makes of one instruction.
 -- Assumes nothing.
 use mathlib.Core.Path.{_≡_}
@@ -8,7 +9,7 @@ use Rattle.records.specs.Result.{Result, err, ok, pick}
 use Rattle.records.specs.Record.{typeWords, memberWords}
 use Rattle.spirv_words.specs.Module.{wordCount, opcode, isRead}
 use Rattle.spirv_ids.specs.Ids.{typeNumber}
-use Rattle.spirv_members.specs.Ready.{Bounded}
+use Rattle.spirv_members.specs.Serving.{Bounded}
 use Rattle.spirv_types.specs.Types.{State}
 use Rattle.spirv_instruction.specs.Instruction.{instruction}
 use Rattle.spirv.specs.declared.Step.{Step}

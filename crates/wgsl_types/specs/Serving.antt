@@ -1,3 +1,4 @@
+-- Serves the contracts of functions inside the library: it adds nothing to what the other files say, and a reader may skip it.
 -- What the functions over positions answer, as the readings of the tokens from there on; the records stand at the start of the lent words.
 -- Assumes nothing.
 use mathlib.Core.Path.{_≡_}
@@ -7,7 +8,6 @@ use lib.ListN.{length, drop}
 use Rattle.records.specs.Record.{typeWords}
 use Rattle.wgsl_tokens.specs.Tokens.{Token, from}
 use Rattle.wgsl_grammar.specs.Grammar.{Reading, refused, read}
-use Rattle.wgsl_grammar.specs.declared.Refusal.{Refusal}
 use Rattle.wgsl_tables.specs.Tables.{Records, recordsIn}
 use Rattle.wgsl_types.specs.Types.{Closing, stopped, full, closed, Counted, scalarType, templateType, argumentsOf}
 use Rattle.wgsl_types.specs.declared.CountAt.{CountAt}
