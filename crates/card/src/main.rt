@@ -1,5 +1,5 @@
 // The card program: checks a fixed arena by the older uniform rule and prints a line for each type, its number and then its row. It reads nothing.
-use type_info::UniformRule;
+use valid_type_info::UniformRule;
 
 const STDOUT: i32 = 1;
 
@@ -10,7 +10,7 @@ fn print_row(rows: &[u32], i: u32) {
     let mut j: u32 = 0;
     while j < ROW_WORDS {
         io::write_all(STDOUT, b" ");
-        io::print_decimal(STDOUT, rows::row_word(rows, i, j) as u64);
+        io::print_decimal(STDOUT, ir_rows::row_word(rows, i, j) as u64);
         j += 1;
     }
     io::write_all(STDOUT, b"\n");
@@ -21,7 +21,7 @@ fn main() {
     let types = [0u32, 2, 4, 0, 0, 0, 1, 3, 2, 4, 0, 0, 8, 0, 2, 16, 0, 0];
     let members = [1u32, 0, 0, 0, 0, 12, 0, 0];
     let mut rows = [0u32; 14336];
-    valid::check(&types, &members, 0, UniformRule::Older, &mut rows);
+    valid_arena::check(&types, &members, 0, UniformRule::Older, &mut rows);
     print_row(&rows, 0);
     print_row(&rows, 1);
     print_row(&rows, 2);

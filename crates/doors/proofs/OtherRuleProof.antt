@@ -5,13 +5,13 @@ use mathlib.Core.List.{List}
 use mathlib.Core.Bool.{false}
 use Prim.Native.Nat.{ℕ, _≤_, _<_}
 use borrow.Author.Tests.{le-leb, lt-leb}
-use Rattle.records.specs.Fields.{capabilitiesKnown}
-use Rattle.valid.specs.Arena.{arenaAnswer, arenaWords}
-use Rattle.immediates.specs.Immediates.{slotsAnswer}
+use Rattle.ir_records.specs.Fields.{capabilitiesKnown}
+use Rattle.valid_arena.specs.Arena.{arenaAnswer, arenaWords}
+use Rattle.immediates_slots.specs.Immediates.{slotsAnswer}
 use Rattle.immediates_pass.specs.Pass.{chooseAnswer}
-use Rattle.place.specs.Place.{lookupAnswer}
-use Rattle.report.specs.Report.{lengthsFit, reportAnswer, reportRows, reportWords}
-use Rattle.rule_word.specs.RuleWord.{capabilitiesBy}
+use Rattle.place_lookup.specs.Place.{lookupAnswer}
+use Rattle.place_report.specs.Report.{lengthsFit, reportAnswer, reportRows, reportWords}
+use Rattle.valid_rule_word.specs.RuleWord.{capabilitiesBy}
 use Rattle.doors.specs.OtherRule.{OtherRule, RuleWord}
 
 -- no arena is asked for with a capability word that is known

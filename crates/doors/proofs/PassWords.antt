@@ -7,8 +7,8 @@ use Prim.Native.Nat.{ℕ, _≤_}
 use native.Mathlib.Omega.{arith}
 use lib.ListN.{length, drop}
 use borrow.Author.Tests.{le-leb}
-use Rattle.records.specs.declared.Outcome.{Outcome}
-use Rattle.records.specs.declared.Outcome.the-variants.{Accepted, Refused}
+use Rattle.ir_records.specs.declared.Outcome.{Outcome}
+use Rattle.ir_records.specs.declared.Outcome.the-variants.{Accepted, Refused}
 use Rattle.immediates_pass.specs.declared.Pass.{Pass}
 use Rattle.immediates_pass.specs.declared.Tried.{Tried}
 use Rattle.immediates_pass.specs.Pass.{begin, PassStep, SetRange, Choose, Dispatch, tried}

@@ -3,16 +3,16 @@
 use mathlib.Core.Path.{_≡_}
 use mathlib.Core.List.{List}
 use Prim.Native.Nat.{ℕ, _≤_, _<_}
-use Rattle.records.specs.declared.Outcome.the-variants.{Refused}
-use Rattle.slots.specs.declared.SlotsAnswer.the-variants as slotsAnswers
-use Rattle.valid.specs.Arena.{arenaAnswer, arenaWords}
-use Rattle.immediates.specs.Immediates.{slotsAnswer}
+use Rattle.ir_records.specs.declared.Outcome.the-variants.{Refused}
+use Rattle.immediates_ranges.specs.declared.SlotsAnswer.the-variants as slotsAnswers
+use Rattle.valid_arena.specs.Arena.{arenaAnswer, arenaWords}
+use Rattle.immediates_slots.specs.Immediates.{slotsAnswer}
 use Rattle.immediates_pass.specs.Pass.{chooseAnswer}
-use Rattle.place.specs.declared.PlaceAnswer.the-variants as placeAnswers
-use Rattle.place.specs.Place.{lookupAnswer}
-use Rattle.report.specs.declared.ReportAnswer.the-variants as reportAnswers
-use Rattle.report.specs.Report.{reportAnswer, reportRows, reportWords}
-use Rattle.rule_word.specs.RuleWord.{ruleOf, capabilitiesBy}
+use Rattle.place_lookup.specs.declared.PlaceAnswer.the-variants as placeAnswers
+use Rattle.place_lookup.specs.Place.{lookupAnswer}
+use Rattle.place_report.specs.declared.ReportAnswer.the-variants as reportAnswers
+use Rattle.place_report.specs.Report.{reportAnswer, reportRows, reportWords}
+use Rattle.valid_rule_word.specs.RuleWord.{ruleOf, capabilitiesBy}
 
 -- of another word
 pub record OtherRule (word c : ℕ) (ts ms rows : List ℕ) : Type 0 where

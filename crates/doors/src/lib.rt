@@ -2,23 +2,23 @@
 ghost use mathlib.Core.Path.{_≡_};
 ghost use Prim.Native.Nat.{_*_};
 ghost use lib.Dec.{eqb};
-ghost use Rattle.records.specs.Result.{pick};
-ghost use Rattle.records.specs.Record.{typeWord, memberWords};
+ghost use Rattle.ir_records.specs.Result.{pick};
+ghost use Rattle.ir_records.specs.Record.{typeWord, memberWords};
 ghost use lib.ListN.{length};
-ghost use Rattle.layouter.specs.Layouter.{layoutAnswer, layoutWords};
-ghost use Rattle.rule_word.specs.RuleWord.{ruleOf, capabilitiesBy};
-ghost use Rattle.valid.specs.Arena.{arenaAnswer, arenaWords};
-ghost use Rattle.slots.specs.Slots.{rangeSlots, partAnswer, contains, difference, union};
-ghost use Rattle.immediates.specs.Immediates.{slotsAnswer};
+ghost use Rattle.proc_layouter.specs.Layouter.{layoutAnswer, layoutWords};
+ghost use Rattle.valid_rule_word.specs.RuleWord.{ruleOf, capabilitiesBy};
+ghost use Rattle.valid_arena.specs.Arena.{arenaAnswer, arenaWords};
+ghost use Rattle.immediates_ranges.specs.Slots.{rangeSlots, partAnswer, contains, difference, union};
+ghost use Rattle.immediates_slots.specs.Immediates.{slotsAnswer};
 ghost use Rattle.immediates_pass.specs.Pass.{begin, SetRange, Choose, Dispatch};
-ghost use Rattle.place.specs.Place.{lookupAnswer};
+ghost use Rattle.place_lookup.specs.Place.{lookupAnswer};
 ghost use Rattle.place_short.specs.Short.{shortLookup, shortWords};
-ghost use Rattle.places.specs.Places.{placesAnswer, placesScratch, placesWords};
-ghost use Rattle.plain_types.specs.PlainTypes.{plainAnswer};
-ghost use Rattle.report.specs.Report.{reportAnswer, reportRows, reportWords};
-ghost use Rattle.spirv.specs.Read.{readInto, sectionOf, typesAfter, membersAfter};
+ghost use Rattle.place_runs.specs.Places.{placesAnswer, placesScratch, placesWords};
+ghost use Rattle.proc_plain_types.specs.PlainTypes.{plainAnswer};
+ghost use Rattle.place_report.specs.Report.{reportAnswer, reportRows, reportWords};
+ghost use Rattle.spirv_read.specs.Read.{readInto, sectionOf, typesAfter, membersAfter};
 ghost use Rattle.wgsl_read.specs.Text.{textOf, answerOf, typesLeft, membersLeft};
-ghost use Rattle.order.specs.Call.{ordered};
+ghost use Rattle.order_call.specs.Call.{ordered};
 ghost use Rattle.order_words.specs.Words.{orderOutcome, withFound};
 ghost use Rattle.doors_words.specs.Words.{slotsOutcome, placeOutcome, totalsOutcome, plainOutcome, byteOf, leafOf, carriedOf, wastedOf, partStart, partLength, withAnswer, withTwo, withNumbers, withMasks, withPass, withTried, triedIn, passRows, withOne, sectionOutcome, typesRead, membersRead, textOutcome, textTypes, textMembers};
 
@@ -33,7 +33,7 @@ pub extern "C" fn wuldazin_layout(
     ensures { λ _. ⌜ now (rows .exit) ≡ layoutWords (now (types .entry)) (now (members .entry)) (now (rows .entry)) ⌝ }
     ensures { λ _. ⌜ now (answer .exit) ≡ withAnswer (now (answer .entry)) (layoutAnswer (now (types .entry)) (now (members .entry)) (now (rows .entry))) ⌝ }
 {
-    let outcome = layouter::layout(types, members, rows);
+    let outcome = proc_layouter::layout(types, members, rows);
     doors_words::put_answer(answer, outcome);
 }
 
@@ -50,9 +50,9 @@ pub extern "C" fn wuldazin_check(
     ensures { λ _. ⌜ now (rows .exit) ≡ arenaWords (ruleOf rule) (capabilitiesBy rule capabilities) (now (types .entry)) (now (members .entry)) (now (rows .entry)) ⌝ }
     ensures { λ _. ⌜ now (answer .exit) ≡ withAnswer (now (answer .entry)) (arenaAnswer (capabilitiesBy rule capabilities) (now (types .entry)) (now (members .entry)) (now (rows .entry))) ⌝ }
 {
-    let known = rule_word::capabilities_by(rule, capabilities);
-    let by = rule_word::rule_of(rule);
-    let outcome = valid::check(types, members, known, by, rows);
+    let known = valid_rule_word::capabilities_by(rule, capabilities);
+    let by = valid_rule_word::rule_of(rule);
+    let outcome = valid_arena::check(types, members, known, by, rows);
     doors_words::put_answer(answer, outcome);
 }
 
@@ -69,9 +69,9 @@ pub extern "C" fn wuldazin_judge(
     ensures { λ _. ⌜ now (rows .exit) ≡ arenaWords (ruleOf rule) (capabilitiesBy rule capabilities) (now (types .entry)) (now (members .entry)) (now (rows .entry)) ⌝ }
     ensures { λ _. ⌜ now (answer .exit) ≡ withAnswer (now (answer .entry)) (arenaAnswer (capabilitiesBy rule capabilities) (now (types .entry)) (now (members .entry)) (now (rows .entry))) ⌝ }
 {
-    let known = rule_word::capabilities_by(rule, capabilities);
-    let by = rule_word::rule_of(rule);
-    let outcome = valid::judge(types, members, known, by, rows);
+    let known = valid_rule_word::capabilities_by(rule, capabilities);
+    let by = valid_rule_word::rule_of(rule);
+    let outcome = valid_arena::judge(types, members, known, by, rows);
     doors_words::put_answer(answer, outcome);
 }
 
@@ -81,7 +81,7 @@ pub extern "C" fn wuldazin_range(offset: u32, size: u32, mask: &mut [u64], answe
     ensures { λ _. ⌜ now (mask .exit) ≡ withMasks (now (mask .entry)) (partAnswer (rangeSlots offset size)) ⌝ }
     ensures { λ _. ⌜ now (answer .exit) ≡ withAnswer (now (answer .entry)) (slotsOutcome (partAnswer (rangeSlots offset size))) ⌝ }
 {
-    let found = slots::range(offset, size);
+    let found = immediates_ranges::range(offset, size);
     doors_words::put_masks(mask, found);
     doors_words::put_answer(answer, doors_words::slots_outcome(found));
 }
@@ -103,9 +103,9 @@ pub extern "C" fn wuldazin_slots(
     ensures { λ _. ⌜ now (mask .exit) ≡ withMasks (now (mask .entry)) (slotsAnswer (capabilitiesBy rule capabilities) (now (types .entry)) (now (members .entry)) (now (rows .entry)) ty offset) ⌝ }
     ensures { λ _. ⌜ now (answer .exit) ≡ withAnswer (now (answer .entry)) (slotsOutcome (slotsAnswer (capabilitiesBy rule capabilities) (now (types .entry)) (now (members .entry)) (now (rows .entry)) ty offset)) ⌝ }
 {
-    let known = rule_word::capabilities_by(rule, capabilities);
-    let by = rule_word::rule_of(rule);
-    let found = immediates::immediate_slots(types, members, known, by, rows, ty, offset);
+    let known = valid_rule_word::capabilities_by(rule, capabilities);
+    let by = valid_rule_word::rule_of(rule);
+    let found = immediates_slots::immediate_slots(types, members, known, by, rows, ty, offset);
     doors_words::put_masks(mask, found);
     doors_words::put_answer(answer, doors_words::slots_outcome(found));
 }
@@ -115,7 +115,7 @@ pub extern "C" fn wuldazin_slots(
 pub extern "C" fn wuldazin_contains(this: u64, other: u64) -> bool
     ensures { λ r. ⌜ r ≡ contains this other ⌝ }
 {
-    slots::contains_all(this, other)
+    immediates_ranges::contains_all(this, other)
 }
 
 // The slots of this that are not in other.
@@ -123,7 +123,7 @@ pub extern "C" fn wuldazin_contains(this: u64, other: u64) -> bool
 pub extern "C" fn wuldazin_difference(this: u64, other: u64) -> u64
     ensures { λ r. ⌜ r ≡ difference this other ⌝ }
 {
-    slots::difference_of(this, other)
+    immediates_ranges::difference_of(this, other)
 }
 
 // The slots of either.
@@ -131,7 +131,7 @@ pub extern "C" fn wuldazin_difference(this: u64, other: u64) -> u64
 pub extern "C" fn wuldazin_union(this: u64, other: u64) -> u64
     ensures { λ r. ⌜ r ≡ union this other ⌝ }
 {
-    slots::union_of(this, other)
+    immediates_ranges::union_of(this, other)
 }
 
 // The byte place and the type of the leaf that steps lead to.
@@ -151,9 +151,9 @@ pub extern "C" fn wuldazin_place(
     ensures { λ _. ⌜ now (place .exit) ≡ withTwo (now (place .entry)) (byteOf (lookupAnswer (capabilitiesBy rule capabilities) (now (types .entry)) (now (members .entry)) (now (rows .entry)) start (now (steps .entry)))) (leafOf (lookupAnswer (capabilitiesBy rule capabilities) (now (types .entry)) (now (members .entry)) (now (rows .entry)) start (now (steps .entry)))) ⌝ }
     ensures { λ _. ⌜ now (answer .exit) ≡ withAnswer (now (answer .entry)) (placeOutcome (lookupAnswer (capabilitiesBy rule capabilities) (now (types .entry)) (now (members .entry)) (now (rows .entry)) start (now (steps .entry)))) ⌝ }
 {
-    let known = rule_word::capabilities_by(rule, capabilities);
-    let by = rule_word::rule_of(rule);
-    let found = place::lookup(types, members, known, by, rows, start, steps);
+    let known = valid_rule_word::capabilities_by(rule, capabilities);
+    let by = valid_rule_word::rule_of(rule);
+    let found = place_lookup::lookup(types, members, known, by, rows, start, steps);
     doors_words::put_two(
         place,
         doors_words::byte_of(found),
@@ -202,7 +202,7 @@ pub extern "C" fn wuldazin_places(
     ensures { λ _. ⌜ now (found .exit) ≡ placesWords capabilities (now (types .entry)) (now (members .entry)) (now (scratch .entry)) (now (runs .entry)) (now (found .entry)) ⌝ }
     ensures { λ _. ⌜ now (answer .exit) ≡ withAnswer (now (answer .entry)) (placesAnswer capabilities (now (types .entry)) (now (members .entry)) (now (scratch .entry)) (now (runs .entry)) (now (found .entry))) ⌝ }
 {
-    let outcome = places::places(types, members, capabilities, scratch, runs, found);
+    let outcome = place_runs::places(types, members, capabilities, scratch, runs, found);
     doors_words::put_answer(answer, outcome);
 }
 
@@ -223,9 +223,9 @@ pub extern "C" fn wuldazin_report(
     ensures { λ _. ⌜ now (totals .exit) ≡ withTwo (now (totals .entry)) (carriedOf (reportAnswer (capabilitiesBy rule capabilities) (now (types .entry)) (now (members .entry)) (now (rows .entry)) (now (report .entry)))) (wastedOf (reportAnswer (capabilitiesBy rule capabilities) (now (types .entry)) (now (members .entry)) (now (rows .entry)) (now (report .entry)))) ⌝ }
     ensures { λ _. ⌜ now (answer .exit) ≡ withAnswer (now (answer .entry)) (totalsOutcome (reportAnswer (capabilitiesBy rule capabilities) (now (types .entry)) (now (members .entry)) (now (rows .entry)) (now (report .entry)))) ⌝ }
 {
-    let known = rule_word::capabilities_by(rule, capabilities);
-    let by = rule_word::rule_of(rule);
-    let found = report::report(types, members, known, by, rows, report);
+    let known = valid_rule_word::capabilities_by(rule, capabilities);
+    let by = valid_rule_word::rule_of(rule);
+    let found = place_report::report(types, members, known, by, rows, report);
     doors_words::put_two(
         totals,
         doors_words::carried_of(found),
@@ -278,8 +278,8 @@ pub extern "C" fn wuldazin_pass_choose(
         doors_words::put_answer(answer, doors_words::short_pass());
         return;
     }
-    let known = rule_word::capabilities_by(rule, capabilities);
-    let by = rule_word::rule_of(rule);
+    let known = valid_rule_word::capabilities_by(rule, capabilities);
+    let by = valid_rule_word::rule_of(rule);
     let tried = immediates_pass::choose(
         doors_words::pass_of(pass),
         types,
@@ -317,7 +317,7 @@ pub extern "C" fn wuldazin_plain(shape: u32, width: u32, numbers: &mut [u32], an
     ensures { λ _. ⌜ now (numbers .exit) ≡ withNumbers (now (numbers .entry)) (plainAnswer shape width) ⌝ }
     ensures { λ _. ⌜ now (answer .exit) ≡ withAnswer (now (answer .entry)) (plainOutcome (plainAnswer shape width)) ⌝ }
 {
-    let found = plain_types::plain(shape, width);
+    let found = proc_plain_types::plain(shape, width);
     doors_words::put_numbers(numbers, found);
     doors_words::put_answer(answer, doors_words::plain_outcome(found));
 }
@@ -327,7 +327,7 @@ pub extern "C" fn wuldazin_plain(shape: u32, width: u32, numbers: &mut [u32], an
 pub extern "C" fn wuldazin_members(types: &[u32], members: &[u32], ty: u32, part: &mut [u64])
     ensures { λ _. ⌜ now (part .exit) ≡ withTwo (now (part .entry)) (partStart (now (types .entry)) (now (members .entry)) ty) (partLength (now (types .entry)) (now (members .entry)) ty) ⌝ }
 {
-    let rows = records::struct_members(types, members, ty);
+    let rows = ir_records::struct_members(types, members, ty);
     let count = rows.len();
     doors_words::put_two(part, part_start(types, ty, count), count as u64);
 }
@@ -338,7 +338,7 @@ fn part_start(types: &[u32], ty: u32, count: usize) -> u64
     if count == 0 {
         return 0;
     }
-    (records::type_word(types, ty, 1) as u64) * (records::MEMBER_WORDS as u64)
+    (ir_records::type_word(types, ty, 1) as u64) * (ir_records::MEMBER_WORDS as u64)
 }
 
 // The type section of a SPIR-V module, into lent type and member records; how many of each.
@@ -408,7 +408,7 @@ pub extern "C" fn wuldazin_order(
     ensures { λ _. ⌜ now (found .exit) ≡ withFound (now (found .entry)) (length (now (wanted .entry))) (ordered (ruleOf rule) (capabilitiesBy rule capabilities) (now (types .entry)) n (now (members .entry)) m (now (rows .entry)) (now (wanted .entry)) span .answer) ⌝ }
     ensures { λ _. ⌜ now (answer .exit) ≡ withAnswer (now (answer .entry)) (orderOutcome (ordered (ruleOf rule) (capabilitiesBy rule capabilities) (now (types .entry)) n (now (members .entry)) m (now (rows .entry)) (now (wanted .entry)) span .answer)) ⌝ }
 {
-    order_door::order_into(
+    doors_order::order_into(
         types,
         n,
         members,

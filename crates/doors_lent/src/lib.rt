@@ -22,7 +22,7 @@ pub fn words(name: &[u8], words: &[u32]) {
     put_name(name);
     let mut i = 0;
     while i < words.len() {
-        put_number(records::word_at(words, i) as u64);
+        put_number(ir_records::word_at(words, i) as u64);
         i += 1;
     }
     put_end();
@@ -70,7 +70,7 @@ pub fn count(name: &[u8], words: &[u32], n: u32) {
     let mut found: u64 = 0;
     let mut i = 0;
     while i < words.len() {
-        if records::word_at(words, i) == n {
+        if ir_records::word_at(words, i) == n {
             found = std::num::wrapping_add_u64(found, 1);
         }
         i += 1;

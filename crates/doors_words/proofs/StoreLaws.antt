@@ -5,7 +5,7 @@ use mathlib.Core.List.{List, [], _∷_}
 use Prim.Native.Nat.{ℕ, _<_, _≤_}
 use native.Mathlib.Omega.{arith}
 use lib.ListN.{length, set, drop}
-use Rattle.slots.specs.declared.SlotsAnswer.{SlotsAnswer}
+use Rattle.immediates_ranges.specs.declared.SlotsAnswer.{SlotsAnswer}
 use Rattle.doors_words.specs.Words.{touchedOf, partlyOf, withMasks, withOne}
 
 pub four-stores : (l : List ℕ) (a b c d : ℕ) → 4 ≤ length l → set (set (set (set l 0 a) 1 b) 2 c) 3 d ≡ a ∷ b ∷ c ∷ d ∷ drop 4 l

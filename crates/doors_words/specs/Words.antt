@@ -6,25 +6,25 @@ use mathlib.Core.List.{List, [], _∷_, _++_}
 use Prim.Native.Nat.{ℕ, _*_}
 use lib.Dec.{eqb, leb}
 use lib.ListN.{length, getD, drop}
-use Rattle.records.specs.Result.{pick}
-use Rattle.records.specs.Record.{typeWord, memberWords, structMembers}
-use Rattle.records.specs.declared.Outcome.{Outcome}
-use Rattle.records.specs.declared.Outcome.the-variants.{Accepted, Refused}
-use Rattle.slots.specs.declared.SlotsAnswer.{SlotsAnswer}
-use Rattle.slots.specs.declared.SlotsAnswer.the-variants as slots
-use Rattle.type_info.specs.declared.UniformRule.{UniformRule}
-use Rattle.valid.specs.Arena.{arenaWords}
+use Rattle.ir_records.specs.Result.{pick}
+use Rattle.ir_records.specs.Record.{typeWord, memberWords, structMembers}
+use Rattle.ir_records.specs.declared.Outcome.{Outcome}
+use Rattle.ir_records.specs.declared.Outcome.the-variants.{Accepted, Refused}
+use Rattle.immediates_ranges.specs.declared.SlotsAnswer.{SlotsAnswer}
+use Rattle.immediates_ranges.specs.declared.SlotsAnswer.the-variants as slots
+use Rattle.valid_type_info.specs.declared.UniformRule.{UniformRule}
+use Rattle.valid_arena.specs.Arena.{arenaWords}
 use Rattle.immediates_pass.specs.declared.Pass.{Pass}
 use Rattle.immediates_pass.specs.declared.Tried.{Tried}
 use Rattle.immediates_pass.specs.Pass.{PassStep, tried}
-use Rattle.place.specs.declared.PlaceAnswer.{PlaceAnswer}
-use Rattle.place.specs.declared.PlaceAnswer.the-variants as place
-use Rattle.plain_types.specs.declared.PlainAnswer.{PlainAnswer}
-use Rattle.plain_types.specs.declared.PlainAnswer.the-variants as plain
-use Rattle.spirv.specs.declared.Section.{Section}
-use Rattle.spirv.specs.declared.Section.the-variants as section
-use Rattle.report.specs.declared.ReportAnswer.{ReportAnswer}
-use Rattle.report.specs.declared.ReportAnswer.the-variants as report
+use Rattle.place_lookup.specs.declared.PlaceAnswer.{PlaceAnswer}
+use Rattle.place_lookup.specs.declared.PlaceAnswer.the-variants as place
+use Rattle.proc_plain_types.specs.declared.PlainAnswer.{PlainAnswer}
+use Rattle.proc_plain_types.specs.declared.PlainAnswer.the-variants as plain
+use Rattle.spirv_read.specs.declared.Section.{Section}
+use Rattle.spirv_read.specs.declared.Section.the-variants as section
+use Rattle.place_report.specs.declared.ReportAnswer.{ReportAnswer}
+use Rattle.place_report.specs.declared.ReportAnswer.the-variants as report
 use Rattle.wgsl_read.specs.declared.TextAnswer.{TextAnswer}
 use Rattle.wgsl_read.specs.declared.TextAnswer.the-variants as text
 

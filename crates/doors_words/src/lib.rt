@@ -1,17 +1,17 @@
 // Answers of the calls as words in buffers that are lent: the outcome in four words, and what stands beside it.
 use immediates_pass::Pass;
 use immediates_pass::Tried;
-use place::PlaceAnswer;
-use plain_types::PlainAnswer;
-use records::Outcome;
-use report::ReportAnswer;
-use slots::SlotsAnswer;
-use spirv::Section;
+use immediates_ranges::SlotsAnswer;
+use ir_records::Outcome;
+use place_lookup::PlaceAnswer;
+use place_report::ReportAnswer;
+use proc_plain_types::PlainAnswer;
+use spirv_read::Section;
 use wgsl_read::TextAnswer;
 ghost use mathlib.Core.Path.{_≡_};
 ghost use mathlib.Core.List.{_∷_};
 ghost use Prim.Native.Nat.{_≤_};
-ghost use Rattle.records.specs.declared.Outcome.the-variants.{Refused};
+ghost use Rattle.ir_records.specs.declared.Outcome.the-variants.{Refused};
 ghost use lib.ListN.{length, drop};
 ghost use Rattle.doors_words.specs.Words.{slotsOutcome, placeOutcome, totalsOutcome, plainOutcome, touchedOf, partlyOf, byteOf, leafOf, carriedOf, wastedOf, withAnswer, withTwo, withNumbers, withMasks, passOf, chosenWord, withPass, withTried, withOne, sectionOutcome, typesRead, membersRead, textOutcome, textTypes, textMembers};
 

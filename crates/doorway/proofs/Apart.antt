@@ -28,13 +28,13 @@ use denote.Triple.Statement.{Contract}
 use denote.Triple.Spec.{tripleOf}
 use denote.Triple.Clauses.{ensured, lasts}
 use denote.Triple.Walked.{says}
-use Rattle.records.specs.Result.{pick as choose}
-use Rattle.member_words.specs.Flat.{flat}
-use Rattle.member_words.specs.declared.Member.{Member}
-use Rattle.member_words.proofs.FlatLaws.{fit-le}
-use Rattle.member_words.proofs.Member as T
-use Rattle.member_words.proofs.fit as fit
-use Rattle.member_words.proofs.words_of as words
+use Rattle.ir_records.specs.Result.{pick as choose}
+use Rattle.ir_member_words.specs.Flat.{flat}
+use Rattle.ir_member_words.specs.declared.Member.{Member}
+use Rattle.ir_member_words.proofs.FlatLaws.{fit-le}
+use Rattle.ir_member_words.proofs.Member as T
+use Rattle.ir_member_words.proofs.fit as fit
+use Rattle.ir_member_words.proofs.words_of as words
 
 abbrev pub Words : RattleType
 Words = Array u32 16388

@@ -7,14 +7,14 @@ use Prim.Native.Nat.{ℕ, _<_}
 use lib.Dec.{leb}
 use lib.ListN.{length}
 use borrow.Author.Tests.{lt-leb}
-use Rattle.records.specs.Fields.{tablesFit}
-use Rattle.records.specs.declared.Outcome.the-variants as outcome
-use Rattle.type_info.specs.declared.UniformRule.{UniformRule}
-use Rattle.valid.specs.Arena.{arenaFits, arenaAnswer, arenaWords}
-use Rattle.place.specs.Place.{lookupAnswer}
-use Rattle.place.specs.declared.PlaceAnswer.the-variants as place
-use Rattle.slots.specs.declared.SlotsAnswer.the-variants as slots
-use Rattle.immediates.specs.Immediates.{slotsAnswer}
+use Rattle.ir_records.specs.Fields.{tablesFit}
+use Rattle.ir_records.specs.declared.Outcome.the-variants as outcome
+use Rattle.valid_type_info.specs.declared.UniformRule.{UniformRule}
+use Rattle.valid_arena.specs.Arena.{arenaFits, arenaAnswer, arenaWords}
+use Rattle.place_lookup.specs.Place.{lookupAnswer}
+use Rattle.place_lookup.specs.declared.PlaceAnswer.the-variants as place
+use Rattle.immediates_ranges.specs.declared.SlotsAnswer.the-variants as slots
+use Rattle.immediates_slots.specs.Immediates.{slotsAnswer}
 
 module _ (c : ℕ) (ts rows ms : List ℕ) (long : 16384 < length ms) where
   unfits : arenaFits c ts ms rows ≡ false

@@ -1,17 +1,17 @@
 // Members as a lent run of member records, taken apart for the word core. The uniform rule is a word, 0 the older and 1 the newer; another word is number 1.
-use member_words::Member;
-use place::PlaceAnswer;
-use records::Outcome;
-use slots::SlotsAnswer;
+use immediates_ranges::SlotsAnswer;
+use ir_member_words::Member;
+use ir_records::Outcome;
+use place_lookup::PlaceAnswer;
 ghost use mathlib.Core.Path.{_≡_};
 ghost use Prim.Native.Nat.{_*_, _≤_};
 ghost use lib.ListN.{take};
-ghost use Rattle.records.specs.Record.{memberWords};
-ghost use Rattle.valid.specs.Arena.{arenaAnswer, arenaWords};
-ghost use Rattle.rule_word.specs.RuleWord.{ruleOf, capabilitiesBy};
-ghost use Rattle.place.specs.Place.{lookupAnswer};
-ghost use Rattle.immediates.specs.Immediates.{slotsAnswer};
-ghost use Rattle.member_words.specs.Flat.{flat};
+ghost use Rattle.ir_records.specs.Record.{memberWords};
+ghost use Rattle.valid_arena.specs.Arena.{arenaAnswer, arenaWords};
+ghost use Rattle.valid_rule_word.specs.RuleWord.{ruleOf, capabilitiesBy};
+ghost use Rattle.place_lookup.specs.Place.{lookupAnswer};
+ghost use Rattle.immediates_slots.specs.Immediates.{slotsAnswer};
+ghost use Rattle.ir_member_words.specs.Flat.{flat};
 
 // The arena check on the words of n records.
 fn check_words(
@@ -26,10 +26,10 @@ fn check_words(
     ensures { λ r. ⌜ r ≡ arenaAnswer (capabilitiesBy rule capabilities) (now (types .entry)) (take (n * memberWords) words) (now (rows .entry)) ⌝ }
     ensures { λ _. ⌜ now (rows .exit) ≡ arenaWords (ruleOf rule) (capabilitiesBy rule capabilities) (now (types .entry)) (take (n * memberWords) words) (now (rows .entry)) ⌝ }
 {
-    let e = n * records::MEMBER_WORDS;
-    let by = rule_word::rule_of(rule);
-    let c = rule_word::capabilities_by(rule, capabilities);
-    valid::check(types, &words[..e], c, by, rows)
+    let e = n * ir_records::MEMBER_WORDS;
+    let by = valid_rule_word::rule_of(rule);
+    let c = valid_rule_word::capabilities_by(rule, capabilities);
+    valid_arena::check(types, &words[..e], c, by, rows)
 }
 
 // The arena check.
@@ -43,8 +43,8 @@ pub fn check_members(
     ensures { λ r. ⌜ r ≡ arenaAnswer (capabilitiesBy rule capabilities) (now (types .entry)) (flat (now (members .entry))) (now (rows .entry)) ⌝ }
     ensures { λ _. ⌜ now (rows .exit) ≡ arenaWords (ruleOf rule) (capabilitiesBy rule capabilities) (now (types .entry)) (flat (now (members .entry))) (now (rows .entry)) ⌝ }
 {
-    let n = member_words::fit(members.len());
-    let words = member_words::words_of(members, n);
+    let n = ir_member_words::fit(members.len());
+    let words = ir_member_words::words_of(members, n);
     check_words(types, words, n, capabilities, rule, rows)
 }
 
@@ -63,10 +63,10 @@ fn place_words(
     ensures { λ r. ⌜ r ≡ lookupAnswer (capabilitiesBy rule capabilities) (now (types .entry)) (take (n * memberWords) words) (now (rows .entry)) start (now (steps .entry)) ⌝ }
     ensures { λ _. ⌜ now (rows .exit) ≡ arenaWords (ruleOf rule) (capabilitiesBy rule capabilities) (now (types .entry)) (take (n * memberWords) words) (now (rows .entry)) ⌝ }
 {
-    let e = n * records::MEMBER_WORDS;
-    let by = rule_word::rule_of(rule);
-    let c = rule_word::capabilities_by(rule, capabilities);
-    place::lookup(types, &words[..e], c, by, rows, start, steps)
+    let e = n * ir_records::MEMBER_WORDS;
+    let by = valid_rule_word::rule_of(rule);
+    let c = valid_rule_word::capabilities_by(rule, capabilities);
+    place_lookup::lookup(types, &words[..e], c, by, rows, start, steps)
 }
 
 // The place lookup.
@@ -82,8 +82,8 @@ pub fn place_members(
     ensures { λ r. ⌜ r ≡ lookupAnswer (capabilitiesBy rule capabilities) (now (types .entry)) (flat (now (members .entry))) (now (rows .entry)) start (now (steps .entry)) ⌝ }
     ensures { λ _. ⌜ now (rows .exit) ≡ arenaWords (ruleOf rule) (capabilitiesBy rule capabilities) (now (types .entry)) (flat (now (members .entry))) (now (rows .entry)) ⌝ }
 {
-    let n = member_words::fit(members.len());
-    let words = member_words::words_of(members, n);
+    let n = ir_member_words::fit(members.len());
+    let words = ir_member_words::words_of(members, n);
     place_words(types, words, n, capabilities, rule, rows, start, steps)
 }
 
@@ -102,10 +102,10 @@ fn slots_words(
     ensures { λ r. ⌜ r ≡ slotsAnswer (capabilitiesBy rule capabilities) (now (types .entry)) (take (n * memberWords) words) (now (rows .entry)) ty offset ⌝ }
     ensures { λ _. ⌜ now (rows .exit) ≡ arenaWords (ruleOf rule) (capabilitiesBy rule capabilities) (now (types .entry)) (take (n * memberWords) words) (now (rows .entry)) ⌝ }
 {
-    let e = n * records::MEMBER_WORDS;
-    let by = rule_word::rule_of(rule);
-    let c = rule_word::capabilities_by(rule, capabilities);
-    immediates::immediate_slots(types, &words[..e], c, by, rows, ty, offset)
+    let e = n * ir_records::MEMBER_WORDS;
+    let by = valid_rule_word::rule_of(rule);
+    let c = valid_rule_word::capabilities_by(rule, capabilities);
+    immediates_slots::immediate_slots(types, &words[..e], c, by, rows, ty, offset)
 }
 
 // The slot walk.
@@ -121,7 +121,7 @@ pub fn slots_members(
     ensures { λ r. ⌜ r ≡ slotsAnswer (capabilitiesBy rule capabilities) (now (types .entry)) (flat (now (members .entry))) (now (rows .entry)) ty offset ⌝ }
     ensures { λ _. ⌜ now (rows .exit) ≡ arenaWords (ruleOf rule) (capabilitiesBy rule capabilities) (now (types .entry)) (flat (now (members .entry))) (now (rows .entry)) ⌝ }
 {
-    let n = member_words::fit(members.len());
-    let words = member_words::words_of(members, n);
+    let n = ir_member_words::fit(members.len());
+    let words = ir_member_words::words_of(members, n);
     slots_words(types, words, n, capabilities, rule, rows, ty, offset)
 }

@@ -1,6 +1,6 @@
 // The program `from_spirv`: reads a SPIR-V module from standard input, or from each file that an argument names, and writes a line for each
 // type and member that `inspect` takes, or the refusal.
-use spirv::Section;
+use spirv_read::Section;
 ghost use mathlib.Core.Path.{_≡_};
 ghost use Prim.Native.Nat.{_≤_};
 ghost use lib.ListN.{length};
@@ -23,10 +23,10 @@ fn answer(words: &[u32]) {
         Section::Read {
             types: t,
             members: m,
-        } => record_lines::put_records(&mut out, 0, &types, t, &members, m),
-        Section::Refused { number } => output::put_refusal(&mut out, 0, number, 0, 0, 0),
+        } => program_record_lines::put_records(&mut out, 0, &types, t, &members, m),
+        Section::Refused { number } => program_output::put_refusal(&mut out, 0, number, 0, 0, 0),
     };
-    output::write_out(&out, end);
+    program_output::write_out(&out, end);
 }
 
 // What is held with the bytes of one read.
@@ -89,10 +89,10 @@ fn answer_held(words: &[u32], held: Held) {
             }
         }
         Held::Odd => {
-            file_input::tell(b"the module is no whole number of words\n");
+            program_files::tell(b"the module is no whole number of words\n");
         }
         Held::Long => {
-            file_input::tell(b"the module is longer than 1048576 words\n");
+            program_files::tell(b"the module is longer than 1048576 words\n");
         }
     }
 }
@@ -124,7 +124,7 @@ fn read_file(i: usize, several: bool) {
     if several {
         put_name(i);
     }
-    let fd = file_input::named(i);
+    let fd = program_files::named(i);
     if fd < 0 {
         return;
     }

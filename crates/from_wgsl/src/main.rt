@@ -1,13 +1,13 @@
 // The program `from_wgsl`: reads WGSL text from standard input, or from the file that its argument names, and writes a line for each type and
 // member that `inspect` takes, or the refusal with its place.
-use file_input::Held;
+use program_files::Held;
 ghost use mathlib.Core.Path.{_≡_};
 ghost use lib.ListN.{length};
 
 fn answer(text: &[u8]) {
     let mut out = [0u8; 65536];
     let end = wgsl_lines::put_answer(&mut out, 0, text);
-    output::write_out(&out, end);
+    program_output::write_out(&out, end);
 }
 
 // The text in the bytes that are held.
@@ -19,10 +19,10 @@ fn answer_held(bytes: &[u8], held: Held) {
             }
         }
         Held::Long => {
-            file_input::tell(b"the text is longer than 1048576 bytes\n");
+            program_files::tell(b"the text is longer than 1048576 bytes\n");
         }
         Held::Failed => {
-            file_input::tell(b"the text cannot be read\n");
+            program_files::tell(b"the text cannot be read\n");
         }
     }
 }
@@ -35,11 +35,11 @@ fn no_bytes() -> [u8; 1048577]
 }
 
 fn main() {
-    let fd = file_input::opened();
+    let fd = program_files::opened();
     if fd < 0 {
         return;
     }
     let mut bytes = no_bytes();
-    let held = file_input::read_all(fd, &mut bytes);
+    let held = program_files::read_all(fd, &mut bytes);
     answer_held(&bytes, held);
 }

@@ -7,16 +7,16 @@ use mathlib.Core.Logic.{⊎-elim}
 use Prim.Native.Nat.{ℕ, _%_, _<_}
 use native.Mathlib.Omega.{arith}
 use lib.Dec.{T, eqb}
-use Rattle.records.specs.Result.{pick}
-use Rattle.records.proofs.ResultLaws.{or-cases}
-use Rattle.flags.specs.Flags.{bit}
-use Rattle.slots.specs.declared.Slots.{Slots}
-use Rattle.slots.specs.declared.Slots.the-variants.{Mask, Past}
-use Rattle.slots.specs.declared.SlotsAnswer.{SlotsAnswer}
-use Rattle.slots.specs.declared.SlotsAnswer.the-variants as answer
-use Rattle.slots.specs.Slots.{slotCount, covers, rangeSlots, partAnswer, contains, difference, union}
-use Rattle.slots.proofs.RangeLaws.{or-left, or-right}
-use Rattle.slots.proofs.SlotBits.{union-slot, difference-slot, contains-slots, slots-contains, zero-bit, range-slot}
+use Rattle.ir_records.specs.Result.{pick}
+use Rattle.ir_records.proofs.ResultLaws.{or-cases}
+use Rattle.valid_flags.specs.Flags.{bit}
+use Rattle.immediates_ranges.specs.declared.Slots.{Slots}
+use Rattle.immediates_ranges.specs.declared.Slots.the-variants.{Mask, Past}
+use Rattle.immediates_ranges.specs.declared.SlotsAnswer.{SlotsAnswer}
+use Rattle.immediates_ranges.specs.declared.SlotsAnswer.the-variants as answer
+use Rattle.immediates_ranges.specs.Slots.{slotCount, covers, rangeSlots, partAnswer, contains, difference, union}
+use Rattle.immediates_ranges.proofs.RangeLaws.{or-left, or-right}
+use Rattle.immediates_ranges.proofs.SlotBits.{union-slot, difference-slot, contains-slots, slots-contains, zero-bit, range-slot}
 use Rattle.immediates_pass.specs.declared.Pass.{Pass}
 use Rattle.immediates_pass.specs.Pass.{rangeAnswer, chooseAnswer, withSet, withType, PassStep, SetRange, Choose, Dispatch, tried, passes, missing}
 use Rattle.immediates_pass.specs.History.{after, SetIn, now, before, orEarlier, lastChosen, Ready}

@@ -1,4 +1,4 @@
 // Answers its arguments, or the commands on standard input.
 fn main() {
-    command_line::run();
+    program_command_line::run();
 }

@@ -1,17 +1,17 @@
 // What `inspect` says of its arguments, which are in `args`, and of the lines at which it stops.
-use commands::Session;
+use program_commands::Session;
 
 fn stop_at(s: Session, line: &[u8]) {
     let mut arena = [0u32; 22528];
     let mut numbers = [0u32; 1025];
     let mut out = [0u8; 65536];
-    let read = text::read_line(line, &mut numbers);
-    let stopped = commands::change(read, s, &mut arena);
-    commands::flushed(stopped, &mut out);
+    let read = program_lines::read_line(line, &mut numbers);
+    let stopped = program_commands::change(read, s, &mut arena);
+    program_commands::flushed(stopped, &mut out);
 }
 
 fn stop(line: &[u8]) {
-    stop_at(commands::start(), line);
+    stop_at(program_commands::start(), line);
 }
 
 // A byte order mark in UTF-8 and in UTF-16 of either order, a NUL, a carriage return that is not the last byte.
@@ -61,15 +61,15 @@ fn last_usage() {
 
 // Tables that are full: 1,024 types, 4,096 members.
 fn full() {
-    let mut s = commands::start();
-    s.types = commands::MEMBERS_AT;
-    s.members = commands::ARENA_WORDS;
+    let mut s = program_commands::start();
+    s.types = program_commands::MEMBERS_AT;
+    s.members = program_commands::ARENA_WORDS;
     stop_at(s, b"type 0 2 4");
     stop_at(s, b"member 0 0");
 }
 
 fn main() {
-    command_line::run();
+    program_command_line::run();
     bytes();
     words();
     usage();

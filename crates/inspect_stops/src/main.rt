@@ -1,4 +1,4 @@
 // The session at a line that is longer than it may be: the line is not cut, and nothing after it is answered.
 fn main() {
-    session::run();
+    program_session::run();
 }

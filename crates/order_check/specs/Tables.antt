@@ -3,9 +3,9 @@
 use mathlib.Core.List.{List, _++_}
 use Prim.Native.Nat.{ℕ, _*_}
 use lib.ListN.{take}
-use Rattle.records.specs.Record.{typeWords, memberWords}
-use Rattle.records.specs.declared.Outcome.{Outcome}
-use Rattle.records.specs.declared.Outcome.the-variants.{Accepted, Refused}
+use Rattle.ir_records.specs.Record.{typeWords, memberWords}
+use Rattle.ir_records.specs.declared.Outcome.{Outcome}
+use Rattle.ir_records.specs.declared.Outcome.the-variants.{Accepted, Refused}
 
 -- the types in use and one record more
 abbrev pub typesWith : (types : List ℕ) (n : ℕ) (own : List ℕ) → List ℕ

@@ -9,7 +9,7 @@ use native.Mathlib.Omega.{arith}
 use lib.Dec.{T, eqb, leb, eqb→eq}
 use borrow.Author.Tests.{leb-true}
 use lib.ListN.{getD}
-use Rattle.alignment.proofs.Finite.{all, holds}
+use Rattle.proc_alignment.proofs.Finite.{all, holds}
 use Rattle.order_numbers.specs.Order.{Before, memberAt, powers}
 
 -- ---- the table of powers

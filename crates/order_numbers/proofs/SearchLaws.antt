@@ -6,7 +6,7 @@ use Prim.Native.Nat.{ℕ, zero, suc, _+_, _-_, _≤_, _<_}
 use native.Mathlib.Decide.{ℕ-discrete, decLe}
 use native.Mathlib.Omega.{arith}
 use native.Mathlib.Numerals.{add-one}
-use Rattle.records.specs.Result.{pick}
+use Rattle.ir_records.specs.Result.{pick}
 use Rattle.order_numbers.specs.declared.Found.{Found}
 use Rattle.order_numbers.specs.declared.Found.the-variants.{At, Nothing}
 use Rattle.order_numbers.specs.Search.{firstFrom}

@@ -2,7 +2,7 @@
 -- Assumes nothing.
 use mathlib.Core.Bool.{Bool, true, false}
 use Prim.Native.Nat.{ℕ, zero, suc}
-use Rattle.records.specs.Result.{pick}
+use Rattle.ir_records.specs.Result.{pick}
 use Rattle.order_numbers.specs.declared.Found.{Found}
 use Rattle.order_numbers.specs.declared.Found.the-variants.{At, Nothing}
 

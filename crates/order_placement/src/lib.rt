@@ -8,20 +8,20 @@ ghost use Rattle.order_placement.specs.Placement.{sizeOf, alignOf, endAf
 fn size_of(rows: &[u32], wanted: &[u32], m: u32) -> u32
     ensures { λ r. ⌜ r ≡ sizeOf (now (rows .entry)) (now (wanted .entry)) m ⌝ }
 {
-    rows::row_word(
+    ir_rows::row_word(
         rows,
-        records::word_at(wanted, m as usize),
-        rows::SIZE as u32,
+        ir_records::word_at(wanted, m as usize),
+        ir_rows::SIZE as u32,
     )
 }
 
 fn align_of(rows: &[u32], wanted: &[u32], m: u32) -> u32
     ensures { λ r. ⌜ r ≡ alignOf (now (rows .entry)) (now (wanted .entry)) m ⌝ }
 {
-    rows::row_word(
+    ir_rows::row_word(
         rows,
-        records::word_at(wanted, m as usize),
-        rows::ALIGNMENT as u32,
+        ir_records::word_at(wanted, m as usize),
+        ir_rows::ALIGNMENT as u32,
     )
 }
 
@@ -61,7 +61,7 @@ fn align_of_struct(rows: &[u32], wanted: &[u32], n: u32) -> u32
     let mut most: u32 = 1;
     let mut m: u32 = 0;
     while m < n {
-        most = alignment::larger(most, align_of(rows, wanted, m));
+        most = proc_alignment::larger(most, align_of(rows, wanted, m));
         m += 1;
     }
     most

@@ -46,7 +46,7 @@ pub fn first_order(rows: &[u32], wanted: &[u32], n: u32, last: u32, span: u32) -
             return Found::At(order);
         }
         let after = order + 1;
-        order = alignment::larger(next, after);
+        order = proc_alignment::larger(next, after);
     }
     Found::Nothing
 }

@@ -6,8 +6,8 @@ use Prim.Native.Nat.{ℕ, _+_, _-_, _≤_}
 use native.Mathlib.Omega.{arith}
 use lib.ListN.{length, take, drop, take-append-drop, length-drop}
 use lib.Seq.{paste, take-paste, take-all, take-add, take-take, take-at, length-take-le}
-use Rattle.rows.specs.Rows.{withPart}
-use Rattle.rows.proofs.RowLaws.{take-part, drop-part}
+use Rattle.ir_rows.specs.Rows.{withPart}
+use Rattle.ir_rows.proofs.RowLaws.{take-part, drop-part}
 
 -- the words of a part that were kept
 pub kept-part : (d z out : List ℕ) (at n : ℕ) → at + n ≤ length d → out ≡ paste z 0 (take (length d - at) (drop at d)) n → take n out ≡ take n (drop at d)

@@ -7,10 +7,10 @@ use native.Mathlib.Nat.{zero-mul}
 use native.Mathlib.Numerals.{add-one}
 use native.Mathlib.Omega.{arith}
 use lib.ListN.{length, take, drop, take-append-drop}
-use Rattle.records.specs.Table.{flat}
-use Rattle.records.proofs.TableLaws.{flat-length}
-use Rattle.rows.specs.Rows.{withPart}
-use Rattle.rows.proofs.RowLaws.{take-part, drop-part, part-length}
+use Rattle.ir_records.specs.Table.{flat}
+use Rattle.ir_records.proofs.TableLaws.{flat-length}
+use Rattle.ir_rows.specs.Rows.{withPart}
+use Rattle.ir_rows.proofs.RowLaws.{take-part, drop-part, part-length}
 use Rattle.order_struct.specs.Struct.{memberRow, memberRows}
 
 module _ (rows wanted : List ℕ) (member : ℕ → ℕ) (was : List ℕ) (m k : ℕ) where

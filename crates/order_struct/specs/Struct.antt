@@ -3,8 +3,8 @@
 use mathlib.Core.List.{List, [], _∷_}
 use Prim.Native.Nat.{ℕ}
 use lib.ListN.{getD}
-use Rattle.records.specs.Record.{structKind}
-use Rattle.records.specs.Table.{flat}
+use Rattle.ir_records.specs.Record.{structKind}
+use Rattle.ir_records.specs.Table.{flat}
 use Rattle.order_placement.specs.Placement.{offsetOf}
 
 -- the member rows begin at row `first`

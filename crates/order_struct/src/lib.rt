@@ -1,11 +1,11 @@
 // The struct of an order, written behind the records in use; and words that are kept and put back.
-use records::Words;
+use ir_records::Words;
 ghost use mathlib.Core.Path.{_≡_};
 ghost use Prim.Native.Nat.{ℕ, _+_, _*_, _≤_, _<_};
 ghost use lib.ListN.{length};
 ghost use lib.Seq.{paste};
-ghost use Rattle.rows.specs.Rows.{withPart};
-ghost use Rattle.alignment.specs.Alignment.{most};
+ghost use Rattle.ir_rows.specs.Rows.{withPart};
+ghost use Rattle.proc_alignment.specs.Alignment.{most};
 ghost use Rattle.order_numbers.specs.Order.{memberAt};
 ghost use Rattle.order_placement.specs.Placement.{offsetOf};
 ghost use Rattle.order_struct.specs.Struct.{structRecord, memberRow, memberRows};
@@ -33,7 +33,7 @@ fn put_row(members: &mut [u32], m: u32, rows: &[u32], wanted: &[u32], k: u32, or
     ensures { λ _. ⌜ now (members .exit) ≡ withPart 4 (now (members .entry)) ((m + j) * 4) (memberRow (now (rows .entry)) (now (wanted .entry)) (memberAt k order) j) ⌝ }
 {
     let member = order_numbers::member_at(order, k, j);
-    let ty = records::word_at(wanted, member as usize);
+    let ty = ir_records::word_at(wanted, member as usize);
     let offset = order_placement::offset_of(rows, wanted, k, order, j);
     wgsl_tables::put_member(members, m + j, ty, offset as u32);
 }
@@ -74,7 +74,7 @@ pub fn put_struct(
     ensures { λ _. ⌜ now (members .exit) ≡ withPart (k * 4) (now (members .entry)) (m * 4) (memberRows (now (rows .entry)) (now (wanted .entry)) k (memberAt k order)) ⌝ }
 {
     let words = Words {
-        kind: records::STRUCT_KIND,
+        kind: ir_records::STRUCT_KIND,
         a: m,
         b: k,
         c: span,

@@ -9,7 +9,7 @@ use native.Mathlib.Omega.{arith}
 use lib.Dec.{leb}
 use lib.ListN.{length, getD}
 use borrow.Author.Tests.{leb-false}
-use Rattle.records.specs.Result.{pick}
+use Rattle.ir_records.specs.Result.{pick}
 use Rattle.order_numbers.specs.declared.Found.{Found}
 use Rattle.order_numbers.specs.declared.Found.the-variants.{At, Nothing}
 use Rattle.order_numbers.specs.Search.{firstFrom, isFound}

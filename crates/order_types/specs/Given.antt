@@ -6,10 +6,10 @@ use mathlib.Core.List.{List}
 use Prim.Native.Nat.{ℕ, _+_, _-_}
 use lib.Dec.{eqb, leb}
 use lib.ListN.{length, getD}
-use Rattle.records.specs.Result.{pick}
-use Rattle.records.specs.Record.{structKind, typeWord}
-use Rattle.rows.specs.Rows.{rowWord}
-use Rattle.flags.specs.Flags.{bit, dataBit, sizedBit}
+use Rattle.ir_records.specs.Result.{pick}
+use Rattle.ir_records.specs.Record.{structKind, typeWord}
+use Rattle.ir_rows.specs.Rows.{rowWord}
+use Rattle.valid_flags.specs.Flags.{bit, dataBit, sizedBit}
 use Rattle.order_numbers.specs.declared.Found.{Found}
 use Rattle.order_numbers.specs.declared.Found.the-variants.{At, Nothing}
 use Rattle.order_numbers.specs.Search.{firstFrom, isFound}

@@ -24,15 +24,15 @@ fn sort_of(types: &[u32], rows: &[u32], n: u32, ty: u32) -> u32
     if n <= ty {
         return OUTSIDE;
     }
-    let flags = rows::row_word(rows, ty, 2);
-    if !flags::is_data(flags) {
+    let flags = ir_rows::row_word(rows, ty, 2);
+    if !valid_flags::is_data(flags) {
         return NO_DATA;
     }
-    if flags::is_sized(flags) {
+    if valid_flags::is_sized(flags) {
         return SIZED;
     }
-    let kind = records::type_word(types, ty, 0);
-    if kind == records::STRUCT_KIND {
+    let kind = ir_records::type_word(types, ty, 0);
+    if kind == ir_records::STRUCT_KIND {
         return UNSIZED_STRUCT;
     }
     RUNTIME_ARRAY
@@ -47,7 +47,7 @@ fn first_of(types: &[u32], rows: &[u32], n: u32, wanted: &[u32], sort: u32, from
     let count = wanted.len() as u32;
     let mut j: u32 = from;
     while j < count {
-        let own = sort_of(types, rows, n, records::word_at(wanted, j as usize));
+        let own = sort_of(types, rows, n, ir_records::word_at(wanted, j as usize));
         if own == sort {
             return Found::At(j);
         }

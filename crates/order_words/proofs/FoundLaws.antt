@@ -8,8 +8,8 @@ use native.Mathlib.Omega.{arith}
 use lib.ListN.{length, take, drop}
 use lib.Seq.{paste, take-all}
 use borrow.Author.Tests.{le-ltb, lt-ltb}
-use Rattle.order.specs.declared.OrderAnswer.{OrderAnswer}
-use Rattle.order.specs.declared.OrderAnswer.the-variants as answer
+use Rattle.order_call.specs.declared.OrderAnswer.{OrderAnswer}
+use Rattle.order_call.specs.declared.OrderAnswer.the-variants as answer
 use Rattle.order_words.specs.Words.{foundWords, withFound}
 
 found-length : (k : ℕ) (a : OrderAnswer) → length (foundWords k a) ≡ 9

@@ -5,12 +5,12 @@ use mathlib.Core.List.{List, [], _∷_, _++_}
 use Prim.Native.Nat.{ℕ}
 use lib.Dec.{leb, ltb}
 use lib.ListN.{length, drop}
-use Rattle.records.specs.Result.{pick}
-use Rattle.records.specs.declared.Outcome.{Outcome}
-use Rattle.records.specs.declared.Outcome.the-variants as outcome
+use Rattle.ir_records.specs.Result.{pick}
+use Rattle.ir_records.specs.declared.Outcome.{Outcome}
+use Rattle.ir_records.specs.declared.Outcome.the-variants as outcome
 use Rattle.order_numbers.specs.Order.{memberAt}
-use Rattle.order.specs.declared.OrderAnswer.{OrderAnswer}
-use Rattle.order.specs.declared.OrderAnswer.the-variants as answer
+use Rattle.order_call.specs.declared.OrderAnswer.{OrderAnswer}
+use Rattle.order_call.specs.declared.OrderAnswer.the-variants as answer
 
 abbrev pub orderOutcome : OrderAnswer → Outcome
 orderOutcome (answer.Found ty span order) = outcome.Accepted

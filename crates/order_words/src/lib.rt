@@ -1,6 +1,6 @@
 // The answer for an order as words.
-use order::OrderAnswer;
-use records::Outcome;
+use ir_records::Outcome;
+use order_call::OrderAnswer;
 ghost use mathlib.Core.Path.{_≡_};
 ghost use Rattle.order_words.specs.Words.{orderOutcome, placeWord, foundWords, withFound};
 

@@ -7,16 +7,16 @@ use Prim.Native.Nat.{ℕ, zero, suc, _*_, _/_, _≤_}
 use native.Mathlib.Omega.{arith}
 use lib.Dec.{leb, leb→le}
 use lib.ListN.{length, drop, replicate}
-use Rattle.records.specs.Result.{pick}
-use Rattle.records.specs.Record.{typeWords, typeCount, decoded}
-use Rattle.records.specs.Fields.{rowWords, tablesFit, capabilitiesKnown, recordAt}
-use Rattle.records.specs.Table.{outcomeAt, also, firstRefusal}
-use Rattle.records.specs.declared.Outcome.{Outcome}
-use Rattle.records.specs.declared.Outcome.the-variants.{Accepted, Refused}
-use Rattle.records.proofs.ResultLaws.{and-then-ok, true-T, T-true, and-left, and-right}
-use Rattle.records.proofs.TableLaws.{also-accepted, outcome-accepted, all-ok, accepted-all}
-use Rattle.layouter.specs.Layouter.{layoutAt, layoutOutcome}
-use Rattle.valid.specs.Arena.{commonAt, judgeOutcome, arenaOutcome, arena}
+use Rattle.ir_records.specs.Result.{pick}
+use Rattle.ir_records.specs.Record.{typeWords, typeCount, decoded}
+use Rattle.ir_records.specs.Fields.{rowWords, tablesFit, capabilitiesKnown, recordAt}
+use Rattle.ir_records.specs.Table.{outcomeAt, also, firstRefusal}
+use Rattle.ir_records.specs.declared.Outcome.{Outcome}
+use Rattle.ir_records.specs.declared.Outcome.the-variants.{Accepted, Refused}
+use Rattle.ir_records.proofs.ResultLaws.{and-then-ok, true-T, T-true, and-left, and-right}
+use Rattle.ir_records.proofs.TableLaws.{also-accepted, outcome-accepted, all-ok, accepted-all}
+use Rattle.proc_layouter.specs.Layouter.{layoutAt, layoutOutcome}
+use Rattle.valid_arena.specs.Arena.{commonAt, judgeOutcome, arenaOutcome, arena}
 use Rattle.place_short_layout.specs.ShortRows.{shortWidth}
 use Rattle.place_short.specs.Short.{lengthsFit, shortFits, shortAnswer, scratchAfter}
 use Rattle.place_short.specs.Serving.{threeResult}

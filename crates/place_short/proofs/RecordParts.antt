@@ -6,16 +6,16 @@ use mathlib.Core.List.{List}
 use Prim.Native.Nat.{ℕ, _*_, _<_}
 use lib.ListN.{length}
 use borrow.Author.Tests.{eqb-true}
-use Rattle.records.specs.Result.{ok, require}
-use Rattle.records.specs.Record.{typeCount, typeWord, memberWords, memberCount, structKind, typeInner, innerOf, structMembers}
-use Rattle.records.specs.Fields.{fieldsOk, baseWithin, recordAt}
-use Rattle.records.specs.declared.TypeInner.{TypeInner}
-use Rattle.records.specs.declared.TypeInner.the-variants.{Plain, Array, RuntimeArray, Struct, Other}
-use Rattle.records.proofs.ResultLaws.{required, T-true}
-use Rattle.records.proofs.RecordLaws.{members-part, record-fields}
-use Rattle.type_flags.specs.TypeFlags.{isStruct}
-use Rattle.type_flags.proofs.KindLaws.{struct-by-kind}
-use Rattle.type_layout.proofs.TypeLayoutLaws.{members-within, part-length}
+use Rattle.ir_records.specs.Result.{ok, require}
+use Rattle.ir_records.specs.Record.{typeCount, typeWord, memberWords, memberCount, structKind, typeInner, innerOf, structMembers}
+use Rattle.ir_records.specs.Fields.{fieldsOk, baseWithin, recordAt}
+use Rattle.ir_records.specs.declared.TypeInner.{TypeInner}
+use Rattle.ir_records.specs.declared.TypeInner.the-variants.{Plain, Array, RuntimeArray, Struct, Other}
+use Rattle.ir_records.proofs.ResultLaws.{required, T-true}
+use Rattle.ir_records.proofs.RecordLaws.{members-part, record-fields}
+use Rattle.valid_type_flags.specs.TypeFlags.{isStruct}
+use Rattle.valid_type_flags.proofs.KindLaws.{struct-by-kind}
+use Rattle.proc_type_layout.proofs.TypeLayoutLaws.{members-within, part-length}
 
 countIn : TypeInner → ℕ
 countIn (Plain leaf) = 0

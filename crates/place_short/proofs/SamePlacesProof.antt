@@ -9,25 +9,25 @@ use native.Mathlib.Omega.{arith}
 use lib.Dec.{eqb, leb}
 use lib.ListN.{length, getD, drop, replicate, List·getD-append, length-replicate}
 use borrow.Author.Tests.{le-leb, lt-leb}
-use Rattle.records.specs.Result.{pick}
-use Rattle.records.specs.Record.{typeCount, typeWords, memberWords, decoded}
-use Rattle.records.specs.Fields.{mostTypes, mostMembers, rowWords, tablesFit, capabilitiesKnown}
-use Rattle.records.specs.Table.{flat}
-use Rattle.records.specs.declared.Outcome.{Outcome}
-use Rattle.records.specs.declared.Outcome.the-variants.{Accepted, Refused}
-use Rattle.records.proofs.ResultLaws.{true-T, T-true, and-right}
-use Rattle.records.proofs.RecordLaws.{tables-fitting}
-use Rattle.records.proofs.TableLaws.{flat-length, flat-word}
-use Rattle.rows.specs.Rows.{rowWord, cleared}
-use Rattle.layouter.specs.Layouter.{rowsAfter}
-use Rattle.type_info.specs.declared.Row.{Row}
-use Rattle.type_info.specs.declared.UniformRule.{UniformRule}
-use Rattle.type_info.specs.TypeInfo.{wordsOf}
-use Rattle.type_info.specs.Verdict.{leastFor}
-use Rattle.valid.specs.Arena.{common, row, rowAt, arenaRows, arenaOutcome, arenaFits, arenaAnswer, arenaWords}
-use Rattle.valid.proofs.CommonLaws.{row-common}
-use Rattle.valid.proofs.JudgeRows.{row-length}
-use Rattle.place.specs.Place.{startAnswer, lookupAnswer}
+use Rattle.ir_records.specs.Result.{pick}
+use Rattle.ir_records.specs.Record.{typeCount, typeWords, memberWords, decoded}
+use Rattle.ir_records.specs.Fields.{mostTypes, mostMembers, rowWords, tablesFit, capabilitiesKnown}
+use Rattle.ir_records.specs.Table.{flat}
+use Rattle.ir_records.specs.declared.Outcome.{Outcome}
+use Rattle.ir_records.specs.declared.Outcome.the-variants.{Accepted, Refused}
+use Rattle.ir_records.proofs.ResultLaws.{true-T, T-true, and-right}
+use Rattle.ir_records.proofs.RecordLaws.{tables-fitting}
+use Rattle.ir_records.proofs.TableLaws.{flat-length, flat-word}
+use Rattle.ir_rows.specs.Rows.{rowWord, cleared}
+use Rattle.proc_layouter.specs.Layouter.{rowsAfter}
+use Rattle.valid_type_info.specs.declared.Row.{Row}
+use Rattle.valid_type_info.specs.declared.UniformRule.{UniformRule}
+use Rattle.valid_type_info.specs.TypeInfo.{wordsOf}
+use Rattle.valid_type_info.specs.Verdict.{leastFor}
+use Rattle.valid_arena.specs.Arena.{common, row, rowAt, arenaRows, arenaOutcome, arenaFits, arenaAnswer, arenaWords}
+use Rattle.valid_arena.proofs.CommonLaws.{row-common}
+use Rattle.valid_arena.proofs.JudgeRows.{row-length}
+use Rattle.place_lookup.specs.Place.{startAnswer, lookupAnswer}
 use Rattle.place_short_layout.specs.ShortRows.{shortWidth, shortWord}
 use Rattle.place_short.specs.Short.{threeAt, lengthsFit, shortFits, shortAnswer, shortLookup, scratchAfter, shortWords}
 use Rattle.place_short.specs.SamePlaces.{SamePlaces}

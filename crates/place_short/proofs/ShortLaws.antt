@@ -7,22 +7,22 @@ use Prim.Native.Nat.{ℕ, zero, suc, _+_, _*_, _≤_, _<_}
 use native.Mathlib.Omega.{arith}
 use native.Mathlib.Decide.{decLe}
 use lib.ListN.{length, getD, take, drop, List·getD-eq-default}
-use Rattle.records.specs.Result.{Result, err, ok, andThen}
-use Rattle.records.specs.Record.{decoded, typeInner, structMembers}
-use Rattle.records.specs.Table.{table, resultAt, outcomeAt, also, firstRefusal, flat}
-use Rattle.records.specs.declared.Outcome.{Outcome}
-use Rattle.records.specs.declared.Outcome.the-variants.{Accepted, Refused}
-use Rattle.records.proofs.ResultLaws.{and-then-ok, ok-inj}
-use Rattle.records.proofs.TableLaws.{table-value, table-above, value-ok, flat-length, flat-word, all-ok, outcome-accepted}
-use Rattle.rows.specs.Rows.{withPart}
-use Rattle.rows.proofs.RowLaws.{flat-more, drop-part}
-use Rattle.type_alignment.specs.declared.TypeLayout.{TypeLayout}
-use Rattle.type_layout.specs.TypeLayout.{layoutOf}
-use Rattle.layouter.specs.Layouter.{noLayout, layoutStep, layoutAt, layout}
-use Rattle.type_info.specs.declared.Row.{Row}
-use Rattle.type_info.specs.TypeInfo.{emptyRow, noVerdict, rowSizes, rowFlags}
-use Rattle.validate_type.specs.ValidateType.{flagsOf, rowWith, judgeCommon}
-use Rattle.valid.specs.Arena.{commonStep, commonAt, common}
+use Rattle.ir_records.specs.Result.{Result, err, ok, andThen}
+use Rattle.ir_records.specs.Record.{decoded, typeInner, structMembers}
+use Rattle.ir_records.specs.Table.{table, resultAt, outcomeAt, also, firstRefusal, flat}
+use Rattle.ir_records.specs.declared.Outcome.{Outcome}
+use Rattle.ir_records.specs.declared.Outcome.the-variants.{Accepted, Refused}
+use Rattle.ir_records.proofs.ResultLaws.{and-then-ok, ok-inj}
+use Rattle.ir_records.proofs.TableLaws.{table-value, table-above, value-ok, flat-length, flat-word, all-ok, outcome-accepted}
+use Rattle.ir_rows.specs.Rows.{withPart}
+use Rattle.ir_rows.proofs.RowLaws.{flat-more, drop-part}
+use Rattle.proc_type_alignment.specs.declared.TypeLayout.{TypeLayout}
+use Rattle.proc_type_layout.specs.TypeLayout.{layoutOf}
+use Rattle.proc_layouter.specs.Layouter.{noLayout, layoutStep, layoutAt, layout}
+use Rattle.valid_type_info.specs.declared.Row.{Row}
+use Rattle.valid_type_info.specs.TypeInfo.{emptyRow, noVerdict, rowSizes, rowFlags}
+use Rattle.valid_types.specs.ValidateType.{flagsOf, rowWith, judgeCommon}
+use Rattle.valid_arena.specs.Arena.{commonStep, commonAt, common}
 use Rattle.place_short_layout.specs.ShortRows.{shortWidth, shortWord, threeWords, shortLayouts}
 use Rattle.place_short_flags.specs.ShortFlags.{shortSizes, shortFlags}
 use Rattle.place_short.specs.Short.{threeAt}

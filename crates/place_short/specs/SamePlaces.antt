@@ -6,13 +6,13 @@ use mathlib.Core.Bool.{true}
 use mathlib.Core.List.{List}
 use Prim.Native.Nat.{ℕ, _*_, _≤_, _<_}
 use lib.ListN.{length}
-use Rattle.records.specs.Record.{typeCount}
-use Rattle.records.specs.Fields.{rowWords}
-use Rattle.rows.specs.Rows.{rowWord}
-use Rattle.type_info.specs.declared.UniformRule.{UniformRule}
-use Rattle.valid.specs.Arena.{arenaWords, arenaFits}
-use Rattle.place.specs.declared.PlaceAnswer.the-variants.{Refused}
-use Rattle.place.specs.Place.{lookupAnswer}
+use Rattle.ir_records.specs.Record.{typeCount}
+use Rattle.ir_records.specs.Fields.{rowWords}
+use Rattle.ir_rows.specs.Rows.{rowWord}
+use Rattle.valid_type_info.specs.declared.UniformRule.{UniformRule}
+use Rattle.valid_arena.specs.Arena.{arenaWords, arenaFits}
+use Rattle.place_lookup.specs.declared.PlaceAnswer.the-variants.{Refused}
+use Rattle.place_lookup.specs.Place.{lookupAnswer}
 use Rattle.place_short_layout.specs.ShortRows.{shortWidth, shortWord}
 use Rattle.place_short.specs.Short.{shortLookup, shortWords}
 

@@ -2,13 +2,13 @@
 -- Assumes nothing.
 use mathlib.Core.List.{List}
 use Prim.Native.Nat.{ℕ}
-use Rattle.records.specs.Result.{Result, err, ok, andThen}
-use Rattle.records.specs.Record.{typeInner, structMembers}
-use Rattle.records.specs.Table.{flat}
-use Rattle.rows.specs.Rows.{withPart}
-use Rattle.type_alignment.specs.declared.TypeLayout.{TypeLayout}
-use Rattle.type_layout.specs.TypeLayout.{layoutOf}
-use Rattle.validate_type.specs.ValidateType.{flagsOf}
+use Rattle.ir_records.specs.Result.{Result, err, ok, andThen}
+use Rattle.ir_records.specs.Record.{typeInner, structMembers}
+use Rattle.ir_records.specs.Table.{flat}
+use Rattle.ir_rows.specs.Rows.{withPart}
+use Rattle.proc_type_alignment.specs.declared.TypeLayout.{TypeLayout}
+use Rattle.proc_type_layout.specs.TypeLayout.{layoutOf}
+use Rattle.valid_types.specs.ValidateType.{flagsOf}
 use Rattle.place_short_layout.specs.ShortRows.{shortWidth, threeWords, shortLayouts}
 use Rattle.place_short_flags.specs.ShortFlags.{shortSizes, shortFlags}
 use Rattle.place_short.specs.Short.{threeAt}

@@ -6,16 +6,16 @@ use mathlib.Core.List.{List, _++_}
 use Prim.Native.Nat.{ℕ, _*_, _/_}
 use lib.Dec.{leb}
 use lib.ListN.{length, drop}
-use Rattle.records.specs.Result.{pick}
-use Rattle.records.specs.Record.{typeWords, typeCount, decoded}
-use Rattle.records.specs.Fields.{rowWords, tablesFit, capabilitiesKnown}
-use Rattle.records.specs.Table.{flat}
-use Rattle.records.specs.declared.Outcome.{Outcome}
-use Rattle.records.specs.declared.Outcome.the-variants.{Accepted, Refused}
-use Rattle.rows.specs.Rows.{cleared}
-use Rattle.valid.specs.Arena.{common, arenaOutcome}
-use Rattle.place.specs.declared.PlaceAnswer.{PlaceAnswer}
-use Rattle.place.specs.Place.{startAnswer}
+use Rattle.ir_records.specs.Result.{pick}
+use Rattle.ir_records.specs.Record.{typeWords, typeCount, decoded}
+use Rattle.ir_records.specs.Fields.{rowWords, tablesFit, capabilitiesKnown}
+use Rattle.ir_records.specs.Table.{flat}
+use Rattle.ir_records.specs.declared.Outcome.{Outcome}
+use Rattle.ir_records.specs.declared.Outcome.the-variants.{Accepted, Refused}
+use Rattle.ir_rows.specs.Rows.{cleared}
+use Rattle.valid_arena.specs.Arena.{common, arenaOutcome}
+use Rattle.place_lookup.specs.declared.PlaceAnswer.{PlaceAnswer}
+use Rattle.place_lookup.specs.Place.{startAnswer}
 use Rattle.place_short_layout.specs.ShortRows.{shortWidth, threeWords}
 
 -- ---- the call

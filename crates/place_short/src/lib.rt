@@ -1,21 +1,21 @@
 // The place lookup with a scratch of three words for each type: size, alignment and flags. No verdict is made.
-use place::PlaceAnswer;
+use ir_records::Outcome;
+use place_lookup::PlaceAnswer;
 use place_short_layout::SHORT_WORDS;
-use records::Outcome;
-use type_flags::Flagged;
-use type_layout::Laid;
+use proc_type_layout::Laid;
+use valid_type_flags::Flagged;
 ghost use mathlib.Core.Path.{_≡_};
 ghost use mathlib.Core.Bool.{true};
 ghost use Prim.Native.Nat.{_+_, _*_, _≤_};
 ghost use lib.ListN.{length, take, drop};
-ghost use Rattle.records.specs.Result.{ok};
-ghost use Rattle.records.specs.Record.{typeCount, decoded};
-ghost use Rattle.records.specs.Fields.{recordAt};
-ghost use Rattle.records.specs.Table.{also, firstRefusal, outcomeAt, flat};
-ghost use Rattle.records.specs.declared.Outcome.the-variants.{Accepted};
-ghost use Rattle.rows.specs.Rows.{cleared};
-ghost use Rattle.layouter.specs.Layouter.{layoutAt};
-ghost use Rattle.valid.specs.Arena.{arenaOutcome};
+ghost use Rattle.ir_records.specs.Result.{ok};
+ghost use Rattle.ir_records.specs.Record.{typeCount, decoded};
+ghost use Rattle.ir_records.specs.Fields.{recordAt};
+ghost use Rattle.ir_records.specs.Table.{also, firstRefusal, outcomeAt, flat};
+ghost use Rattle.ir_records.specs.declared.Outcome.the-variants.{Accepted};
+ghost use Rattle.ir_rows.specs.Rows.{cleared};
+ghost use Rattle.proc_layouter.specs.Layouter.{layoutAt};
+ghost use Rattle.valid_arena.specs.Arena.{arenaOutcome};
 ghost use Rattle.place_short.specs.Short.{threeAt, lengthsFit, shortFits, shortAnswer, shortLookup, scratchAfter, shortWords};
 ghost use Rattle.place_short.specs.Serving.{threeResult, threeFrom, laidFrom, writtenAfter};
 
@@ -27,8 +27,8 @@ fn layout_at(types: &[u32], members: &[u32], words: &mut [u32], i: u32) -> Outco
     ensures { λ _. ⌜ now (words .exit) ≡ writtenAfter (laidFrom (now (types .entry)) (now (members .entry)) (take (i * 3) (now (words .entry))) i) (i * 3) (now (words .entry)) ⌝ }
 {
     let at = (i as usize) * SHORT_WORDS;
-    let inner = records::type_inner(types, i);
-    let part = records::struct_members(types, members, i);
+    let inner = ir_records::type_inner(types, i);
+    let part = ir_records::struct_members(types, members, i);
     match place_short_layout::layout_of(&words[..at], i, inner, part) {
         Laid::Layout(l) => {
             place_short_layout::put_three(words, i, l.size, l.alignment, 0);
@@ -78,8 +78,8 @@ fn judge_at(capabilities: u32, types: &[u32], members: &[u32], words: &mut [u32]
     ensures { λ _. ⌜ now (words .exit) ≡ writtenAfter (threeFrom capabilities (now (types .entry)) (now (members .entry)) (take (i * 3) (now (words .entry))) i) (i * 3) (now (words .entry)) ⌝ }
 {
     let at = (i as usize) * SHORT_WORDS;
-    let inner = records::type_inner(types, i);
-    let part = records::struct_members(types, members, i);
+    let inner = ir_records::type_inner(types, i);
+    let part = ir_records::struct_members(types, members, i);
     match place_short_layout::layout_of(&words[..at], i, inner, part) {
         Laid::Layout(l) => {
             match place_short_flags::flags_of(capabilities, types, &words[..at], inner, part) {
@@ -151,7 +151,7 @@ fn refused(types: &[u32], members: &[u32], words: &mut [u32], n: u32, found: Out
 {
     let before = layout_all(types, members, words, n);
     let three = (n as usize) * SHORT_WORDS;
-    rows::clear(words, three);
+    ir_rows::clear(words, three);
     match before {
         Outcome::Accepted => found,
         Outcome::Refused {
@@ -202,7 +202,7 @@ fn judge_tables(
     ensures { λ r. ⌜ r ≡ arenaOutcome capabilities (now (types .entry)) (now (members .entry)) ⌝ }
     ensures { λ r. ⌜ now (words .exit) ≡ scratchAfter r capabilities (now (types .entry)) (now (members .entry)) n (now (words .entry)) ⌝ }
 {
-    let found = fields::records_ok(types, members, n);
+    let found = ir_fields::records_ok(types, members, n);
     match found {
         Outcome::Accepted => judge_records(capabilities, types, members, words, n),
         Outcome::Refused {
@@ -212,7 +212,7 @@ fn judge_tables(
             detail: _,
         } => {
             let three = (n as usize) * SHORT_WORDS;
-            rows::clear(words, three);
+            ir_rows::clear(words, three);
             found
         }
     }
@@ -223,10 +223,10 @@ pub fn lengths_fit(capabilities: u32, types: usize, members: usize, scratch: usi
     requires { ⌜ types ≤ 4611686018427387903 ⌝ }
     ensures { λ r. ⌜ r ≡ lengthsFit capabilities types members scratch ⌝ }
 {
-    let n = types / records::TYPE_WORDS;
-    let known = records::capabilities_known(capabilities);
-    let rows = n * records::ROW_WORDS;
-    let fit = records::tables_fit(types, members, rows);
+    let n = types / ir_records::TYPE_WORDS;
+    let known = ir_records::capabilities_known(capabilities);
+    let rows = n * ir_records::ROW_WORDS;
+    let fit = ir_records::tables_fit(types, members, rows);
     let three = n * SHORT_WORDS;
     known & fit & (three <= scratch)
 }
@@ -237,7 +237,7 @@ pub fn judge(types: &[u32], members: &[u32], capabilities: u32, scratch: &mut [u
     ensures { λ _. ⌜ now (scratch .exit) ≡ shortWords capabilities (now (types .entry)) (now (members .entry)) (now (scratch .entry)) ⌝ }
 {
     if lengths_fit(capabilities, types.len(), members.len(), scratch.len()) {
-        let n = (types.len() / records::TYPE_WORDS) as u32;
+        let n = (types.len() / ir_records::TYPE_WORDS) as u32;
         return judge_tables(capabilities, types, members, scratch, n);
     }
     Outcome::Refused {
@@ -263,7 +263,7 @@ pub fn lookup(
 {
     match judge(types, members, capabilities, scratch) {
         Outcome::Accepted => {
-            place::place_answer(descent::place_of(types, members, start, steps))
+            place_lookup::place_answer(place_descent::place_of(types, members, start, steps))
         }
         Outcome::Refused {
             number,

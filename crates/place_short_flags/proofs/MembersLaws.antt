@@ -7,12 +7,12 @@ use Prim.Native.Nat.{ℕ, _+_, _<_}
 use native.Mathlib.Decide.{le-ind}
 use native.Mathlib.Numerals.{add-one}
 use native.Mathlib.Omega.{arith}
-use Rattle.records.specs.Result.{Result, err, ok}
-use Rattle.records.specs.Record.{memberType, memberOffset}
-use Rattle.records.specs.declared.TypeInner.{TypeInner}
-use Rattle.type_info.specs.Verdict.{structAt, previousOf}
-use Rattle.member_bounds.specs.declared.Bounds.{Bounds}
-use Rattle.member_bounds.specs.MemberBounds.{memberBounds, boundsAfter}
+use Rattle.ir_records.specs.Result.{Result, err, ok}
+use Rattle.ir_records.specs.Record.{memberType, memberOffset}
+use Rattle.ir_records.specs.declared.TypeInner.{TypeInner}
+use Rattle.valid_type_info.specs.Verdict.{structAt, previousOf}
+use Rattle.valid_member_bounds.specs.declared.Bounds.{Bounds}
+use Rattle.valid_member_bounds.specs.MemberBounds.{memberBounds, boundsAfter}
 
 -- nothing is asked where the sources are looked at in any case
 pub not-false-too : true ≡ false → ⊥

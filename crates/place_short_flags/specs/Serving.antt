@@ -4,12 +4,12 @@ use mathlib.Core.Bool.{Bool, false}
 use mathlib.Core.List.{List}
 use mathlib.Core.Path.{_≡_}
 use Prim.Native.Nat.{ℕ}
-use Rattle.records.specs.Result.{Result, err, ok, pick, require}
-use Rattle.records.specs.Record.{memberCount, Sourceless}
-use Rattle.flags.specs.Flags.{isSizedData, arrayFlags, runtimeArrayFlags}
+use Rattle.ir_records.specs.Result.{Result, err, ok, pick, require}
+use Rattle.ir_records.specs.Record.{memberCount, Sourceless}
+use Rattle.valid_flags.specs.Flags.{isSizedData, arrayFlags, runtimeArrayFlags}
 use Rattle.place_short_flags.specs.declared.Taken.{Taken}
 use Rattle.place_short_flags.specs.declared.Taken.the-variants as taken
-use Rattle.member_bounds.specs.declared.Bounds.{Bounds}
+use Rattle.valid_member_bounds.specs.declared.Bounds.{Bounds}
 
 -- what the code answers of all members
 abbrev pub takenResult : Taken → Result Bounds

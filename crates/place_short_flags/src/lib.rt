@@ -1,28 +1,28 @@
 // The flags of one type, or its refusal, from three words for each type before it: validate_type of naga's valid/type.rs without its verdicts.
-use member_bounds::Bounded;
-use member_bounds::Bounds;
-use records::Leaf;
-use records::NonData;
-use records::TypeInner;
-use type_flags::Flagged;
-use type_info::Previous;
+use ir_records::Leaf;
+use ir_records::NonData;
+use ir_records::TypeInner;
 use valid_blend::Blend;
 use valid_blend::Source;
+use valid_member_bounds::Bounded;
+use valid_member_bounds::Bounds;
+use valid_type_flags::Flagged;
+use valid_type_info::Previous;
 ghost use mathlib.Core.Path.{_≡_};
 ghost use mathlib.Core.Bool.{false};
 ghost use Prim.Native.Nat.{ℕ, _+_, _*_, _≤_, _<_};
 ghost use lib.ListN.{length};
-ghost use Rattle.records.specs.Record.{memberWords, memberCount, memberType, memberOffset, typeInner, Sourceless};
-ghost use Rattle.records.specs.declared.TypeInner.the-variants.{Struct};
-ghost use Rattle.flags.specs.Flags.{bit};
-ghost use Rattle.width.specs.Width.{dualSourceBlending};
-ghost use Rattle.type_flags.specs.TypeFlags.{leafFlags};
-ghost use Rattle.type_flags.specs.Serving.{flaggedResult};
-ghost use Rattle.member_bounds.specs.MemberBounds.{memberBounds, boundsAfter};
-ghost use Rattle.member_bounds.specs.Serving.{boundedResult};
+ghost use Rattle.ir_records.specs.Record.{memberWords, memberCount, memberType, memberOffset, typeInner, Sourceless};
+ghost use Rattle.ir_records.specs.declared.TypeInner.the-variants.{Struct};
+ghost use Rattle.valid_flags.specs.Flags.{bit};
+ghost use Rattle.valid_width.specs.Width.{dualSourceBlending};
+ghost use Rattle.valid_type_flags.specs.TypeFlags.{leafFlags};
+ghost use Rattle.valid_type_flags.specs.Serving.{flaggedResult};
+ghost use Rattle.valid_member_bounds.specs.MemberBounds.{memberBounds, boundsAfter};
+ghost use Rattle.valid_member_bounds.specs.Serving.{boundedResult};
 ghost use Rattle.valid_blend.specs.Blend.{structBlend};
 ghost use Rattle.valid_blend.specs.Serving.{blendedFlags, blendAnswer};
-ghost use Rattle.validate_type.specs.ValidateType.{nonDataFlags, flagsOf};
+ghost use Rattle.valid_types.specs.ValidateType.{nonDataFlags, flagsOf};
 ghost use Rattle.place_short_flags.specs.ShortFlags.{shortSizes, shortFlags};
 ghost use Rattle.place_short_flags.specs.Serving.{takenResult, SourcesKnown, arrayBy};
 
@@ -37,17 +37,24 @@ fn leaf_flags(capabilities: u32, leaf: Leaf) -> Flagged
 {
     match leaf {
         Leaf::Scalar(kind, width) => {
-            validate_type::numeric_flags(capabilities, flags::SCALAR_KIND, kind, width)
+            valid_types::numeric_flags(capabilities, valid_flags::SCALAR_KIND, kind, width)
         }
         Leaf::Vector(_, kind, width) => {
-            validate_type::numeric_flags(capabilities, flags::VECTOR_KIND, kind, width)
+            valid_types::numeric_flags(capabilities, valid_flags::VECTOR_KIND, kind, width)
         }
-        Leaf::Matrix(_, _, kind, width) => type_flags::matrix_flags(capabilities, kind, width),
+        Leaf::Matrix(_, _, kind, width) => valid_type_flags::matrix_flags(
+            capabilities,
+            kind,
+            width,
+        ),
         Leaf::CooperativeMatrix(_, _, kind, width, _) => {
-            type_flags::cooperative_flags(capabilities, kind, width)
+            valid_type_flags::cooperative_flags(capabilities, kind, width)
         }
-        Leaf::Atomic(kind, width) => type_flags::atomic_flags(capabilities, kind, width),
-        Leaf::RayQuery(vertex_return) => type_flags::ray_query_flags(capabilities, vertex_return),
+        Leaf::Atomic(kind, width) => valid_type_flags::atomic_flags(capabilities, kind, width),
+        Leaf::RayQuery(vertex_return) => valid_type_flags::ray_query_flags(
+            capabilities,
+            vertex_return,
+        ),
     }
 }
 
@@ -57,19 +64,19 @@ fn non_data_flags(capabilities: u32, types: &[u32], words: &[u32], o: NonData) -
 {
     match o {
         NonData::Pointer(base, space) => {
-            type_flags::pointer_to(place_short_layout::short_word(words, base, 2), space)
+            valid_type_flags::pointer_to(place_short_layout::short_word(words, base, 2), space)
         }
         NonData::ValuePointer(kind, width, space) => {
-            type_flags::value_pointer_flags(capabilities, kind, width, space)
+            valid_type_flags::value_pointer_flags(capabilities, kind, width, space)
         }
         NonData::Image(dim, arrayed, class) => {
-            type_flags::image_flags(capabilities, dim, arrayed, class)
+            valid_type_flags::image_flags(capabilities, dim, arrayed, class)
         }
-        NonData::Sampler => type_flags::sampler_flags(),
+        NonData::Sampler => valid_type_flags::sampler_flags(),
         NonData::AccelerationStructure(vertex_return) => {
-            type_flags::acceleration_flags(capabilities, vertex_return)
+            valid_type_flags::acceleration_flags(capabilities, vertex_return)
         }
-        NonData::BindingArray(base, form, _) => type_flags::binding_array_of(
+        NonData::BindingArray(base, form, _) => valid_type_flags::binding_array_of(
             types,
             base,
             place_short_layout::short_word(words, base, 2),
@@ -82,7 +89,7 @@ fn non_data_flags(capabilities: u32, types: &[u32], words: &[u32], o: NonData) -
 fn array_flags(runtime: bool, base: u32) -> Flagged
     ensures { λ r. ⌜ flaggedResult r ≡ arrayBy runtime base ⌝ }
 {
-    if !flags::is_sized_data(base) {
+    if !valid_flags::is_sized_data(base) {
         return Flagged::Refused {
             number: 15,
             member: 0,
@@ -90,9 +97,9 @@ fn array_flags(runtime: bool, base: u32) -> Flagged
         };
     }
     if runtime {
-        return Flagged::Flags(flags::runtime_array_flags(base));
+        return Flagged::Flags(valid_flags::runtime_array_flags(base));
     }
-    Flagged::Flags(flags::array_flags(base))
+    Flagged::Flags(valid_flags::array_flags(base))
 }
 
 // Member j, after those before it.
@@ -109,13 +116,13 @@ fn member_step(
     requires { ⌜ j * memberWords + memberWords ≤ length (now part) ⌝ }
     ensures { λ r. ⌜ boundedResult j r ≡ memberBounds count span previous (typeInner (now (types .entry)) (memberType (now (part .entry)) j)) (memberOffset (now (part .entry)) j) j (shortSizes (now (words .entry)) (memberType (now (part .entry)) j)) (shortFlags (now (words .entry)) (memberType (now (part .entry)) j)) «so_far» ⌝ }
 {
-    let t = records::own_type(part, j as usize);
-    let offset = records::own_offset(part, j as usize);
-    let within = member_bounds::is_within(type_info::distance_to(previous, offset));
-    let array = member_bounds::is_array(types, t);
+    let t = ir_records::own_type(part, j as usize);
+    let offset = ir_records::own_offset(part, j as usize);
+    let within = valid_member_bounds::is_within(valid_type_info::distance_to(previous, offset));
+    let array = valid_member_bounds::is_array(types, t);
     let size = place_short_layout::short_word(words, t, 0);
     let flags = place_short_layout::short_word(words, t, 2);
-    member_bounds::member_bounds(count, span, within, array, offset, j, size, flags, so_far)
+    valid_member_bounds::member_bounds(count, span, within, array, offset, j, size, flags, so_far)
 }
 
 // The members of a struct, one after the other, by the rules that do not read blend sources.
@@ -126,7 +133,7 @@ fn members_of(types: &[u32], words: &[u32], part: &[u32], count: u32, span: u32)
 {
     let mut bounds = Bounds {
         end: 0,
-        flags: flags::starting_flags(flags::STRUCT_KIND),
+        flags: valid_flags::starting_flags(valid_flags::STRUCT_KIND),
     };
     let mut previous = Previous::NoStruct;
     let mut sources: u32 = 0;
@@ -140,10 +147,10 @@ fn members_of(types: &[u32], words: &[u32], part: &[u32], count: u32, span: u32)
                 return Taken::Refused { number, member: j };
             }
         }
-        let t = records::own_type(part, j as usize);
-        let offset = records::own_offset(part, j as usize);
-        previous = member_rules::struct_at(types, t, offset);
-        sources = sources | records::own_source(part, j as usize);
+        let t = ir_records::own_type(part, j as usize);
+        let offset = ir_records::own_offset(part, j as usize);
+        previous = valid_member_rules::struct_at(types, t, offset);
+        sources = sources | ir_records::own_source(part, j as usize);
         j += 1;
     }
     Taken::Members {
@@ -176,7 +183,7 @@ fn struct_blend(types: &[u32], words: &[u32], part: &[u32], count: u32, flags: u
     }
     let a = first - 1;
     let b = second - 1;
-    let own = place_short_layout::short_word(words, records::member_type(part, a), 2);
+    let own = place_short_layout::short_word(words, ir_records::member_type(part, a), 2);
     valid_blend::pair_of(types, own, part, count, flags, a, b)
 }
 
@@ -197,7 +204,7 @@ fn blended_flags(
     if !sourced {
         return Blend::Flags(flags);
     }
-    let dual = flags::capable(capabilities, width::DUAL_SOURCE_BLENDING);
+    let dual = valid_flags::capable(capabilities, valid_width::DUAL_SOURCE_BLENDING);
     match valid_blend::sources_of(dual, part, count) {
         Source::Fine => struct_blend(types, words, part, count, flags),
         Source::Refused { number, detail } => Blend::Refused { number, detail },

@@ -3,7 +3,7 @@
 use mathlib.Core.List.{List, [], _∷_}
 use Prim.Native.Nat.{ℕ, _+_, _*_}
 use lib.ListN.{getD}
-use Rattle.type_alignment.specs.declared.TypeLayout.{TypeLayout}
+use Rattle.proc_type_alignment.specs.declared.TypeLayout.{TypeLayout}
 
 abbrev pub shortWidth : ℕ
 shortWidth = 3

@@ -1,20 +1,20 @@
 // Three words for each type, size, alignment and flags, in lent words; and the layout of one type from those of the types before it, as in
 // Layouter::update of naga's proc/layouter.rs, numbers 4 to 7.
-use records::Leaf;
-use records::TypeInner;
-use type_alignment::Aligned;
-use type_alignment::TypeLayout;
-use type_layout::Laid;
-use type_methods::Size;
+use ir_records::Leaf;
+use ir_records::TypeInner;
+use proc_type_alignment::Aligned;
+use proc_type_alignment::TypeLayout;
+use proc_type_layout::Laid;
+use proc_type_methods::Size;
 ghost use mathlib.Core.Path.{_≡_};
 ghost use Prim.Native.Nat.{_+_, _*_, _≤_, _<_};
 ghost use lib.ListN.{length};
-ghost use Rattle.records.specs.Serving.{LeafBounds, InnerBounds};
-ghost use Rattle.rows.specs.Rows.{withPart};
-ghost use Rattle.type_alignment.specs.TypeAlignment.{leafAlignment, baseAlignment, membersAlignment, alignmentOf};
-ghost use Rattle.type_alignment.specs.Serving.{alignedResult};
-ghost use Rattle.type_layout.specs.TypeLayout.{sizedLayout, layoutOf};
-ghost use Rattle.type_layout.specs.Serving.{laidResult};
+ghost use Rattle.ir_records.specs.Serving.{LeafBounds, InnerBounds};
+ghost use Rattle.ir_rows.specs.Rows.{withPart};
+ghost use Rattle.proc_type_alignment.specs.TypeAlignment.{leafAlignment, baseAlignment, membersAlignment, alignmentOf};
+ghost use Rattle.proc_type_alignment.specs.Serving.{alignedResult};
+ghost use Rattle.proc_type_layout.specs.TypeLayout.{sizedLayout, layoutOf};
+ghost use Rattle.proc_type_layout.specs.Serving.{laidResult};
 ghost use Rattle.place_short_layout.specs.ShortRows.{shortWidth, shortWord, threeWords, shortLayouts};
 
 pub const SHORT_WORDS: usize = 3;
@@ -23,7 +23,7 @@ pub const SHORT_WORDS: usize = 3;
 pub fn short_word(words: &[u32], k: u32, j: u32) -> u32
     ensures { λ r. ⌜ r ≡ shortWord (now (words .entry)) k j ⌝ }
 {
-    records::word_at(words, (k as usize) * SHORT_WORDS + (j as usize))
+    ir_records::word_at(words, (k as usize) * SHORT_WORDS + (j as usize))
 }
 
 // Writes the three words of type i.
@@ -43,17 +43,17 @@ fn leaf_alignment(leaf: Leaf) -> Aligned
     ensures { λ r. ⌜ alignedResult r ≡ leafAlignment leaf ⌝ }
 {
     match leaf {
-        Leaf::Scalar(_, width) => type_alignment::leaf_alignment(1, width),
+        Leaf::Scalar(_, width) => proc_type_alignment::leaf_alignment(1, width),
         Leaf::Vector(size, _, width) => {
-            type_alignment::leaf_alignment(alignment::vector_alignment(size), width)
+            proc_type_alignment::leaf_alignment(proc_alignment::vector_alignment(size), width)
         }
         Leaf::Matrix(_, rows, _, width) => {
-            type_alignment::leaf_alignment(alignment::vector_alignment(rows), width)
+            proc_type_alignment::leaf_alignment(proc_alignment::vector_alignment(rows), width)
         }
         Leaf::CooperativeMatrix(_, rows, _, width, _) => {
-            type_alignment::leaf_alignment(rows, width)
+            proc_type_alignment::leaf_alignment(rows, width)
         }
-        Leaf::Atomic(_, width) => type_alignment::leaf_alignment(1, width),
+        Leaf::Atomic(_, width) => proc_type_alignment::leaf_alignment(1, width),
         Leaf::RayQuery(_) => Aligned::To(1),
     }
 }
@@ -78,14 +78,14 @@ fn members_alignment(words: &[u32], i: u32, part: &[u32], count: u32) -> Aligned
     let mut a: u32 = 1;
     let mut j: u32 = 0;
     while j < count {
-        let ty = records::member_type(part, j);
+        let ty = ir_records::member_type(part, j);
         if i <= ty {
             return Aligned::Refused {
                 number: 6,
                 member: j,
             };
         }
-        a = alignment::larger(a, short_word(words, ty, 1));
+        a = proc_alignment::larger(a, short_word(words, ty, 1));
         j += 1;
     }
     Aligned::To(a)
@@ -122,7 +122,7 @@ pub fn layout_of(words: &[u32], i: u32, inner: TypeInner, part: &[u32]) -> Laid
     requires { ⌜ InnerBounds inner ⌝ }
     ensures { λ r. ⌜ laidResult r ≡ layoutOf (shortLayouts (now (words .entry))) i inner (now (part .entry)) ⌝ }
 {
-    match type_methods::try_size(inner) {
+    match proc_type_methods::try_size(inner) {
         Size::Bytes(size) => with_alignment(size, alignment_of(words, i, inner, part)),
         Size::TooLarge => Laid::Refused {
             number: 4,

@@ -1,9 +1,9 @@
 // What is printed of the bytes of a file: a WGSL text or a SPIR-V module, read, judged and written out, or its refusal.
-use output::Buffer;
-use records::Outcome;
+use ir_records::Outcome;
+use program_output::Buffer;
 use sheet_lines::Form;
-use spirv::Section;
-use type_info::UniformRule;
+use spirv_read::Section;
+use valid_type_info::UniformRule;
 use wgsl_read::TextAt;
 ghost use mathlib.Core.Path.{_≡_};
 ghost use lib.ListN.{length};
@@ -57,7 +57,7 @@ fn answer_records(
     let mut rows = [0u32; 14336];
     sheet_names::from_text(text, types, &mut names);
     let rule = asked.rule;
-    match valid::judge(types, members, asked.capabilities, rule, &mut rows) {
+    match valid_arena::judge(types, members, asked.capabilities, rule, &mut rows) {
         Outcome::Accepted => put_sheet(asked, out, at, text, &names, types, members, &mut rows),
         Outcome::Refused {
             number,
@@ -87,8 +87,8 @@ fn answer_text(asked: Asked, out: &mut Buffer, at: usize, text: &[u8]) -> usize 
             types: t,
             members: m,
         } => {
-            let type_words = (t as usize) * records::TYPE_WORDS;
-            let member_words = (m as usize) * records::MEMBER_WORDS;
+            let type_words = (t as usize) * ir_records::TYPE_WORDS;
+            let member_words = (m as usize) * ir_records::MEMBER_WORDS;
             answer_records(
                 asked,
                 out,
@@ -123,7 +123,7 @@ fn answer_section(
     sheet_names::type_places(words, &mut places);
     sheet_names::from_module(words, bytes, types, &places, &mut names);
     let rule = asked.rule;
-    match valid::judge(types, members, asked.capabilities, rule, &mut rows) {
+    match valid_arena::judge(types, members, asked.capabilities, rule, &mut rows) {
         Outcome::Accepted => put_sheet(asked, out, at, bytes, &names, types, members, &mut rows),
         Outcome::Refused {
             number,
@@ -157,8 +157,8 @@ fn answer_words(asked: Asked, out: &mut Buffer, at: usize, bytes: &[u8], words: 
             types: t,
             members: m,
         } => {
-            let type_words = (t as usize) * records::TYPE_WORDS;
-            let member_words = (m as usize) * records::MEMBER_WORDS;
+            let type_words = (t as usize) * ir_records::TYPE_WORDS;
+            let member_words = (m as usize) * ir_records::MEMBER_WORDS;
             answer_section(
                 asked,
                 out,
@@ -203,7 +203,7 @@ fn no_words() -> [u32; 262144]
 fn answer_module(asked: Asked, out: &mut Buffer, at: usize, bytes: &[u8]) -> usize {
     let mut words = no_words();
     if bytes.len() % 4 != 0 {
-        file_input::tell(b"sheet: the module is no whole number of words\n");
+        program_files::tell(b"sheet: the module is no whole number of words\n");
         return at;
     }
     if words.len() < bytes.len() / 4 {
@@ -230,5 +230,5 @@ fn answer_into(asked: Asked, out: &mut Buffer, name: &[u8], bytes: &[u8]) {
     let form = asked.form;
     let at = sheet_structs::put_start(form, out, 0, name);
     let end = answer_bytes(asked, out, at, bytes);
-    output::flush(out, end);
+    program_output::flush(out, end);
 }

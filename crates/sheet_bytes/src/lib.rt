@@ -32,8 +32,8 @@ fn within(ty: u32, byte: u64) -> Inside {
 
 // Whether member j of a struct's rows holds a byte of the struct.
 fn holds(part: &[u32], rows: &[u32], j: u32, byte: u64) -> bool {
-    let offset = records::member_offset(part, j) as u64;
-    let size = sheet_verdicts::row_word(rows, records::member_type(part, j), 0) as u64;
+    let offset = ir_records::member_offset(part, j) as u64;
+    let size = sheet_verdicts::row_word(rows, ir_records::member_type(part, j), 0) as u64;
     (offset <= byte) & (byte < offset + size)
 }
 
@@ -51,31 +51,31 @@ fn holder_in(part: &[u32], rows: &[u32], count: u32, byte: u64) -> u32 {
 
 // The member of struct i that holds a byte; the number of its members where none does.
 pub fn holder(types: &[u32], members: &[u32], rows: &[u32], i: u32, byte: u64) -> u32 {
-    let part = records::struct_members(types, members, i);
-    holder_in(part, rows, records::type_word(types, i, 2), byte)
+    let part = ir_records::struct_members(types, members, i);
+    holder_in(part, rows, ir_records::type_word(types, i, 2), byte)
 }
 
 fn in_struct(types: &[u32], members: &[u32], rows: &[u32], t: u32, byte: u64) -> Inside {
-    let part = records::struct_members(types, members, t);
-    let count = records::type_word(types, t, 2);
+    let part = ir_records::struct_members(types, members, t);
+    let count = ir_records::type_word(types, t, 2);
     let j = holder_in(part, rows, count, byte);
     if j == count {
         return leaf(false);
     }
-    let offset = records::member_offset(part, j) as u64;
+    let offset = ir_records::member_offset(part, j) as u64;
     within(
-        records::member_type(part, j),
+        ir_records::member_type(part, j),
         sheet_output::gap(offset, byte),
     )
 }
 
 // The byte as one of an element.
 fn in_array(types: &[u32], t: u32, byte: u64) -> Inside {
-    let stride = records::type_word(types, t, 4) as u64;
+    let stride = ir_records::type_word(types, t, 4) as u64;
     if stride == 0 {
         return leaf(false);
     }
-    within(records::type_word(types, t, 1), byte % stride)
+    within(ir_records::type_word(types, t, 1), byte % stride)
 }
 
 // The bytes of a column of 2, 3 or 4 rows.
@@ -95,13 +95,13 @@ fn in_matrix(types: &[u32], t: u32, byte: u64) -> Inside {
     if step == 0 {
         return leaf(false);
     }
-    let rows = records::type_word(types, t, 2);
-    let width = records::type_word(types, t, 4) as u64;
+    let rows = ir_records::type_word(types, t, 2);
+    let width = ir_records::type_word(types, t, 4) as u64;
     leaf(byte % step < column_bytes(rows, width))
 }
 
 fn step(types: &[u32], members: &[u32], rows: &[u32], t: u32, byte: u64) -> Inside {
-    match records::type_word(types, t, 0) {
+    match ir_records::type_word(types, t, 0) {
         2 => in_matrix(types, t, byte),
         7 => in_array(types, t, byte),
         8 => in_struct(types, members, rows, t, byte),

@@ -1,5 +1,5 @@
 // A C header of the sheet: a struct each, with padding, and an assertion for every offset and size.
-use output::Buffer;
+use program_output::Buffer;
 use sheet_dimensions::Dimensions;
 
 // The type of a scalar. A host has no f16: its bits are an uint16_t.
@@ -10,16 +10,16 @@ fn put_scalar(out: &mut Buffer, at: usize, kind: u32, width: u32) -> usize {
         1 => sheet_output::put_with(out, at, b"uint", bits, b"_t"),
         _ => {
             match width {
-                2 => output::put_text(out, at, b"uint16_t"),
-                4 => output::put_text(out, at, b"float"),
-                _ => output::put_text(out, at, b"double"),
+                2 => program_output::put_text(out, at, b"uint16_t"),
+                4 => program_output::put_text(out, at, b"float"),
+                _ => program_output::put_text(out, at, b"double"),
             }
         }
     }
 }
 
 pub fn put_start(out: &mut Buffer, at: usize) -> usize {
-    output::put_text(
+    program_output::put_text(
         out,
         at,
         b"/* Made by sheet. The assertions hold where the host's structs are those of the kernel. */
@@ -32,25 +32,25 @@ pub fn put_start(out: &mut Buffer, at: usize) -> usize {
 
 // The name of struct i, with `struct ` before it.
 fn put_tag(out: &mut Buffer, at: usize, text: &[u8], names: &[usize], i: u32) -> usize {
-    let end = output::put_text(out, at, b"struct ");
+    let end = program_output::put_text(out, at, b"struct ");
     sheet_identifiers::put_type(out, end, text, names, i)
 }
 
 pub fn put_open(out: &mut Buffer, at: usize, text: &[u8], names: &[usize], i: u32) -> usize {
-    let a = output::put_byte(out, at, b'\n');
+    let a = program_output::put_byte(out, at, b'\n');
     let b = put_tag(out, a, text, names, i);
-    output::put_text(out, b, b" {\n")
+    program_output::put_text(out, b, b" {\n")
 }
 
 pub fn put_close(out: &mut Buffer, at: usize) -> usize {
-    output::put_text(out, at, b"};\n")
+    program_output::put_text(out, at, b"};\n")
 }
 
 // A struct that has no form for a host.
 pub fn put_none(out: &mut Buffer, at: usize, text: &[u8], names: &[usize], i: u32) -> usize {
-    let a = output::put_text(out, at, b"\n/* ");
+    let a = program_output::put_text(out, at, b"\n/* ");
     let b = put_tag(out, a, text, names, i);
-    output::put_text(
+    program_output::put_text(
         out,
         b,
         b" has no form here: it is not host-shareable, or its storage verdict is not ok. */\n",
@@ -71,7 +71,7 @@ fn put_base(
     types: &[u32],
     t: u32,
 ) -> usize {
-    if records::type_word(types, t, 0) == records::STRUCT_KIND {
+    if ir_records::type_word(types, t, 0) == ir_records::STRUCT_KIND {
         return put_tag(out, at, text, names, t);
     }
     let kind = sheet_dimensions::kind_of(types, t);
@@ -85,9 +85,9 @@ fn put_dimension(out: &mut Buffer, at: usize, n: u64, alone: bool) -> usize {
         return sheet_output::put_with(out, at, b"[", n, b"]");
     }
     if alone {
-        return output::put_text(out, at, b"[1]");
+        return program_output::put_text(out, at, b"[1]");
     }
-    output::put_text(out, at, b"[]")
+    program_output::put_text(out, at, b"[]")
 }
 
 fn put_dimensions(out: &mut Buffer, at: usize, list: &[u64], count: usize, alone: bool) -> usize {
@@ -125,7 +125,7 @@ fn put_as_bytes(
     j: u32,
     size: u64,
 ) -> usize {
-    let a = output::put_text(out, at, b"uint8_t ");
+    let a = program_output::put_text(out, at, b"uint8_t ");
     let b = put_name(out, a, text, names, types, i, j);
     sheet_output::put_with(out, b, b"[", size, b"]")
 }
@@ -146,7 +146,7 @@ fn put_declared(
     match sheet_dimensions::of_type(types, rows, ty, &mut list) {
         Dimensions::Over { count, base } => {
             let a = put_base(out, at, text, names, types, base);
-            let b = output::put_byte(out, a, b' ');
+            let b = program_output::put_byte(out, a, b' ');
             let c = put_name(out, b, text, names, types, i, j);
             put_dimensions(out, c, &list, count, j == 0)
         }
@@ -170,11 +170,11 @@ pub fn put_member(
     ty: u32,
     offset: u32,
 ) -> usize {
-    let mut end = output::put_text(out, at, b"    ");
+    let mut end = program_output::put_text(out, at, b"    ");
     end = put_declared(out, end, text, names, types, rows, i, j, ty);
     end = sheet_output::put_with(out, end, b"; /* ", offset as u64, b": ");
     end = sheet_types::put_type(out, end, text, names, types, ty, false);
-    output::put_text(out, end, b" */\n")
+    program_output::put_text(out, end, b" */\n")
 }
 
 // The assertion of a member's offset.
@@ -188,16 +188,16 @@ pub fn put_offset(
     j: u32,
     offset: u32,
 ) -> usize {
-    let mut end = output::put_text(out, at, b"_Static_assert(offsetof(");
+    let mut end = program_output::put_text(out, at, b"_Static_assert(offsetof(");
     end = put_tag(out, end, text, names, i);
-    end = output::put_text(out, end, b", ");
+    end = program_output::put_text(out, end, b", ");
     end = put_name(out, end, text, names, types, i, j);
     sheet_output::put_with(out, end, b") == ", offset as u64, b", \"offset\");\n")
 }
 
 // The assertion of the size.
 fn put_size(out: &mut Buffer, at: usize, text: &[u8], names: &[usize], i: u32, size: u64) -> usize {
-    let mut end = output::put_text(out, at, b"_Static_assert(sizeof(");
+    let mut end = program_output::put_text(out, at, b"_Static_assert(sizeof(");
     end = put_tag(out, end, text, names, i);
     sheet_output::put_with(out, end, b") == ", size, b", \"size\");\n")
 }
@@ -213,9 +213,9 @@ fn put_step(
     j: u32,
     step: u64,
 ) -> usize {
-    let mut end = output::put_text(out, at, b"_Static_assert(sizeof(((");
+    let mut end = program_output::put_text(out, at, b"_Static_assert(sizeof(((");
     end = put_tag(out, end, text, names, i);
-    end = output::put_text(out, end, b" *)0)->");
+    end = program_output::put_text(out, end, b" *)0)->");
     end = put_name(out, end, text, names, types, i, j);
     sheet_output::put_with(out, end, b"[0]) == ", step, b", \"step\");\n")
 }
@@ -234,7 +234,7 @@ pub fn put_end(
 ) -> usize {
     let runtime = sheet_dimensions::is_runtime(types, ty);
     if runtime & (0 < last) {
-        let step = records::type_word(types, ty, 4) as u64;
+        let step = ir_records::type_word(types, ty, 4) as u64;
         return put_step(out, at, text, names, types, i, last, step);
     }
     let size = sheet_verdicts::row_word(rows, i, 0) as u64;

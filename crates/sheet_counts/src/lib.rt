@@ -1,8 +1,8 @@
 // The bytes carried and wasted of each struct, and the slots of those that may be immediates, in one lent table: two words a type for the
 // bytes, as the report leaves them, then two words a type for the slots, touched and covered only in part.
-use output::Buffer;
-use slots::SlotsAnswer;
-use type_info::UniformRule;
+use immediates_ranges::SlotsAnswer;
+use program_output::Buffer;
+use valid_type_info::UniformRule;
 
 const MOST_TYPES: u32 = 1024;
 
@@ -53,9 +53,9 @@ fn put_answer(counts: &mut [u64], i: u32, answer: SlotsAnswer) {
 
 // Whether the slots of type i are asked for: of a struct that may be an immediate and is no longer than these are.
 fn is_asked(types: &[u32], rows: &[u32], i: u32) -> bool {
-    let kind = records::type_word(types, i, 0);
+    let kind = ir_records::type_word(types, i, 0);
     let size = sheet_verdicts::row_word(rows, i, 0);
-    (kind == records::STRUCT_KIND)
+    (kind == ir_records::STRUCT_KIND)
         & (size <= MOST_IMMEDIATE)
         & sheet_verdicts::may_be_immediate(rows, i)
 }
@@ -72,7 +72,7 @@ fn put_slots_of(
     if !is_asked(types, rows, i) {
         return;
     }
-    let answer = immediates::immediate_slots(types, members, capabilities, rule, rows, i, 0);
+    let answer = immediates_slots::immediate_slots(types, members, capabilities, rule, rows, i, 0);
     put_answer(counts, i, answer);
 }
 
@@ -85,7 +85,7 @@ pub fn fill(
     rows: &mut [u32],
     counts: &mut [u64],
 ) {
-    report::report(types, members, capabilities, rule, rows, counts);
+    place_report::report(types, members, capabilities, rule, rows, counts);
     let mut i: u32 = 0;
     while i < MOST_TYPES {
         put_slots_of(types, members, capabilities, rule, rows, counts, i);
@@ -111,12 +111,12 @@ pub fn is_counted(rows: &[u32], counts: &[u64], i: u32) -> bool {
 // Why a struct has no slots: it is not host-shareable, has no fixed size or has 16-bit scalars.
 fn put_no_slots(out: &mut Buffer, at: usize, rows: &[u32], i: u32) -> usize {
     if !sheet_verdicts::is_shareable(rows, i) {
-        return output::put_text(out, at, b"no, the struct is not host-shareable");
+        return program_output::put_text(out, at, b"no, the struct is not host-shareable");
     }
     if !sheet_verdicts::is_sized(rows, i) {
-        return output::put_text(out, at, b"no, the struct is runtime-sized");
+        return program_output::put_text(out, at, b"no, the struct is runtime-sized");
     }
-    output::put_text(out, at, b"no, a member has 16-bit scalars")
+    program_output::put_text(out, at, b"no, a member has 16-bit scalars")
 }
 
 // The slots of struct i in words, or why there are none.
@@ -125,7 +125,7 @@ pub fn put_slots(out: &mut Buffer, at: usize, rows: &[u32], counts: &[u64], i: u
         return put_no_slots(out, at, rows, i);
     }
     if MOST_IMMEDIATE < sheet_verdicts::row_word(rows, i, 0) {
-        return output::put_text(out, at, b"no, the struct ends past byte 256");
+        return program_output::put_text(out, at, b"no, the struct ends past byte 256");
     }
     let place = SLOTS_AT + (i as usize) * 2;
     sheet_verdicts::put_slots(

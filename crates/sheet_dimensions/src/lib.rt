@@ -38,7 +38,7 @@ fn over(list: &[u64], count: usize, base: u32, fits: bool) -> Dimensions {
 
 // The scalar of a type that is neither array nor struct: its kind, and its width in bytes.
 pub fn kind_of(types: &[u32], t: u32) -> u32 {
-    let w = records::record_words(types, t);
+    let w = ir_records::record_words(types, t);
     let kind = w.kind;
     match kind {
         0 => w.a,
@@ -50,7 +50,7 @@ pub fn kind_of(types: &[u32], t: u32) -> u32 {
 }
 
 pub fn width_of(types: &[u32], t: u32) -> u32 {
-    let w = records::record_words(types, t);
+    let w = ir_records::record_words(types, t);
     let kind = w.kind;
     match kind {
         0 => w.b,
@@ -67,15 +67,15 @@ fn bytes_of(types: &[u32], t: u32) -> u64 {
 
 // Whether a type is a runtime-sized array.
 pub fn is_runtime(types: &[u32], t: u32) -> bool {
-    let kind = records::type_word(types, t, 0);
-    let form = records::type_word(types, t, 2);
-    (kind == records::ARRAY_KIND) & (form == 1)
+    let kind = ir_records::type_word(types, t, 0);
+    let form = ir_records::type_word(types, t, 2);
+    (kind == ir_records::ARRAY_KIND) & (form == 1)
 }
 
 // A matrix by itself: its columns, and the scalars of a column step. In an array, a step apart: the columns of a step.
 fn matrix_in(types: &[u32], t: u32, step: u64, list: &mut [u64], count: usize) -> Dimensions {
     let column = sheet_types::column_step(types, t);
-    let mut columns = records::type_word(types, t, 1) as u64;
+    let mut columns = ir_records::type_word(types, t, 1) as u64;
     if step != 0 {
         columns = divided(step, column);
     }
@@ -86,7 +86,7 @@ fn matrix_in(types: &[u32], t: u32, step: u64, list: &mut [u64], count: usize) -
 }
 
 fn vector_in(types: &[u32], t: u32, step: u64, list: &mut [u64], count: usize) -> Dimensions {
-    let mut scalars = records::type_word(types, t, 1) as u64;
+    let mut scalars = ir_records::type_word(types, t, 1) as u64;
     if step != 0 {
         scalars = divided(step, bytes_of(types, t));
     }
@@ -113,7 +113,7 @@ fn base_in(
     list: &mut [u64],
     count: usize,
 ) -> Dimensions {
-    let kind = records::type_word(types, t, 0);
+    let kind = ir_records::type_word(types, t, 0);
     match kind {
         0 => scalar_in(types, t, step, list, count),
         1 => vector_in(types, t, step, list, count),
@@ -130,9 +130,9 @@ fn base_in(
 // The dimension of an array: its count, 0 for a runtime-sized one; inside another, as many of its steps as the outer one has.
 fn array_dimension(types: &[u32], t: u32, step: u64) -> u64 {
     if step == 0 {
-        return records::type_word(types, t, 3) as u64;
+        return ir_records::type_word(types, t, 3) as u64;
     }
-    divided(step, records::type_word(types, t, 4) as u64)
+    divided(step, ir_records::type_word(types, t, 4) as u64)
 }
 
 // The dimensions of a type, in a lent list.
@@ -142,7 +142,7 @@ pub fn of_type(types: &[u32], rows: &[u32], ty: u32, list: &mut [u64]) -> Dimens
     let mut count: usize = 0;
     let mut k: u32 = 0;
     while k < MOST_DEPTH {
-        if records::type_word(types, t, 0) != records::ARRAY_KIND {
+        if ir_records::type_word(types, t, 0) != ir_records::ARRAY_KIND {
             return base_in(types, rows, t, step, list, count);
         }
         let n = array_dimension(types, t, step);
@@ -150,11 +150,11 @@ pub fn of_type(types: &[u32], rows: &[u32], ty: u32, list: &mut [u64]) -> Dimens
             return Dimensions::Bytes;
         }
         count = put(list, count, n);
-        step = records::type_word(types, t, 4) as u64;
+        step = ir_records::type_word(types, t, 4) as u64;
         if step == 0 {
             return Dimensions::Bytes;
         }
-        t = records::type_word(types, t, 1);
+        t = ir_records::type_word(types, t, 1);
         k += 1;
     }
     Dimensions::Bytes

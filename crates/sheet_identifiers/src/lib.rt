@@ -1,5 +1,5 @@
 // Names as identifiers that C and Rust both take. What is no identifier, or stands there already, goes by its number.
-use output::Buffer;
+use program_output::Buffer;
 
 fn is_digit(c: u8) -> bool {
     (b'0' <= c) & (c <= b'9')
@@ -106,9 +106,9 @@ fn put_identifier(out: &mut Buffer, at: usize, name: &[u8]) -> usize {
     let made = is_numbered(stem, b"unused_at_")
         | is_numbered(stem, b"type_")
         | is_numbered(stem, b"member_");
-    let end = output::put_text(out, at, name);
+    let end = program_output::put_text(out, at, name);
     if made | is_kept(stem) {
-        return output::put_byte(out, end, b'_');
+        return program_output::put_byte(out, end, b'_');
     }
     end
 }

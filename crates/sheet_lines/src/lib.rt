@@ -1,5 +1,5 @@
 // The members of a struct and the gaps between them, line by line, in one of four forms.
-use output::Buffer;
+use program_output::Buffer;
 
 pub enum Form {
     Text,
@@ -38,7 +38,13 @@ fn put_gap_before(
     j: u32,
     end: u64,
 ) -> usize {
-    put_gap(form, out, at, end, records::member_offset(part, j) as u64)
+    put_gap(
+        form,
+        out,
+        at,
+        end,
+        ir_records::member_offset(part, j) as u64,
+    )
 }
 
 // The line of member j.
@@ -55,8 +61,8 @@ fn put_line(
     j: u32,
     width: usize,
 ) -> usize {
-    let ty = records::member_type(part, j);
-    let offset = records::member_offset(part, j);
+    let ty = ir_records::member_type(part, j);
+    let offset = ir_records::member_offset(part, j);
     match form {
         Form::Text => sheet_table::put_member(
             out,
@@ -79,14 +85,14 @@ fn put_line(
 
 // Where member j ends, or an earlier end that lies further on.
 fn furthest(part: &[u32], rows: &[u32], j: u32, before: u64) -> u64 {
-    let offset = records::member_offset(part, j) as u64;
-    let size = sheet_verdicts::row_word(rows, records::member_type(part, j), 0) as u64;
+    let offset = ir_records::member_offset(part, j) as u64;
+    let size = sheet_verdicts::row_word(rows, ir_records::member_type(part, j), 0) as u64;
     let end = offset + size;
     if before < end { end } else { before }
 }
 
 pub fn last_member(types: &[u32], i: u32) -> u32 {
-    let count = records::type_word(types, i, 2);
+    let count = ir_records::type_word(types, i, 2);
     if count == 0 { 0 } else { count - 1 }
 }
 
@@ -94,7 +100,7 @@ pub fn last_member(types: &[u32], i: u32) -> u32 {
 fn last_byte(form: Form, types: &[u32], part: &[u32], rows: &[u32], i: u32) -> u64 {
     let size = sheet_verdicts::row_word(rows, i, 0) as u64;
     let last = last_member(types, i);
-    let runtime = sheet_dimensions::is_runtime(types, records::member_type(part, last));
+    let runtime = sheet_dimensions::is_runtime(types, ir_records::member_type(part, last));
     match form {
         Form::Text => size,
         Form::C => {
@@ -121,7 +127,7 @@ pub fn put_lines(
     i: u32,
     width: usize,
 ) -> usize {
-    let count = records::type_word(types, i, 2);
+    let count = ir_records::type_word(types, i, 2);
     let mut end = at;
     let mut before: u64 = 0;
     let mut j: u32 = 0;
@@ -169,11 +175,11 @@ pub fn put_offsets(
     part: &[u32],
     i: u32,
 ) -> usize {
-    let count = records::type_word(types, i, 2);
+    let count = ir_records::type_word(types, i, 2);
     let mut end = at;
     let mut j: u32 = 0;
     while j < count {
-        let offset = records::member_offset(part, j);
+        let offset = ir_records::member_offset(part, j);
         end = put_offset(what, out, end, text, names, types, i, j, offset);
         j += 1;
     }

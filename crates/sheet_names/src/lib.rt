@@ -41,7 +41,7 @@ pub fn member_entry(row: usize) -> usize {
 
 // The row of member j of struct i.
 pub fn member_row(types: &[u32], i: u32, j: u32) -> usize {
-    let first = records::type_word(types, i, 1);
+    let first = ir_records::type_word(types, i, 1);
     (first as usize) + (j as usize)
 }
 
@@ -85,7 +85,7 @@ fn put_entry(names: &mut [usize], entry: usize, start: usize, end: usize) {
 fn struct_from(types: &[u32], from: u32) -> u32 {
     let mut i = from;
     while i < MOST_TYPES {
-        if records::type_word(types, i, 0) == records::STRUCT_KIND {
+        if ir_records::type_word(types, i, 0) == ir_records::STRUCT_KIND {
             return i;
         }
         i += 1;
@@ -210,11 +210,11 @@ pub fn type_places(words: &[u32], places: &mut [usize]) {
 
 // The word after the one at `at`, and the next but one; 0 past the words.
 fn word_after(words: &[u32], at: usize) -> u32 {
-    records::word_at(words, std::num::wrapping_add_usize(at, 1))
+    ir_records::word_at(words, std::num::wrapping_add_usize(at, 1))
 }
 
 fn second_after(words: &[u32], at: usize) -> u32 {
-    records::word_at(words, std::num::wrapping_add_usize(at, 2))
+    ir_records::word_at(words, std::num::wrapping_add_usize(at, 2))
 }
 
 // The type that an id names; 1,024 for none.
@@ -278,9 +278,9 @@ fn name_type(
 
 // The entry of a member of a type; past the table where it has no such member.
 fn entry_of(types: &[u32], i: u32, j: u32) -> usize {
-    let kind = records::type_word(types, i, 0);
-    let count = records::type_word(types, i, 2);
-    if (kind == records::STRUCT_KIND) & (j < count) {
+    let kind = ir_records::type_word(types, i, 0);
+    let count = ir_records::type_word(types, i, 2);
+    if (kind == ir_records::STRUCT_KIND) & (j < count) {
         return member_entry(member_row(types, i, j));
     }
     WORDS

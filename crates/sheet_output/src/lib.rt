@@ -1,5 +1,5 @@
 // What every form of the sheet is made of: texts and numbers in the buffer of the answers.
-use output::Buffer;
+use program_output::Buffer;
 ghost use mathlib.Core.Path.{_≡_};
 ghost use Prim.Native.Nat.{_-_};
 
@@ -21,21 +21,21 @@ pub fn gap(end: u64, start: u64) -> u64
 pub fn put_number(out: &mut Buffer, at: usize, n: u64) -> usize {
     let mut digits = [0u8; 20];
     let k = io::decimal(n, &mut digits);
-    output::put_text(out, at, &digits[..k])
+    program_output::put_text(out, at, &digits[..k])
 }
 
 // A number between two texts.
 pub fn put_with(out: &mut Buffer, at: usize, before: &[u8], n: u64, after: &[u8]) -> usize {
-    let a = output::put_text(out, at, before);
+    let a = program_output::put_text(out, at, before);
     let b = put_number(out, a, n);
-    output::put_text(out, b, after)
+    program_output::put_text(out, b, after)
 }
 
 pub fn put_blanks(out: &mut Buffer, at: usize, n: usize) -> usize {
     let mut end = at;
     let mut i = 0;
     while i < n {
-        end = output::put_byte(out, end, b' ');
+        end = program_output::put_byte(out, end, b' ');
         i += 1;
     }
     end
@@ -46,19 +46,19 @@ pub fn put_right(out: &mut Buffer, at: usize, width: usize, n: u64) -> usize {
     let mut digits = [0u8; 20];
     let k = io::decimal(n, &mut digits);
     let end = put_blanks(out, at, missing(k, width));
-    output::put_text(out, end, &digits[..k])
+    program_output::put_text(out, end, &digits[..k])
 }
 
 // `<` or `>`, which a page writes in another way.
 pub fn put_mark(out: &mut Buffer, at: usize, mark: u8, page: bool) -> usize {
     if !page {
-        return output::put_byte(out, at, mark);
+        return program_output::put_byte(out, at, mark);
     }
     match mark {
-        b'<' => output::put_text(out, at, b"&lt;"),
-        b'>' => output::put_text(out, at, b"&gt;"),
-        b'&' => output::put_text(out, at, b"&amp;"),
-        _ => output::put_byte(out, at, mark),
+        b'<' => program_output::put_text(out, at, b"&lt;"),
+        b'>' => program_output::put_text(out, at, b"&gt;"),
+        b'&' => program_output::put_text(out, at, b"&amp;"),
+        _ => program_output::put_byte(out, at, mark),
     }
 }
 

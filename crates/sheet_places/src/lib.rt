@@ -1,5 +1,5 @@
 // Where a module is refused: the instruction, found by reading the words before it.
-use spirv::Section;
+use spirv_read::Section;
 ghost use Prim.Native.Nat.{_<_};
 
 // Where the instruction with number k stands; past the words where there are fewer.

@@ -1,9 +1,9 @@
 // The program `sheet`: its arguments, the files that they name, and what is printed of each.
-use file_input::Held;
+use program_files::Held;
+use program_words::Number;
 use sheet_answers::Asked;
 use sheet_lines::Form;
-use type_info::UniformRule;
-use words::Number;
+use valid_type_info::UniformRule;
 ghost use mathlib.Core.Path.{_≡_};
 ghost use lib.ListN.{length};
 
@@ -46,14 +46,14 @@ fn answer_held(asked: Asked, name: &[u8], bytes: &[u8], held: Held) {
                 sheet_answers::answer(asked, name, &bytes[0..n]);
             }
         }
-        Held::Long => file_input::tell(b"sheet: the input is longer than 1048576 bytes\n"),
-        Held::Failed => file_input::tell(b"sheet: the input cannot be read\n"),
+        Held::Long => program_files::tell(b"sheet: the input is longer than 1048576 bytes\n"),
+        Held::Failed => program_files::tell(b"sheet: the input cannot be read\n"),
     }
 }
 
 fn answer_open(asked: Asked, name: &[u8], fd: i32) {
     let mut bytes = no_bytes();
-    let held = file_input::read_all(fd, &mut bytes);
+    let held = program_files::read_all(fd, &mut bytes);
     answer_held(asked, name, &bytes, held);
 }
 
@@ -71,9 +71,9 @@ fn asked_by(o: Options) -> Asked {
 fn answer_file(options: Options, name: &[u8]) {
     let fd = os::open_read(name);
     if fd < 0 {
-        file_input::tell(b"sheet: ");
-        file_input::tell(name);
-        file_input::tell(b": the file cannot be opened\n");
+        program_files::tell(b"sheet: ");
+        program_files::tell(name);
+        program_files::tell(b": the file cannot be opened\n");
         return;
     }
     answer_open(asked_by(options), name, fd);
@@ -184,7 +184,7 @@ fn rule_step(o: Options, i: usize) -> Options {
     if wgsl_names::same(&word[..n], b"newer") {
         return with(o, form, UniformRule::Newer, o.capabilities, 2);
     }
-    file_input::tell(b"sheet: --rule takes older or newer\n");
+    program_files::tell(b"sheet: --rule takes older or newer\n");
     stop(o)
 }
 
@@ -194,23 +194,23 @@ fn capabilities_step(o: Options, i: usize) -> Options {
     let n = os::arg(i, &mut word);
     let form = o.form;
     let rule = o.rule;
-    match words::number_of(&word[..n]) {
+    match program_words::number_of(&word[..n]) {
         Number::Value(capabilities) => with(o, form, rule, capabilities, 2),
         Number::TooLarge => {
-            file_input::tell(b"sheet: --capabilities takes a number of at most 4294967295\n");
+            program_files::tell(b"sheet: --capabilities takes a number of at most 4294967295\n");
             stop(o)
         }
         Number::NotANumber => {
-            file_input::tell(b"sheet: --capabilities takes a decimal number\n");
+            program_files::tell(b"sheet: --capabilities takes a decimal number\n");
             stop(o)
         }
     }
 }
 
 fn tell_unknown(word: &[u8]) {
-    file_input::tell(b"sheet: ");
-    file_input::tell(word);
-    file_input::tell(b": no such option; see --help\n");
+    program_files::tell(b"sheet: ");
+    program_files::tell(word);
+    program_files::tell(b": no such option; see --help\n");
 }
 
 // One argument, and the one after it where an option takes that.
@@ -243,7 +243,7 @@ fn finish(o: Options) -> Options {
         return stop(o);
     }
     if o.open {
-        file_input::tell(
+        program_files::tell(
             b"sheet: an option stands after the last file; options hold for the files after them\n",
         );
     }

@@ -1,5 +1,5 @@
 // A refusal in words: its number, what that means, and where it stands.
-use output::Buffer;
+use program_output::Buffer;
 use wgsl_grammar::Refusal;
 
 const MOST_TYPES: u32 = 1024;
@@ -9,7 +9,7 @@ const MOST_MEMBERS: u32 = 4096;
 // A refusal of a text.
 pub fn put_text(out: &mut Buffer, at: usize, text: &[u8], refusal: Refusal) -> usize {
     let a = sheet_meanings::put_number(out, at, refusal.number);
-    let b = output::put_text(out, a, b"  ");
+    let b = program_output::put_text(out, a, b"  ");
     wgsl_messages::put_message(out, b, text, refusal)
 }
 
@@ -17,9 +17,9 @@ pub fn put_text(out: &mut Buffer, at: usize, text: &[u8], refusal: Refusal) -> u
 fn put_word(out: &mut Buffer, at: usize, words: &[u32], place: usize) -> usize {
     let end = sheet_output::put_with(out, at, b"word ", place as u64, b", ");
     if place < spirv_words::HEADER_WORDS {
-        return output::put_text(out, end, b"the header\n");
+        return program_output::put_text(out, end, b"the header\n");
     }
-    sheet_meanings::put_instruction(out, end, records::word_at(words, place) % 65536)
+    sheet_meanings::put_instruction(out, end, ir_records::word_at(words, place) % 65536)
 }
 
 // A refusal of a module.
@@ -32,7 +32,7 @@ pub fn put_module(
     number: u32,
 ) -> usize {
     let a = sheet_meanings::put_number(out, at, number);
-    let b = output::put_text(out, a, b"  ");
+    let b = program_output::put_text(out, a, b"  ");
     if sheet_places::is_refused(sheet_places::before(words, 0), types, members) {
         return put_word(out, b, words, 0);
     }
@@ -48,7 +48,7 @@ pub fn put_module(
 fn row_of(members: &[u32], ty: u32) -> u32 {
     let mut r: u32 = 0;
     while r < MOST_MEMBERS {
-        if ty <= records::member_type(members, r) {
+        if ty <= ir_records::member_type(members, r) {
             return r;
         }
         r += 1;
@@ -58,11 +58,11 @@ fn row_of(members: &[u32], ty: u32) -> u32 {
 
 // Whether a member row is one of struct i.
 fn has_row(types: &[u32], i: u32, row: u32) -> bool {
-    let kind = records::type_word(types, i, 0);
-    let first = records::type_word(types, i, 1);
-    let count = records::type_word(types, i, 2) as u64;
+    let kind = ir_records::type_word(types, i, 0);
+    let first = ir_records::type_word(types, i, 1);
+    let count = ir_records::type_word(types, i, 2) as u64;
     let end = (first as u64) + count;
-    (kind == records::STRUCT_KIND) & (first <= row) & ((row as u64) < end)
+    (kind == ir_records::STRUCT_KIND) & (first <= row) & ((row as u64) < end)
 }
 
 // The struct that a member row belongs to; 1,024 for none.
@@ -88,13 +88,13 @@ fn put_place(
     j: u32,
     meant: bool,
 ) -> usize {
-    let mut end = output::put_text(out, at, b"  struct ");
+    let mut end = program_output::put_text(out, at, b"  struct ");
     end = sheet_types::put_struct_name(out, end, text, names, i, false);
     let mut entry = sheet_names::type_entry(i);
     if meant {
         end = sheet_output::put_with(out, end, b", member ", j as u64, b" (");
         end = sheet_types::put_member_name(out, end, text, names, types, i, j, false);
-        end = output::put_byte(out, end, b')');
+        end = program_output::put_byte(out, end, b')');
         entry = sheet_names::member_entry(sheet_names::member_row(types, i, j));
     }
     put_position(out, end, text, sheet_names::start_of(names, entry))
@@ -123,7 +123,7 @@ fn put_in_text(
     ty: u32,
     member: u32,
 ) -> usize {
-    if records::type_word(types, ty, 0) == records::STRUCT_KIND {
+    if ir_records::type_word(types, ty, 0) == ir_records::STRUCT_KIND {
         return put_place(
             out,
             at,
@@ -137,7 +137,7 @@ fn put_in_text(
     }
     let row = row_of(members, ty);
     let i = struct_of(types, row);
-    let first = records::type_word(types, i, 1);
+    let first = ir_records::type_word(types, i, 1);
     let j = sheet_output::gap(first as u64, row as u64) as u32;
     put_place(out, at, text, names, types, i, j, true)
 }
@@ -155,14 +155,14 @@ fn put_in_module(
     ty: u32,
     member: u32,
 ) -> usize {
-    let mut end = output::put_text(out, at, b"  ");
+    let mut end = program_output::put_text(out, at, b"  ");
     end = sheet_types::put_type(out, end, bytes, names, types, ty, false);
     if names_member(number) {
         end = sheet_output::put_with(out, end, b", member ", member as u64, b" (");
         end = sheet_types::put_member_name(out, end, bytes, names, types, ty, member, false);
-        end = output::put_byte(out, end, b')');
+        end = program_output::put_byte(out, end, b')');
     }
-    end = output::put_text(out, end, b", ");
+    end = program_output::put_text(out, end, b", ");
     put_word(out, end, words, place)
 }
 
@@ -170,7 +170,7 @@ fn put_in_module(
 fn put_arena_number(out: &mut Buffer, at: usize, number: u32, detail: u32) -> usize {
     let end = sheet_meanings::put_number(out, at, number);
     if number == 8 {
-        let next = output::put_text(out, end, b"  ");
+        let next = program_output::put_text(out, end, b"  ");
         return sheet_meanings::put_capability(out, next, detail);
     }
     end

@@ -1,5 +1,5 @@
 // The sheet as Rust: a struct each, its numbers as constants, and an assertion for every offset and size.
-use output::Buffer;
+use program_output::Buffer;
 use sheet_dimensions::Dimensions;
 
 // The type of a scalar. A host has no f16: its bits are a u16.
@@ -10,7 +10,7 @@ fn put_scalar(out: &mut Buffer, at: usize, kind: u32, width: u32) -> usize {
         1 => sheet_output::put_with(out, at, b"u", bits, b""),
         _ => {
             if width == 2 {
-                return output::put_text(out, at, b"u16");
+                return program_output::put_text(out, at, b"u16");
             }
             sheet_output::put_with(out, at, b"f", bits, b"")
         }
@@ -18,7 +18,7 @@ fn put_scalar(out: &mut Buffer, at: usize, kind: u32, width: u32) -> usize {
 }
 
 pub fn put_start(out: &mut Buffer, at: usize) -> usize {
-    output::put_text(
+    program_output::put_text(
         out,
         at,
         b"// Made by sheet. The assertions hold where the host's structs are those of the kernel.\n",
@@ -26,7 +26,7 @@ pub fn put_start(out: &mut Buffer, at: usize) -> usize {
 }
 
 pub fn put_open(out: &mut Buffer, at: usize, text: &[u8], names: &[usize], i: u32) -> usize {
-    let a = output::put_text(
+    let a = program_output::put_text(
         out,
         at,
         b"
@@ -36,14 +36,14 @@ pub fn put_open(out: &mut Buffer, at: usize, text: &[u8], names: &[usize], i: u3
 pub struct ",
     );
     let b = sheet_identifiers::put_type(out, a, text, names, i);
-    output::put_text(out, b, b" {\n")
+    program_output::put_text(out, b, b" {\n")
 }
 
 // A struct that has no form for a host.
 pub fn put_none(out: &mut Buffer, at: usize, text: &[u8], names: &[usize], i: u32) -> usize {
-    let a = output::put_text(out, at, b"\n// struct ");
+    let a = program_output::put_text(out, at, b"\n// struct ");
     let b = sheet_identifiers::put_type(out, a, text, names, i);
-    output::put_text(
+    program_output::put_text(
         out,
         b,
         b" has no form here: it is not host-shareable, or its storage verdict is not ok.\n",
@@ -63,7 +63,7 @@ fn put_base(
     types: &[u32],
     t: u32,
 ) -> usize {
-    if records::type_word(types, t, 0) == records::STRUCT_KIND {
+    if ir_records::type_word(types, t, 0) == ir_records::STRUCT_KIND {
         return sheet_identifiers::put_type(out, at, text, names, t);
     }
     let kind = sheet_dimensions::kind_of(types, t);
@@ -75,7 +75,7 @@ fn put_brackets(out: &mut Buffer, at: usize, count: usize) -> usize {
     let mut end = at;
     let mut k = 0;
     while k < count {
-        end = output::put_byte(out, end, b'[');
+        end = program_output::put_byte(out, end, b'[');
         k += 1;
     }
     end
@@ -147,19 +147,19 @@ pub fn put_member(
     ty: u32,
     offset: u32,
 ) -> usize {
-    let mut end = output::put_text(out, at, b"    pub ");
+    let mut end = program_output::put_text(out, at, b"    pub ");
     end = sheet_identifiers::put_member(out, end, text, names, types, i, j);
-    end = output::put_text(out, end, b": ");
+    end = program_output::put_text(out, end, b": ");
     end = put_type(out, end, text, names, types, rows, ty);
     end = sheet_output::put_with(out, end, b", // ", offset as u64, b": ");
     end = sheet_types::put_type(out, end, text, names, types, ty, false);
-    output::put_byte(out, end, b'\n')
+    program_output::put_byte(out, end, b'\n')
 }
 
 fn put_impl(out: &mut Buffer, at: usize, text: &[u8], names: &[usize], i: u32) -> usize {
-    let a = output::put_text(out, at, b"}\n#[allow(dead_code)]\nimpl ");
+    let a = program_output::put_text(out, at, b"}\n#[allow(dead_code)]\nimpl ");
     let b = sheet_identifiers::put_type(out, a, text, names, i);
-    output::put_text(out, b, b" {\n")
+    program_output::put_text(out, b, b" {\n")
 }
 
 // After the members: the numbers of the struct, up to its offsets.
@@ -175,7 +175,7 @@ pub fn put_numbers(
     let mut end = put_impl(out, at, text, names, i);
     let size = sheet_verdicts::row_word(rows, i, 0) as u64;
     let alignment = sheet_verdicts::row_word(rows, i, 1) as u64;
-    let count = records::type_word(types, i, 2) as u64;
+    let count = ir_records::type_word(types, i, 2) as u64;
     end = sheet_output::put_with(out, end, b"    pub const SIZE: usize = ", size, b";\n");
     end = sheet_output::put_with(
         out,
@@ -206,7 +206,7 @@ pub fn put_size(
     rows: &[u32],
     i: u32,
 ) -> usize {
-    let mut end = output::put_text(
+    let mut end = program_output::put_text(
         out,
         at,
         b"    ];\n}\nconst _: () = assert!(::core::mem::size_of::<",
@@ -227,9 +227,13 @@ pub fn put_assertion(
     j: u32,
     offset: u32,
 ) -> usize {
-    let mut end = output::put_text(out, at, b"const _: () = assert!(::core::mem::offset_of!(");
+    let mut end = program_output::put_text(
+        out,
+        at,
+        b"const _: () = assert!(::core::mem::offset_of!(",
+    );
     end = sheet_identifiers::put_type(out, end, text, names, i);
-    end = output::put_text(out, end, b", ");
+    end = program_output::put_text(out, end, b", ");
     end = sheet_identifiers::put_member(out, end, text, names, types, i, j);
     sheet_output::put_with(out, end, b") == ", offset as u64, b");\n")
 }

@@ -1,5 +1,5 @@
 // The structs of a sheet in the order of their records, in one of four forms.
-use output::Buffer;
+use program_output::Buffer;
 use sheet_lines::Form;
 
 const MOST_TYPES: u32 = 1024;
@@ -15,8 +15,8 @@ fn put_table(
     rows: &[u32],
     i: u32,
 ) -> usize {
-    let part = records::struct_members(types, members, i);
-    let width = sheet_table::name_width(text, names, types, i, records::type_word(types, i, 2));
+    let part = ir_records::struct_members(types, members, i);
+    let width = sheet_table::name_width(text, names, types, i, ir_records::type_word(types, i, 2));
     let mut end = sheet_table::put_table_head(out, at, width);
     end = sheet_lines::put_lines(
         Form::Text,
@@ -30,7 +30,7 @@ fn put_table(
         i,
         width,
     );
-    output::put_byte(out, end, b'\n')
+    program_output::put_byte(out, end, b'\n')
 }
 
 // The bytes of struct i, where they were counted.
@@ -67,9 +67,9 @@ fn put_text(
     let mut end = sheet_table::put_head(out, at, text, names, rows, i);
     end = sheet_table::put_verdicts(out, end, text, names, types, rows, i);
     end = put_bytes(out, end, rows, counts, i, false);
-    end = output::put_text(out, end, b"  immediates: ");
+    end = program_output::put_text(out, end, b"  immediates: ");
     end = sheet_counts::put_slots(out, end, rows, counts, i);
-    end = output::put_text(out, end, b"\n");
+    end = program_output::put_text(out, end, b"\n");
     put_table(out, end, text, names, types, members, rows, i)
 }
 
@@ -86,7 +86,7 @@ fn put_c(
     if !sheet_verdicts::is_usable(rows, i) {
         return sheet_c::put_none(out, at, text, names, i);
     }
-    let part = records::struct_members(types, members, i);
+    let part = ir_records::struct_members(types, members, i);
     let last = sheet_lines::last_member(types, i);
     let mut end = sheet_c::put_open(out, at, text, names, i);
     end = sheet_lines::put_lines(Form::C, out, end, text, names, types, part, rows, i, 0);
@@ -110,7 +110,7 @@ fn put_c(
         rows,
         i,
         last,
-        records::member_type(part, last),
+        ir_records::member_type(part, last),
     )
 }
 
@@ -127,7 +127,7 @@ fn put_rust(
     if !sheet_verdicts::is_usable(rows, i) {
         return sheet_rust::put_none(out, at, text, names, i);
     }
-    let part = records::struct_members(types, members, i);
+    let part = ir_records::struct_members(types, members, i);
     let mut end = sheet_rust::put_open(out, at, text, names, i);
     end = sheet_lines::put_lines(Form::Rust, out, end, text, names, types, part, rows, i, 0);
     end = sheet_rust::put_numbers(out, end, text, names, types, rows, i);
@@ -165,7 +165,7 @@ fn put_drawn(
     rows: &[u32],
     i: u32,
 ) -> usize {
-    let part = records::struct_members(types, members, i);
+    let part = ir_records::struct_members(types, members, i);
     let mut end = sheet_page::put_table_head(out, at);
     end = sheet_lines::put_lines(Form::Page, out, end, text, names, types, part, rows, i, 0);
     end = sheet_page::put_table_end(out, end);
@@ -191,7 +191,7 @@ fn put_page(
     let mut end = sheet_page::put_head(out, at, text, names, rows, i);
     end = sheet_page::put_verdicts(out, end, text, names, types, rows, i);
     end = put_bytes(out, end, rows, counts, i, true);
-    end = output::put_text(out, end, b"<br>\nimmediates: ");
+    end = program_output::put_text(out, end, b"<br>\nimmediates: ");
     end = sheet_counts::put_slots(out, end, rows, counts, i);
     put_drawn(out, end, text, names, types, members, rows, i)
 }
@@ -209,7 +209,7 @@ fn put_one(
     counts: &[u64],
     i: u32,
 ) -> usize {
-    if records::type_word(types, i, 0) != records::STRUCT_KIND {
+    if ir_records::type_word(types, i, 0) != ir_records::STRUCT_KIND {
         return at;
     }
     match form {
@@ -224,16 +224,16 @@ fn put_one(
 pub fn put_start(form: Form, out: &mut Buffer, at: usize, name: &[u8]) -> usize {
     match form {
         Form::Text => {
-            let a = output::put_text(out, at, b"Layout sheet");
+            let a = program_output::put_text(out, at, b"Layout sheet");
             let b = sheet_types::put_file(out, a, name, false);
-            output::put_text(out, b, b"\n\n")
+            program_output::put_text(out, b, b"\n\n")
         }
         Form::C => sheet_c::put_start(out, at),
         Form::Rust => sheet_rust::put_start(out, at),
         Form::Page => {
             let a = sheet_page::put_start(out, at);
             let b = sheet_types::put_file(out, a, name, true);
-            output::put_text(out, b, b"</h1>\n")
+            program_output::put_text(out, b, b"</h1>\n")
         }
     }
 }
@@ -245,7 +245,7 @@ fn put_end(form: Form, out: &mut Buffer, at: usize, types: u64, structs: u64) ->
         Form::C => at,
         Form::Rust => at,
         Form::Page => {
-            let a = output::put_text(out, at, b"<p>");
+            let a = program_output::put_text(out, at, b"<p>");
             let b = put_counts(out, a, types, structs, b"</p>\n");
             sheet_page::put_end(out, b)
         }
@@ -261,7 +261,7 @@ fn put_counts(out: &mut Buffer, at: usize, types: u64, structs: u64, last: &[u8]
         structs,
         b". Only structs have a table. At most 1024 types and 4096 members are read.",
     );
-    output::put_text(out, b, last)
+    program_output::put_text(out, b, last)
 }
 
 // How many types are structs.
@@ -269,7 +269,7 @@ fn struct_count(types: &[u32]) -> u64 {
     let mut n: u64 = 0;
     let mut i: u32 = 0;
     while i < MOST_TYPES {
-        if records::type_word(types, i, 0) == records::STRUCT_KIND {
+        if ir_records::type_word(types, i, 0) == ir_records::STRUCT_KIND {
             n = std::num::wrapping_add_u64(n, 1);
         }
         i += 1;
@@ -299,7 +299,7 @@ pub fn put_all(
         form,
         out,
         end,
-        records::type_count(types) as u64,
+        ir_records::type_count(types) as u64,
         struct_count(types),
     )
 }

@@ -1,6 +1,6 @@
 // Types and names in WGSL's words.
-use output::Buffer;
-use records::Words;
+use ir_records::Words;
+use program_output::Buffer;
 
 // Types that stand in one another deeper than this are not written out.
 const MOST_DEPTH: u32 = 32;
@@ -12,7 +12,7 @@ fn put_scalar(out: &mut Buffer, at: usize, kind: u32, width: u32) -> usize {
         0 => sheet_output::put_with(out, at, b"i", bits, b""),
         1 => sheet_output::put_with(out, at, b"u", bits, b""),
         2 => sheet_output::put_with(out, at, b"f", bits, b""),
-        _ => output::put_text(out, at, b"bool"),
+        _ => program_output::put_text(out, at, b"bool"),
     }
 }
 
@@ -35,7 +35,7 @@ fn put_matrix(out: &mut Buffer, at: usize, w: Words, page: bool) -> usize {
 }
 
 fn put_atomic(out: &mut Buffer, at: usize, w: Words, page: bool) -> usize {
-    let a = output::put_text(out, at, b"atomic");
+    let a = program_output::put_text(out, at, b"atomic");
     put_argument(out, a, w.a, w.b, page)
 }
 
@@ -47,7 +47,7 @@ fn put_leaf(out: &mut Buffer, at: usize, w: Words, page: bool) -> usize {
         1 => put_vector(out, at, w, page),
         2 => put_matrix(out, at, w, page),
         4 => put_atomic(out, at, w, page),
-        7 => output::put_text(out, at, b".."),
+        7 => program_output::put_text(out, at, b".."),
         _ => sheet_output::put_with(out, at, b"kind ", kind as u64, b""),
     }
 }
@@ -68,7 +68,7 @@ fn is_printable(name: &[u8]) -> bool {
 // ` of ` and the name of a file, where it can be printed.
 pub fn put_file(out: &mut Buffer, at: usize, name: &[u8], page: bool) -> usize {
     if is_printable(name) {
-        let end = output::put_text(out, at, b" of ");
+        let end = program_output::put_text(out, at, b" of ");
         return sheet_output::put_name(out, end, name, page);
     }
     at
@@ -125,10 +125,10 @@ pub fn inside(types: &[u32], ty: u32, depth: u32) -> u32 {
     let mut t = ty;
     let mut k: u32 = 0;
     while k < depth {
-        if records::type_word(types, t, 0) != records::ARRAY_KIND {
+        if ir_records::type_word(types, t, 0) != ir_records::ARRAY_KIND {
             return t;
         }
-        t = records::type_word(types, t, 1);
+        t = ir_records::type_word(types, t, 1);
         k += 1;
     }
     t
@@ -139,10 +139,10 @@ fn depth_of(types: &[u32], ty: u32) -> u32 {
     let mut t = ty;
     let mut k: u32 = 0;
     while k < MOST_DEPTH {
-        if records::type_word(types, t, 0) != records::ARRAY_KIND {
+        if ir_records::type_word(types, t, 0) != ir_records::ARRAY_KIND {
             return k;
         }
-        t = records::type_word(types, t, 1);
+        t = ir_records::type_word(types, t, 1);
         k += 1;
     }
     k
@@ -154,7 +154,7 @@ pub fn innermost(types: &[u32], ty: u32) -> u32 {
 }
 
 fn put_array(out: &mut Buffer, at: usize, page: bool) -> usize {
-    let end = output::put_text(out, at, b"array");
+    let end = program_output::put_text(out, at, b"array");
     sheet_output::put_mark(out, end, b'<', page)
 }
 
@@ -170,8 +170,8 @@ fn put_array_start(out: &mut Buffer, at: usize, depth: u32, page: bool) -> usize
 
 // The count of an array, where it has one, and its `>`.
 fn put_count(out: &mut Buffer, at: usize, types: &[u32], t: u32, page: bool) -> usize {
-    if records::type_word(types, t, 2) == 0 {
-        let count = records::type_word(types, t, 3) as u64;
+    if ir_records::type_word(types, t, 2) == 0 {
+        let count = ir_records::type_word(types, t, 3) as u64;
         let end = sheet_output::put_with(out, at, b", ", count, b"");
         return sheet_output::put_mark(out, end, b'>', page);
     }
@@ -208,21 +208,21 @@ pub fn put_type(
     let depth = depth_of(types, ty);
     let base = inside(types, ty, depth);
     let mut end = put_array_start(out, at, depth, page);
-    if records::type_word(types, base, 0) == records::STRUCT_KIND {
+    if ir_records::type_word(types, base, 0) == ir_records::STRUCT_KIND {
         end = put_struct_name(out, end, text, names, base, page);
     } else {
-        end = put_leaf(out, end, records::record_words(types, base), page);
+        end = put_leaf(out, end, ir_records::record_words(types, base), page);
     }
     put_array_end(out, end, types, ty, depth, page)
 }
 
 // The bytes from the start of a column of a matrix to the start of the next; 0 for what is no matrix.
 pub fn column_step(types: &[u32], t: u32) -> u64 {
-    if records::type_word(types, t, 0) != 2 {
+    if ir_records::type_word(types, t, 0) != 2 {
         return 0;
     }
-    let width = records::type_word(types, t, 4) as u64;
-    if alignment::vector_alignment(records::type_word(types, t, 2)) == 2 {
+    let width = ir_records::type_word(types, t, 4) as u64;
+    if proc_alignment::vector_alignment(ir_records::type_word(types, t, 2)) == 2 {
         return width * 2;
     }
     width * 4

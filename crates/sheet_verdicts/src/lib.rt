@@ -1,5 +1,5 @@
 // Verdicts, slots and bytes of a struct in words.
-use output::Buffer;
+use program_output::Buffer;
 ghost use Prim.Native.Nat.{_<_};
 
 const SIZED: u32 = 2;
@@ -8,7 +8,7 @@ const SHAREABLE: u32 = 16;
 
 // A word of the row of type i.
 pub fn row_word(words: &[u32], i: u32, j: u32) -> u32 {
-    rows::row_word(words, i, j)
+    ir_rows::row_word(words, i, j)
 }
 
 // Whether a type is host-shareable.
@@ -36,7 +36,7 @@ pub fn put_measures(out: &mut Buffer, at: usize, rows: &[u32], i: u32) -> usize 
     let alignment = row_word(rows, i, 1) as u64;
     let mut end = sheet_output::put_with(out, at, b"size ", size, b"");
     if !is_sized(rows, i) {
-        end = output::put_text(out, end, b" with one element");
+        end = program_output::put_text(out, end, b" with one element");
     }
     sheet_output::put_with(out, end, b", alignment ", alignment, b"")
 }
@@ -55,9 +55,9 @@ fn put_member(
 ) -> usize {
     let mut end = sheet_output::put_with(out, at, b"member ", j as u64, b" (");
     end = sheet_types::put_member_name(out, end, text, names, types, ty, j, page);
-    end = output::put_byte(out, end, b')');
+    end = program_output::put_byte(out, end, b')');
     if ty != i {
-        end = output::put_text(out, end, b" of ");
+        end = program_output::put_text(out, end, b" of ");
         end = sheet_types::put_struct_name(out, end, text, names, ty, page);
     }
     end
@@ -110,9 +110,9 @@ fn put_other(out: &mut Buffer, at: usize, code: u32, value: u64, bound: u64) -> 
         return sheet_output::put_with(out, end, b" be at ", bound, b" or later");
     }
     if code == 5 {
-        return output::put_text(out, at, b" is runtime-sized");
+        return program_output::put_text(out, at, b" is runtime-sized");
     }
-    output::put_text(out, at, b" is not host-shareable")
+    program_output::put_text(out, at, b" is not host-shareable")
 }
 
 // What is wrong: a stride, a size or an offset, or something else.
@@ -167,7 +167,7 @@ pub fn put_verdict(
         return put_reason(out, at, text, names, types, rows, i, word, page);
     }
     if !is_shareable(rows, i) {
-        return output::put_text(out, at, b"no, the struct is not host-shareable");
+        return program_output::put_text(out, at, b"no, the struct is not host-shareable");
     }
     let alignment = row_word(rows, i, std::num::wrapping_add_u32(word, 1)) as u64;
     sheet_output::put_with(out, at, b"ok, ", alignment, b"")
@@ -233,11 +233,11 @@ fn put_mask(out: &mut Buffer, at: usize, mask: u64) -> usize {
 
 // Slots that are touched, and those of them that are covered only in part.
 pub fn put_slots(out: &mut Buffer, at: usize, touched: u64, partly: u64) -> usize {
-    let end = output::put_text(out, at, b"slots");
+    let end = program_output::put_text(out, at, b"slots");
     let last = put_mask(out, end, touched);
     if partly == 0 {
         return last;
     }
-    let next = output::put_text(out, last, b"; only a part of");
+    let next = program_output::put_text(out, last, b"; only a part of");
     put_mask(out, next, partly)
 }

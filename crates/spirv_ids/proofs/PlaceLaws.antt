@@ -8,7 +8,7 @@ use native.Mathlib.Omega.{arith}
 use native.Mathlib.Decide.{decLe}
 use lib.Dec.{eqb, leb, ltb}
 use borrow.Author.Tests.{leb-true, le-leb, eqb-true}
-use Rattle.records.specs.Result.{pick}
+use Rattle.ir_records.specs.Result.{pick}
 use Rattle.spirv_words.specs.Module.{opcode, wordCount, isType, isRead, typeInt, constant, headerWords, starts, between, before, first, count, word}
 use Rattle.spirv_words.specs.Decorations.{isInteger}
 use Rattle.spirv_words.proofs.SearchLaws.{between-next, between-end, search-on, search-end, found-below}

@@ -4,7 +4,7 @@ use mathlib.Core.Bool.{Bool, _&&_, _||_}
 use mathlib.Core.List.{List}
 use Prim.Native.Nat.{ℕ}
 use lib.Dec.{eqb, ltb}
-use Rattle.records.specs.Result.{pick}
+use Rattle.ir_records.specs.Result.{pick}
 use Rattle.spirv_words.specs.Module.{opcode, word, isType, isRead, constant, before, first, count}
 use Rattle.spirv_words.specs.Decorations.{isInteger}
 use Rattle.spirv_ids.specs.declared.Sort.{Sort}

@@ -7,11 +7,11 @@ use Prim.Native.Nat.{ℕ, _*_, _/_, _≤_, _<_}
 use native.Mathlib.Omega.{arith}
 use lib.Dec.{eqb, leb, ltb}
 use borrow.Author.Tests.{eqb-true, leb-true}
-use Rattle.records.specs.Result.{Result, err, ok, pick, require}
-use Rattle.records.specs.Record.{innerIn, innerOf, memberCount, scalarKind, vectorKind, matrixKind, arrayKind, structKind}
-use Rattle.records.specs.Serving.{InnerBounds}
-use Rattle.records.proofs.ResultLaws.{ok-inj}
-use Rattle.alignment.specs.Alignment.{most}
+use Rattle.ir_records.specs.Result.{Result, err, ok, pick, require}
+use Rattle.ir_records.specs.Record.{innerIn, innerOf, memberCount, scalarKind, vectorKind, matrixKind, arrayKind, structKind}
+use Rattle.ir_records.specs.Serving.{InnerBounds}
+use Rattle.ir_records.proofs.ResultLaws.{ok-inj}
+use Rattle.proc_alignment.specs.Alignment.{most}
 use Rattle.spirv_words.specs.Module.{opcode, word, wordCount, typeBool, typeInt, typeFloat, typeVector, typeMatrix, typeArray, typeRuntimeArray}
 use Rattle.spirv_members.specs.Members.{isTypeRead, isOther, numberOf, memberCountAt, memberRows, membersUnsupported, membersSound}
 use Rattle.spirv_members.specs.Serving.{Bounded}

@@ -8,8 +8,8 @@ use native.Mathlib.Omega.{arith}
 use lib.Dec.{leb}
 use lib.ListN.{length, replicate, length-replicate}
 use borrow.Author.Tests.{leb-true}
-use Rattle.records.specs.Result.{Result, err, ok}
-use Rattle.records.specs.Record.{memberWords, memberCount}
+use Rattle.ir_records.specs.Result.{Result, err, ok}
+use Rattle.ir_records.specs.Record.{memberWords, memberCount}
 use Rattle.spirv_words.specs.Module.{wordCount, opcode, isRead}
 use Rattle.spirv_members.specs.Members.{memberRows}
 use Rattle.spirv_members.proofs.NumberLaws.{and-true}

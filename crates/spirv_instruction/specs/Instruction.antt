@@ -5,10 +5,10 @@ use mathlib.Core.List.{List, [], _∷_, _++_}
 use Prim.Native.Nat.{ℕ, _+_, _/_, min}
 use lib.Dec.{eqb, leb, ltb}
 use lib.ListN.{length}
-use Rattle.records.specs.Result.{Result, ok, pick, require, andThen}
-use Rattle.records.specs.declared.Words.{Words}
-use Rattle.records.specs.Record.{typeWords, memberWords, typeCount, memberCount}
-use Rattle.records.specs.Fields.{mostTypes, mostMembers}
+use Rattle.ir_records.specs.Result.{Result, ok, pick, require, andThen}
+use Rattle.ir_records.specs.declared.Words.{Words}
+use Rattle.ir_records.specs.Record.{typeWords, memberWords, typeCount, memberCount}
+use Rattle.ir_records.specs.Fields.{mostTypes, mostMembers}
 use Rattle.spirv_words.specs.Module.{wordCount, opcode, word, isType, isRead, typeInt, typeFloat, typeVector, typeMatrix, typeArray, typeRuntimeArray, typeStruct, constant, decorate, memberDecorate}
 use Rattle.spirv_words.specs.Decorations.{arrayStride, offset, matrixStride}
 use Rattle.spirv_ids.specs.Ids.{giver, integerBefore, isConstant}

@@ -4,9 +4,9 @@ use mathlib.Core.Path.{_≡_}
 use mathlib.Core.Bool.{true, false}
 use mathlib.Core.List.{List}
 use Prim.Native.Nat.{ℕ, _+_, _≤_, _<_}
-use Rattle.records.specs.Result.{Result, err, ok}
-use Rattle.records.specs.Record.{innerIn}
-use Rattle.records.specs.Serving.{InnerBounds}
+use Rattle.ir_records.specs.Result.{Result, err, ok}
+use Rattle.ir_records.specs.Record.{innerIn}
+use Rattle.ir_records.specs.Serving.{InnerBounds}
 use Rattle.spirv_words.specs.Module.{wordCount, opcode, isRead}
 use Rattle.spirv_members.specs.Members.{memberRows}
 use Rattle.spirv_types.specs.Types.{State}

@@ -1,12 +1,12 @@
 // One instruction of a SPIR-V module: its word count, the type that it makes, an id that is given twice, and the room for its records.
-use records::Words;
+use ir_records::Words;
 use spirv_types::Made;
 ghost use mathlib.Core.Path.{_≡_};
 ghost use mathlib.Core.List.{List};
 ghost use Prim.Native.Nat.{ℕ, _*_, _/_, _≤_, _<_};
 ghost use lib.ListN.{length};
-ghost use Rattle.records.specs.Result.{pick};
-ghost use Rattle.records.specs.Record.{memberCount, typeCount};
+ghost use Rattle.ir_records.specs.Result.{pick};
+ghost use Rattle.ir_records.specs.Record.{memberCount, typeCount};
 ghost use Rattle.spirv_words.specs.Module.{typeStruct, opcode, isRead};
 ghost use Rattle.spirv_ids.specs.Ids.{typeNumber};
 ghost use Rattle.spirv_ids.specs.Places.{GivesFrom};
@@ -153,7 +153,7 @@ fn type_read(
         } => {
             let rows = row_count(words, at);
             let last = (members as usize) + (rows as usize);
-            let count = records::type_count(types);
+            let count = ir_records::type_count(types);
             if (count < room) & (last <= space) {
                 return Judged::Type {
                     words: w,

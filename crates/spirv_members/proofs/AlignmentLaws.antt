@@ -10,9 +10,9 @@ use native.Mathlib.Omega.{arith}
 use lib.ListN.{length, getD, length-append, List·getD-append}
 use lib.Seq.{getD-append-add}
 use borrow.Author.Tests.{lt-ltb}
-use Rattle.records.specs.Result.{ok}
-use Rattle.records.specs.Record.{memberWords, memberType}
-use Rattle.type_alignment.specs.TypeAlignment.{membersAlignment}
+use Rattle.ir_records.specs.Result.{ok}
+use Rattle.ir_records.specs.Record.{memberWords, memberType}
+use Rattle.proc_type_alignment.specs.TypeAlignment.{membersAlignment}
 use Rattle.spirv_words.specs.Module.{word}
 use Rattle.spirv_ids.specs.Ids.{typeNumber}
 use Rattle.spirv_members.specs.Members.{isTypeRead, memberSort, memberNumber, offsetAt, offsetOf, memberRows, memberSound, membersSound, layoutsOf, structAlignment}

@@ -8,8 +8,8 @@ use native.Mathlib.Omega.{arith}
 use native.Mathlib.Numerals.{add-one}
 use lib.ListN.{getD}
 use borrow.Author.Tests.{ne-eqb}
-use Rattle.records.specs.Record.{typeWord, typeInner, innerOf, scalarKind, vectorKind, matrixKind, arrayKind}
-use Rattle.type_methods.specs.TypeMethods.{columnStep}
+use Rattle.ir_records.specs.Record.{typeWord, typeInner, innerOf, scalarKind, vectorKind, matrixKind, arrayKind}
+use Rattle.proc_type_methods.specs.TypeMethods.{columnStep}
 use Rattle.spirv_members.specs.Members.{columnStepIn, memberNumber, memberUnsupported, membersUnsupported, memberSound, membersSound}
 use Rattle.spirv_members.specs.Serving.{largestAlignment}
 use Rattle.spirv_members.specs.Serving.{Bounded}

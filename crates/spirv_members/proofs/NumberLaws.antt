@@ -7,7 +7,7 @@ use Prim.Native.Nat.{ℕ, zero, suc, _+_, _-_, _≤_, _<_}
 use native.Mathlib.Omega.{arith}
 use lib.Dec.{eqb, ltb}
 use borrow.Author.Tests.{ltb-true, eqb-false}
-use Rattle.records.specs.Result.{pick}
+use Rattle.ir_records.specs.Result.{pick}
 use Rattle.spirv_words.specs.Module.{opcode, wordCount, isRead, constant, headerWords, starts, before, first}
 use Rattle.spirv_words.proofs.SearchLaws.{found-below}
 use Rattle.spirv_ids.specs.Ids.{gives, giver, typeNumber, sortAt, sort}

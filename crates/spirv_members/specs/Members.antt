@@ -5,11 +5,11 @@ use mathlib.Core.List.{List, [], _∷_, _++_}
 use Prim.Native.Nat.{ℕ, zero, suc, _+_, _-_}
 use lib.Dec.{eqb, ltb}
 use lib.ListN.{getD, length}
-use Rattle.records.specs.Result.{pick, valueOr}
-use Rattle.records.specs.Record.{typeWord, typeInner, matrixKind, arrayKind}
-use Rattle.type_methods.specs.TypeMethods.{columnStep, sizeOf}
-use Rattle.type_alignment.specs.declared.TypeLayout.{TypeLayout}
-use Rattle.type_alignment.specs.TypeAlignment.{membersAlignment}
+use Rattle.ir_records.specs.Result.{pick, valueOr}
+use Rattle.ir_records.specs.Record.{typeWord, typeInner, matrixKind, arrayKind}
+use Rattle.proc_type_methods.specs.TypeMethods.{columnStep, sizeOf}
+use Rattle.proc_type_alignment.specs.declared.TypeLayout.{TypeLayout}
+use Rattle.proc_type_alignment.specs.TypeAlignment.{membersAlignment}
 use Rattle.spirv_words.specs.Module.{word, wordCount, before, first, only}
 use Rattle.spirv_words.specs.Decorations.{isOffsetOf, isOtherwise}
 use Rattle.spirv_ids.specs.declared.Sort.{Sort}

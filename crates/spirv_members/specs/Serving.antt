@@ -4,9 +4,9 @@ use mathlib.Core.List.{List}
 use Prim.Native.Nat.{ℕ, zero, suc, max, _≤_, _<_}
 use lib.ListN.{getD, length}
 use Rattle.spirv_members.specs.Members.{memberNumber}
-use Rattle.records.specs.Record.{typeInner}
-use Rattle.records.specs.Fields.{mostTypes}
-use Rattle.records.specs.Serving.{InnerBounds}
+use Rattle.ir_records.specs.Record.{typeInner}
+use Rattle.ir_records.specs.Fields.{mostTypes}
+use Rattle.ir_records.specs.Serving.{InnerBounds}
 use Rattle.spirv_ids.specs.declared.Sort.{Sort}
 use Rattle.spirv_ids.specs.declared.Sort.the-variants.{Unknown, OtherType, TypeRead, ConstantAt}
 use Rattle.spirv_ids.specs.Ids.{typeNumber}

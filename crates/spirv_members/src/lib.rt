@@ -1,16 +1,16 @@
 // The members of a struct, from the words of a SPIR-V module: what each is, where it stands, and how far the last one reaches.
-use records::TypeInner;
+use ir_records::TypeInner;
+use proc_type_methods::Size;
 use spirv_ids::Sort;
 use spirv_words::Wanted;
-use type_methods::Size;
 ghost use mathlib.Core.Path.{_≡_};
 ghost use mathlib.Core.Bool.{true, _&&_, _||_};
 ghost use Prim.Native.Nat.{suc, _*_, _≤_, _<_, max};
 ghost use lib.ListN.{length, getD};
-ghost use Rattle.records.specs.Result.{ok};
-ghost use Rattle.records.specs.Record.{typeInner};
-ghost use Rattle.records.specs.Serving.{InnerBounds};
-ghost use Rattle.type_methods.specs.TypeMethods.{trySize, sizeOf};
+ghost use Rattle.ir_records.specs.Result.{ok};
+ghost use Rattle.ir_records.specs.Record.{typeInner};
+ghost use Rattle.ir_records.specs.Serving.{InnerBounds};
+ghost use Rattle.proc_type_methods.specs.TypeMethods.{trySize, sizeOf};
 ghost use Rattle.spirv_members.specs.Members.{isOther, isTypeRead, numberOf, memberCountAt, memberSort, memberNumber, offsetAt, offsetOf, columnStepIn, storedOtherwise, memberUnsupported, membersUnsupported, memberSound, membersSound, sizeIn, lastEnd};
 ghost use Rattle.spirv_members.specs.Serving.{largestAlignment};
 ghost use Rattle.spirv_members.specs.Serving.{Bounded, Ready};
@@ -103,21 +103,21 @@ fn column_step(types: &[u32], t: u32) -> u32
     let mut left = t;
     let mut k = t;
     loop {
-        let kind = records::type_word(types, k, 0);
+        let kind = ir_records::type_word(types, k, 0);
         if kind == 2 {
-            let factor = alignment::vector_alignment(records::type_word(types, k, 2));
-            let width = records::type_word(types, k, 4);
+            let factor = proc_alignment::vector_alignment(ir_records::type_word(types, k, 2));
+            let width = ir_records::type_word(types, k, 4);
             let step = factor * width;
             return step;
         }
-        if kind != records::ARRAY_KIND {
+        if kind != ir_records::ARRAY_KIND {
             return 0;
         }
         if left == 0 {
             return 0;
         }
         left -= 1;
-        k = records::type_word(types, k, 1);
+        k = ir_records::type_word(types, k, 1);
     }
 }
 
@@ -161,8 +161,8 @@ fn with_member(
     let read = is_type_read(sort);
     let other = is_other(sort);
     let offset = offset_at(words, at, j);
-    let own = records::word_at(alignments, number as usize);
-    let alignment = alignment::larger(seen.alignment, own);
+    let own = ir_records::word_at(alignments, number as usize);
+    let alignment = proc_alignment::larger(seen.alignment, own);
     let unsupported = seen.unsupported | (other | (read & stored));
     let sound = seen.sound & (read & (0 < offset));
     Members {
@@ -205,7 +205,7 @@ fn plain_size(inner: TypeInner) -> u64
     requires { ⌜ trySize inner ≡ ok (sizeOf inner) ⌝ }
     ensures { λ r. ⌜ (r ≡ sizeOf inner) × (r ≤ 4294967295) ⌝ }
 {
-    match type_methods::try_size(inner) {
+    match proc_type_methods::try_size(inner) {
         Size::Bytes(size) => size as u64,
         Size::TooLarge => 0,
     }
@@ -223,7 +223,7 @@ fn size_in(types: &[u32], t: u32) -> u64
     requires { ⌜ Bounded (now types) ⌝ }
     ensures { λ r. ⌜ (r ≡ sizeIn (now (types .entry)) t) × (r ≤ 18446744065119617025) ⌝ }
 {
-    let inner = records::type_inner(types, t);
+    let inner = ir_records::type_inner(types, t);
     match inner {
         TypeInner::Plain(_) => plain_size(inner),
         TypeInner::Array {

@@ -11,10 +11,10 @@ use native.Mathlib.Decide.{ℕ-discrete}
 use lib.Dec.{eqb, ltb}
 use lib.ListN.{length}
 use borrow.Author.Tests.{eqb-true, eqb-false, eq-eqb, lt-ltb, ltb-true}
-use Rattle.records.specs.Result.{pick}
-use Rattle.records.specs.Record.{typeWord, memberCount, scalarKind, vectorKind, matrixKind, arrayKind, structKind}
-use Rattle.alignment.specs.Alignment.{powerOfTwo, vectorAlignment}
-use Rattle.type_methods.specs.TypeMethods.{columnStep}
+use Rattle.ir_records.specs.Result.{pick}
+use Rattle.ir_records.specs.Record.{typeWord, memberCount, scalarKind, vectorKind, matrixKind, arrayKind, structKind}
+use Rattle.proc_alignment.specs.Alignment.{powerOfTwo, vectorAlignment}
+use Rattle.proc_type_methods.specs.TypeMethods.{columnStep}
 use Rattle.spirv_words.specs.Module.{opcode, word, wordCount, typeVector, typeMatrix, typeArray, typeRuntimeArray, typeStruct, headerWords, starts, before, first}
 use Rattle.spirv_words.specs.Decorations.{rowMajor, matrixStride, isMembersOf, isOtherwise}
 use Rattle.spirv_ids.specs.Ids.{sort, typeNumber}

@@ -7,34 +7,34 @@ use mathlib.Core.List.{List, [], _∷_}
 use Prim.Native.Nat.{ℕ, zero, suc, _+_, _≤_, _<_}
 use native.Mathlib.Omega.{arith}
 use lib.ListN.{getElem?}
-use Rattle.records.specs.Result.{ok}
-use Rattle.records.specs.Record.{decoded, innerOf, typeInner, structMembers}
-use Rattle.records.specs.Fields.{tablesFit, fieldsOk, recordAt, locatedTo}
-use Rattle.records.specs.Table.{resultAt, valueAt}
-use Rattle.records.specs.declared.Outcome.the-variants.{Accepted}
-use Rattle.type_methods.specs.TypeMethods.{columnStep, trySize}
-use Rattle.type_alignment.specs.TypeAlignment.{membersAlignment, alignmentOf}
-use Rattle.type_layout.specs.TypeLayout.{layoutOf}
-use Rattle.layouter.specs.Layouter.{layoutOutcome}
-use Rattle.width.specs.Width.{integerWidth, floatWidth, checkWidth}
-use Rattle.type_flags.specs.TypeFlags.{leafFlags}
-use Rattle.type_info.specs.declared.UniformRule.{UniformRule}
-use Rattle.type_info.specs.Verdict.{arrayVerdict, shareVerdict, memberVerdict, distanceVerdict, distanceOk, unsizedVerdict, spanVerdict, previousOf}
-use Rattle.member_bounds.specs.MemberBounds.{memberBounds}
+use Rattle.ir_records.specs.Result.{ok}
+use Rattle.ir_records.specs.Record.{decoded, innerOf, typeInner, structMembers}
+use Rattle.ir_records.specs.Fields.{tablesFit, fieldsOk, recordAt, locatedTo}
+use Rattle.ir_records.specs.Table.{resultAt, valueAt}
+use Rattle.ir_records.specs.declared.Outcome.the-variants.{Accepted}
+use Rattle.proc_type_methods.specs.TypeMethods.{columnStep, trySize}
+use Rattle.proc_type_alignment.specs.TypeAlignment.{membersAlignment, alignmentOf}
+use Rattle.proc_type_layout.specs.TypeLayout.{layoutOf}
+use Rattle.proc_layouter.specs.Layouter.{layoutOutcome}
+use Rattle.valid_width.specs.Width.{integerWidth, floatWidth, checkWidth}
+use Rattle.valid_type_flags.specs.TypeFlags.{leafFlags}
+use Rattle.valid_type_info.specs.declared.UniformRule.{UniformRule}
+use Rattle.valid_type_info.specs.Verdict.{arrayVerdict, shareVerdict, memberVerdict, distanceVerdict, distanceOk, unsizedVerdict, spanVerdict, previousOf}
+use Rattle.valid_member_bounds.specs.MemberBounds.{memberBounds}
 use Rattle.valid_blend.specs.Blend.{sourceAt, sourceResult, blendedAfter, otherLocation, structBlend}
-use Rattle.member_rules.specs.MemberRules.{uniformAfter, storageAfter, immediatesAfter}
-use Rattle.validate_type.specs.ValidateType.{flagsOf, uniformOf, storageOf, immediatesOf, rowOf, judge, judgeCommon}
-use Rattle.valid.specs.Arena.{row, judgeOutcome, arenaOutcome, arena}
-use Rattle.valid.proofs.ArenaLaws.{accepted-types}
-use Rattle.descent.specs.declared.Place.the-variants.{At, NoPlace}
-use Rattle.term3.specs.Term3.{rowIn, HostShareableData, strideCovers, StridesCover, rewrite}
-use Rattle.term3.proofs.ReachedLaws.{strides-cover}
+use Rattle.valid_member_rules.specs.MemberRules.{uniformAfter, storageAfter, immediatesAfter}
+use Rattle.valid_types.specs.ValidateType.{flagsOf, uniformOf, storageOf, immediatesOf, rowOf, judge, judgeCommon}
+use Rattle.valid_arena.specs.Arena.{row, judgeOutcome, arenaOutcome, arena}
+use Rattle.valid_arena.proofs.ArenaLaws.{accepted-types}
+use Rattle.place_descent.specs.declared.Place.the-variants.{At, NoPlace}
+use Rattle.place_term3.specs.Term3.{rowIn, HostShareableData, strideCovers, StridesCover, rewrite}
+use Rattle.place_term3.proofs.ReachedLaws.{strides-cover}
 use Rattle.spirv_words.specs.Module.{word, starts, first, only, count}
 use Rattle.spirv_ids.specs.Ids.{integerBefore, isConstant, gives, giver, typeNumber, sortAt, sort}
 use Rattle.spirv_members.specs.Members.{memberNumber, offsetAt, memberRows, columnStepIn, storedOtherwise, memberUnsupported, membersUnsupported, memberSound, membersSound, structAlignment, sizeIn, lastEnd}
 use Rattle.spirv_types.specs.Types.{State, isFresh, boolType, intType, floatType, vectorType, matrixType, strideAt, lengthOf, arrayType, runtimeArrayType, structType, typeBy, typeAt}
 use Rattle.spirv_instruction.specs.Instruction.{leastWords, wordsOk, typeRead, otherRead, instruction}
-use Rattle.spirv.specs.Read.{readFrom, readModule}
+use Rattle.spirv_read.specs.Read.{readFrom, readModule}
 use Rattle.spirv_records.specs.TypesRead.{TypeReadAt}
 use Rattle.spirv_place.specs.ModulePlace.{matrixRows, matrixWidth, moduleStep, modulePlace, moduleBytes, itself}
 use Rattle.spirv_place.specs.SpirvTerm3.{ReadType, InModuleLeaf}

@@ -6,12 +6,12 @@ use mathlib.Core.List.{List}
 use Prim.Native.Nat.{ℕ, _+_, _*_, _≤_, _<_, _∣_}
 use native.Mathlib.Omega.{arith}
 use lib.ListN.{length, getElem?}
-use Rattle.records.specs.Record.{decoded}
-use Rattle.type_info.specs.declared.UniformRule.{UniformRule}
-use Rattle.descent.specs.declared.Place.the-variants.{At}
-use Rattle.descent.specs.Place.{placeOf}
-use Rattle.term3.specs.Term3.{rowIn, leafMeasure, InLeaf, BetweenColumns, rewrite}
-use Rattle.term3.proofs.Term3Proof.{term3}
+use Rattle.ir_records.specs.Record.{decoded}
+use Rattle.valid_type_info.specs.declared.UniformRule.{UniformRule}
+use Rattle.place_descent.specs.declared.Place.the-variants.{At}
+use Rattle.place_descent.specs.Place.{placeOf}
+use Rattle.place_term3.specs.Term3.{rowIn, leafMeasure, InLeaf, BetweenColumns, rewrite}
+use Rattle.place_term3.proofs.Term3Proof.{term3}
 use Rattle.spirv_words.specs.Module.{word}
 use Rattle.spirv_ids.specs.Ids.{typeNumber}
 use Rattle.spirv_types.specs.Types.{State}

@@ -11,13 +11,13 @@ use native.Mathlib.Decide.{decLe}
 use lib.Dec.{eqb, leb, ltb}
 use lib.ListN.{length, getD}
 use borrow.Author.Tests.{lt-ltb, le-ltb, le-leb, lt-leb, ne-eqb, eqb-false}
-use Rattle.records.specs.Result.{pick}
-use Rattle.records.specs.Record.{Decoded, decoded, typeWord, typeInner, innerOf, structMembers, memberCount, memberWords, memberType, memberOffset, scalarKind, vectorKind, matrixKind, arrayKind, structKind}
-use Rattle.type_methods.specs.TypeMethods.{columnStep}
-use Rattle.steps.specs.declared.Step.{Step}
-use Rattle.steps.specs.declared.Step.the-variants.{To, Column, NoStep}
-use Rattle.steps.specs.Steps.{isLeaf, stepOf}
-use Rattle.descent.specs.Place.{stepIn, leafIn}
+use Rattle.ir_records.specs.Result.{pick}
+use Rattle.ir_records.specs.Record.{Decoded, decoded, typeWord, typeInner, innerOf, structMembers, memberCount, memberWords, memberType, memberOffset, scalarKind, vectorKind, matrixKind, arrayKind, structKind}
+use Rattle.proc_type_methods.specs.TypeMethods.{columnStep}
+use Rattle.place_steps.specs.declared.Step.{Step}
+use Rattle.place_steps.specs.declared.Step.the-variants.{To, Column, NoStep}
+use Rattle.place_steps.specs.Steps.{isLeaf, stepOf}
+use Rattle.place_descent.specs.Place.{stepIn, leafIn}
 use Rattle.spirv_words.specs.Module.{opcode, word, typeBool, typeFloat, typeVector, typeMatrix, typeArray, typeRuntimeArray, typeStruct, before, between, first}
 use Rattle.spirv_ids.specs.Ids.{gives, giver, sort, typeNumber}
 use Rattle.spirv_members.specs.Members.{isTypeRead, numberOf, memberNumber, memberSort, memberCountAt, offsetOf, memberRows, memberSound, membersSound}

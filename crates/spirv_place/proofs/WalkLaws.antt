@@ -8,25 +8,25 @@ use native.Mathlib.Omega.{arith}
 use lib.Dec.{T, eqb, leb, ltb}
 use lib.ListN.{length}
 use borrow.Author.Tests.{lt-ltb, leb-true, ne-eqb}
-use Rattle.records.specs.Result.{ok, pick}
-use Rattle.records.specs.Record.{Decoded, decoded, typeCount, typeInner, innerOf, memberCount, scalarKind, vectorKind, matrixKind, arrayKind, structKind}
-use Rattle.records.specs.declared.Outcome.the-variants.{Accepted}
-use Rattle.records.specs.declared.Leaf.{Leaf}
-use Rattle.records.specs.declared.Leaf.the-variants.{Scalar, Vector, Matrix}
-use Rattle.records.specs.declared.TypeInner.the-variants.{Plain}
-use Rattle.type_methods.specs.TypeMethods.{leafSize}
-use Rattle.layouter.proofs.LayoutAccepted.{plain-layout}
-use Rattle.type_info.specs.declared.UniformRule.{UniformRule}
-use Rattle.type_info.specs.Verdict.{leastFor}
-use Rattle.valid.specs.Arena.{arena}
-use Rattle.valid.proofs.AcceptedLaws.{row-size}
-use Rattle.valid.proofs.ArenaLaws.{accepted-types}
-use Rattle.steps.specs.declared.Step.{Step}
-use Rattle.steps.specs.declared.Step.the-variants.{To, Column, NoStep}
-use Rattle.descent.specs.declared.Place.{Place}
-use Rattle.descent.specs.declared.Place.the-variants.{At, NoPlace}
-use Rattle.descent.specs.Place.{ended, follow, walk, stepIn, leafIn, placeIn, placeOf}
-use Rattle.term3.specs.Term3.{rowIn, leafMeasure, firstElement, after, FirstElements}
+use Rattle.ir_records.specs.Result.{ok, pick}
+use Rattle.ir_records.specs.Record.{Decoded, decoded, typeCount, typeInner, innerOf, memberCount, scalarKind, vectorKind, matrixKind, arrayKind, structKind}
+use Rattle.ir_records.specs.declared.Outcome.the-variants.{Accepted}
+use Rattle.ir_records.specs.declared.Leaf.{Leaf}
+use Rattle.ir_records.specs.declared.Leaf.the-variants.{Scalar, Vector, Matrix}
+use Rattle.ir_records.specs.declared.TypeInner.the-variants.{Plain}
+use Rattle.proc_type_methods.specs.TypeMethods.{leafSize}
+use Rattle.proc_layouter.proofs.LayoutAccepted.{plain-layout}
+use Rattle.valid_type_info.specs.declared.UniformRule.{UniformRule}
+use Rattle.valid_type_info.specs.Verdict.{leastFor}
+use Rattle.valid_arena.specs.Arena.{arena}
+use Rattle.valid_arena.proofs.AcceptedLaws.{row-size}
+use Rattle.valid_arena.proofs.ArenaLaws.{accepted-types}
+use Rattle.place_steps.specs.declared.Step.{Step}
+use Rattle.place_steps.specs.declared.Step.the-variants.{To, Column, NoStep}
+use Rattle.place_descent.specs.declared.Place.{Place}
+use Rattle.place_descent.specs.declared.Place.the-variants.{At, NoPlace}
+use Rattle.place_descent.specs.Place.{ended, follow, walk, stepIn, leafIn, placeIn, placeOf}
+use Rattle.place_term3.specs.Term3.{rowIn, leafMeasure, firstElement, after, FirstElements}
 use Rattle.spirv_words.specs.Module.{opcode, word, typeBool, typeVector, typeMatrix, typeRuntimeArray}
 use Rattle.spirv_ids.specs.Ids.{typeNumber}
 use Rattle.spirv_members.specs.Members.{numberOf, memberCountAt}

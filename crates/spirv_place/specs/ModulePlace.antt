@@ -6,13 +6,13 @@ use mathlib.Core.List.{List, [], _∷_}
 use mathlib.Core.Path.{_≡_}
 use Prim.Native.Nat.{ℕ, _+_, _*_, _^_}
 use lib.Dec.{eqb, leb, ltb}
-use Rattle.records.specs.Result.{pick}
-use Rattle.type_methods.specs.TypeMethods.{columnStep}
-use Rattle.steps.specs.declared.Step.{Step}
-use Rattle.steps.specs.declared.Step.the-variants.{To, Column, NoStep}
-use Rattle.descent.specs.declared.Place.{Place}
-use Rattle.descent.specs.declared.Place.the-variants.{At, NoPlace}
-use Rattle.descent.specs.Place.{walk}
+use Rattle.ir_records.specs.Result.{pick}
+use Rattle.proc_type_methods.specs.TypeMethods.{columnStep}
+use Rattle.place_steps.specs.declared.Step.{Step}
+use Rattle.place_steps.specs.declared.Step.the-variants.{To, Column, NoStep}
+use Rattle.place_descent.specs.declared.Place.{Place}
+use Rattle.place_descent.specs.declared.Place.the-variants.{At, NoPlace}
+use Rattle.place_descent.specs.Place.{walk}
 use Rattle.spirv_words.specs.Module.{opcode, word, typeBool, typeVector, typeMatrix, typeArray, typeRuntimeArray, typeStruct}
 use Rattle.spirv_ids.specs.Ids.{giver, typeNumber}
 use Rattle.spirv_members.specs.Members.{memberCountAt, offsetOf}

@@ -8,20 +8,20 @@ use mathlib.Core.List.{List}
 use Prim.Native.Nat.{ℕ, _+_, _*_, _≤_, _<_, _∣_}
 use lib.Dec.{T}
 use lib.ListN.{getElem?}
-use Rattle.records.specs.Result.{ok}
-use Rattle.records.specs.Record.{decoded}
-use Rattle.type_methods.specs.TypeMethods.{columnStep}
-use Rattle.type_info.specs.declared.UniformRule.{UniformRule}
-use Rattle.type_info.specs.Verdict.{isOk, alignmentIn}
-use Rattle.descent.specs.declared.Place.the-variants.{At}
-use Rattle.descent.specs.Place.{placeOf}
-use Rattle.term3.specs.Term3.{rowIn, HostShareableData, StridesCover, rewrite}
+use Rattle.ir_records.specs.Result.{ok}
+use Rattle.ir_records.specs.Record.{decoded}
+use Rattle.proc_type_methods.specs.TypeMethods.{columnStep}
+use Rattle.valid_type_info.specs.declared.UniformRule.{UniformRule}
+use Rattle.valid_type_info.specs.Verdict.{isOk, alignmentIn}
+use Rattle.place_descent.specs.declared.Place.the-variants.{At}
+use Rattle.place_descent.specs.Place.{placeOf}
+use Rattle.place_term3.specs.Term3.{rowIn, HostShareableData, StridesCover, rewrite}
 use Rattle.spirv_words.specs.Module.{opcode, word, typeMatrix, typeStruct, before}
 use Rattle.spirv_words.specs.Decorations.{rowMajor, matrixStride, isMembersOf}
 use Rattle.spirv_ids.specs.Ids.{typeNumber}
 use Rattle.spirv_members.specs.Members.{memberCountAt}
 use Rattle.spirv_types.specs.Types.{State}
-use Rattle.spirv.specs.Read.{readModule}
+use Rattle.spirv_read.specs.Read.{readModule}
 use Rattle.spirv_records.specs.TypesRead.{Among, TypeReadAt}
 use Rattle.spirv_place.specs.ModulePlace.{named, ElementOf, matrixRows, matrixWidth, modulePlace, moduleBytes, numbered, FirstSteps}
 

@@ -4,7 +4,7 @@ use mathlib.Core.List.{List}
 use Prim.Native.Nat.{ℕ}
 use lib.Dec.{ltb}
 use lib.ListN.{length, getD}
-use Rattle.records.specs.Result.{pick}
+use Rattle.ir_records.specs.Result.{pick}
 use Rattle.spirv_reader.specs.declared.Head.{Head}
 use Rattle.spirv_reader.specs.declared.Head.the-variants.{Word, End}
 

@@ -1,10 +1,10 @@
--- The module that begins at a position of a list of words: what its reading answers, and what the lent tables hold then (spirv: Read).
+-- The module that begins at a position of a list of words: what its reading answers, and what the lent tables hold then (spirv_read: Read).
 -- Assumes nothing.
 use mathlib.Core.List.{List}
 use Prim.Native.Nat.{ℕ}
 use lib.ListN.{drop}
-use Rattle.spirv.specs.declared.Section.{Section}
-use Rattle.spirv.specs.Read.{readInto, sectionOf, typesAfter, membersAfter}
+use Rattle.spirv_read.specs.declared.Section.{Section}
+use Rattle.spirv_read.specs.Read.{readInto, sectionOf, typesAfter, membersAfter}
 
 abbrev pub sectionAt : (ws : List ℕ) (at : ℕ) (ts ms : List ℕ) → Section
 sectionAt ws at ts ms = sectionOf (readInto (drop at ws) ts ms)

@@ -1,10 +1,10 @@
 // A reader that carries the lent words and its own position: thin functions over it, each proved by hand. The work is in functions over a
 // plain slice (spirv), which the borrow checker covers.
-use spirv::Section;
+use spirv_read::Section;
 ghost use mathlib.Core.Path.{_≡_};
 ghost use Prim.Native.Nat.{_≤_};
 ghost use lib.ListN.{length};
-ghost use Rattle.spirv.specs.Read.{readInto, sectionOf, typesAfter, membersAfter};
+ghost use Rattle.spirv_read.specs.Read.{readInto, sectionOf, typesAfter, membersAfter};
 ghost use Rattle.spirv_reader.specs.Head.{headAt};
 ghost use Rattle.spirv_reader.specs.Section.{sectionAt, typesAt, membersAt};
 
@@ -56,9 +56,9 @@ pub fn read_from(words: &[u32], at: usize, types: &mut [u32], members: &mut [u32
 {
     let n = words.len();
     if at <= n {
-        return spirv::read_words(&words[at..], types, members);
+        return spirv_read::read_words(&words[at..], types, members);
     }
-    spirv::read_words(&words[n..], types, members)
+    spirv_read::read_words(&words[n..], types, members)
 }
 
 // The module that begins where the reader is.

@@ -10,9 +10,9 @@ use native.Mathlib.Decide.{decLe}
 use lib.Dec.{T, eqb, leb, ltb}
 use lib.ListN.{length, length-append}
 use borrow.Author.Tests.{leb-true, ltb-true, lt-ltb, le-ltb}
-use Rattle.records.specs.Result.{Result, err, ok, pick, require, andThen}
-use Rattle.records.specs.Record.{typeWords, memberWords, typeCount, memberCount}
-use Rattle.records.proofs.ResultLaws.{required, T-true, and-then-ok, ok-inj}
+use Rattle.ir_records.specs.Result.{Result, err, ok, pick, require, andThen}
+use Rattle.ir_records.specs.Record.{typeWords, memberWords, typeCount, memberCount}
+use Rattle.ir_records.proofs.ResultLaws.{required, T-true, and-then-ok, ok-inj}
 use Rattle.spirv_words.specs.Module.{opcode, word, wordCount, isType, isRead, headerOk, headerWords, starts, before, between, count}
 use Rattle.spirv_words.proofs.SearchLaws.{between-next, between-end}
 use Rattle.spirv_ids.specs.Ids.{giver, isConstant, typeNumber}
@@ -24,7 +24,7 @@ use Rattle.spirv_members.proofs.AlignmentLaws.{rows-length}
 use Rattle.spirv_types.specs.Types.{State, Typed, typeAt}
 use Rattle.spirv_instruction.specs.Instruction.{leastWords, toldBy, wordsOk, rowCount, fits, listed, withType, typeRead, otherRead, instruction}
 use Rattle.spirv_instruction.proofs.InstructionLaws.{count-some}
-use Rattle.spirv.specs.Read.{readFrom, none, readModule}
+use Rattle.spirv_read.specs.Read.{readFrom, none, readModule}
 use Rattle.spirv_records.specs.TypesRead.{Among, ReadBefore}
 
 -- ---- lists of instructions

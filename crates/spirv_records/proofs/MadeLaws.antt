@@ -8,10 +8,10 @@ use native.Mathlib.Nat.{le-antisymm}
 use native.Mathlib.Omega.{arith}
 use lib.Dec.{eqb, leb, ltb}
 use borrow.Author.Tests.{eqb-true, eqb-false, leb-true, ltb-true}
-use Rattle.records.specs.Result.{Result, err, ok, pick}
-use Rattle.records.specs.declared.Words.{Words}
-use Rattle.records.specs.Record.{memberCount, scalarKind, vectorKind, matrixKind, arrayKind, structKind}
-use Rattle.alignment.specs.Alignment.{powerOfTwo, most}
+use Rattle.ir_records.specs.Result.{Result, err, ok, pick}
+use Rattle.ir_records.specs.declared.Words.{Words}
+use Rattle.ir_records.specs.Record.{memberCount, scalarKind, vectorKind, matrixKind, arrayKind, structKind}
+use Rattle.proc_alignment.specs.Alignment.{powerOfTwo, most}
 use Rattle.spirv_words.specs.Module.{opcode, word, wordCount, isRead, typeBool, typeInt, typeFloat, typeVector, typeMatrix, typeArray, typeRuntimeArray, typeStruct}
 use Rattle.spirv_members.specs.Members.{isTypeRead, isOther, numberOf, memberCountAt, memberRows, membersUnsupported, membersSound}
 use Rattle.spirv_members.proofs.NumberLaws.{and-true}

@@ -7,31 +7,31 @@ use mathlib.Core.List.{List}
 use Prim.Native.Nat.{ℕ, zero, suc, _+_, _*_, _≤_, _<_}
 use native.Mathlib.Omega.{arith}
 use lib.Dec.{eqb, leb, ltb}
-use Rattle.records.specs.Result.{Result, err, ok, pick, require, andThen}
-use Rattle.records.specs.Record.{Decoded, memberType, memberOffset, memberLocation, memberSource}
-use Rattle.records.specs.Table.{resultAt, outcomeAt, also, firstRefusal}
-use Rattle.records.specs.declared.Outcome.{Outcome}
-use Rattle.records.specs.declared.Outcome.the-variants.{Accepted, Refused}
-use Rattle.records.specs.declared.Leaf.{Leaf}
-use Rattle.records.specs.declared.Leaf.the-variants.{Scalar, Vector, Matrix, CooperativeMatrix, Atomic, RayQuery}
-use Rattle.records.specs.declared.NonData.{NonData}
-use Rattle.records.specs.declared.NonData.the-variants.{Pointer, ValuePointer, Image, Sampler, AccelerationStructure, BindingArray}
-use Rattle.records.specs.declared.TypeInner.{TypeInner}
-use Rattle.records.specs.declared.TypeInner.the-variants.{Plain, Array, RuntimeArray, Struct, Other}
-use Rattle.alignment.specs.Alignment.{most}
-use Rattle.type_methods.specs.TypeMethods.{mostSize, trySize}
-use Rattle.type_alignment.specs.declared.TypeLayout.{TypeLayout}
-use Rattle.type_alignment.specs.TypeAlignment.{alignmentOf}
-use Rattle.type_layout.specs.TypeLayout.{layoutOf}
-use Rattle.flags.specs.Flags.{bit, dataBit, sizedBit, creationResolvedBit, ioShareableBit, isSizedData}
-use Rattle.width.specs.Width.{sint, uint, float, bool, float64, shaderFloat16, shaderInt16, shaderInt64, shaderFloat32Atomic, shaderInt64AtomicMinMax, shaderInt64AtomicAllOps, cooperativeMatrix, rayQuery, rayTracingPipeline, rayHitVertexPosition, dualSourceBlending, integerWidth, floatWidth, checkWidth, integerAtomic, atomicWidth}
-use Rattle.type_flags.specs.TypeFlags.{leafFlags, isFlat, cubeAllowed, isExternalForm, externalAllowed, isBindingBase, isExternalImage}
-use Rattle.type_info.specs.Verdict.{previousOf, distanceOk}
-use Rattle.member_bounds.specs.declared.Bounds.{Bounds}
-use Rattle.member_bounds.specs.MemberBounds.{isArray, isMemberData, isApart, isMemberSized, memberBounds}
+use Rattle.ir_records.specs.Result.{Result, err, ok, pick, require, andThen}
+use Rattle.ir_records.specs.Record.{Decoded, memberType, memberOffset, memberLocation, memberSource}
+use Rattle.ir_records.specs.Table.{resultAt, outcomeAt, also, firstRefusal}
+use Rattle.ir_records.specs.declared.Outcome.{Outcome}
+use Rattle.ir_records.specs.declared.Outcome.the-variants.{Accepted, Refused}
+use Rattle.ir_records.specs.declared.Leaf.{Leaf}
+use Rattle.ir_records.specs.declared.Leaf.the-variants.{Scalar, Vector, Matrix, CooperativeMatrix, Atomic, RayQuery}
+use Rattle.ir_records.specs.declared.NonData.{NonData}
+use Rattle.ir_records.specs.declared.NonData.the-variants.{Pointer, ValuePointer, Image, Sampler, AccelerationStructure, BindingArray}
+use Rattle.ir_records.specs.declared.TypeInner.{TypeInner}
+use Rattle.ir_records.specs.declared.TypeInner.the-variants.{Plain, Array, RuntimeArray, Struct, Other}
+use Rattle.proc_alignment.specs.Alignment.{most}
+use Rattle.proc_type_methods.specs.TypeMethods.{mostSize, trySize}
+use Rattle.proc_type_alignment.specs.declared.TypeLayout.{TypeLayout}
+use Rattle.proc_type_alignment.specs.TypeAlignment.{alignmentOf}
+use Rattle.proc_type_layout.specs.TypeLayout.{layoutOf}
+use Rattle.valid_flags.specs.Flags.{bit, dataBit, sizedBit, creationResolvedBit, ioShareableBit, isSizedData}
+use Rattle.valid_width.specs.Width.{sint, uint, float, bool, float64, shaderFloat16, shaderInt16, shaderInt64, shaderFloat32Atomic, shaderInt64AtomicMinMax, shaderInt64AtomicAllOps, cooperativeMatrix, rayQuery, rayTracingPipeline, rayHitVertexPosition, dualSourceBlending, integerWidth, floatWidth, checkWidth, integerAtomic, atomicWidth}
+use Rattle.valid_type_flags.specs.TypeFlags.{leafFlags, isFlat, cubeAllowed, isExternalForm, externalAllowed, isBindingBase, isExternalImage}
+use Rattle.valid_type_info.specs.Verdict.{previousOf, distanceOk}
+use Rattle.valid_member_bounds.specs.declared.Bounds.{Bounds}
+use Rattle.valid_member_bounds.specs.MemberBounds.{isArray, isMemberData, isApart, isMemberSized, memberBounds}
 use Rattle.valid_blend.specs.Blend.{sourceAt, sourceResult, blendedAfter, otherLocation, sameType, pairResult, structBlend}
-use Rattle.validate_type.specs.ValidateType.{nonDataFlags, flagsOf, judgeCommon}
-use Rattle.valid.specs.Arena.{commonStep, commonAt}
+use Rattle.valid_types.specs.ValidateType.{nonDataFlags, flagsOf, judgeCommon}
+use Rattle.valid_arena.specs.Arena.{commonStep, commonAt}
 use Rattle.spirv_records.specs.TypesRead.{Among}
 use Rattle.spirv_records.specs.Records.{ofTables, InOrder, LaidOut}
 

@@ -10,13 +10,13 @@ use native.Mathlib.Decide.{ℕ-discrete}
 use lib.Dec.{eqb, leb, ltb}
 use lib.ListN.{length, getD}
 use borrow.Author.Tests.{eqb-true, le-leb, lt-ltb}
-use Rattle.records.specs.Result.{Result, ok, require}
-use Rattle.records.specs.Record.{typeWord, typeInner, innerOf, memberCount, memberWords, memberType, memberSource, structMembers, scalarKind, vectorKind, matrixKind, arrayKind, structKind}
-use Rattle.records.specs.Fields.{fieldsOk, baseWithin, sourcesLocated, fieldsAt, recordAt}
-use Rattle.records.proofs.RecordLaws.{sourceless-located, no-rows-located}
-use Rattle.alignment.specs.Alignment.{powerOfTwo, vectorAlignment}
-use Rattle.type_alignment.specs.declared.TypeLayout.{TypeLayout}
-use Rattle.type_alignment.specs.TypeAlignment.{membersAlignment, alignmentOf}
+use Rattle.ir_records.specs.Result.{Result, ok, require}
+use Rattle.ir_records.specs.Record.{typeWord, typeInner, innerOf, memberCount, memberWords, memberType, memberSource, structMembers, scalarKind, vectorKind, matrixKind, arrayKind, structKind}
+use Rattle.ir_records.specs.Fields.{fieldsOk, baseWithin, sourcesLocated, fieldsAt, recordAt}
+use Rattle.ir_records.proofs.RecordLaws.{sourceless-located, no-rows-located}
+use Rattle.proc_alignment.specs.Alignment.{powerOfTwo, vectorAlignment}
+use Rattle.proc_type_alignment.specs.declared.TypeLayout.{TypeLayout}
+use Rattle.proc_type_alignment.specs.TypeAlignment.{membersAlignment, alignmentOf}
 use Rattle.spirv_words.specs.Module.{word, opcode, typeStruct}
 use Rattle.spirv_ids.specs.Ids.{typeNumber}
 use Rattle.spirv_members.specs.Members.{isTypeRead, numberOf, memberNumber, memberCountAt, memberRows, memberSound, membersSound}

@@ -6,9 +6,9 @@ use Prim.Native.Nat.{ℕ, _+_, _*_, _/_, _≤_, _<_}
 use native.Mathlib.Omega.{arith}
 use lib.ListN.{length, getD, take, drop, length-append, List·getD-append}
 use lib.Seq.{getD-append-add, take-at, drop-at}
-use Rattle.records.specs.declared.Words.{Words}
-use Rattle.records.specs.Record.{typeWords, memberWords, typeCount, memberCount, typeWord, typeInner, innerIn, innerOf, structMembers, structKind}
-use Rattle.records.proofs.RecordLaws.{members-no-struct, members-part}
+use Rattle.ir_records.specs.declared.Words.{Words}
+use Rattle.ir_records.specs.Record.{typeWords, memberWords, typeCount, memberCount, typeWord, typeInner, innerIn, innerOf, structMembers, structKind}
+use Rattle.ir_records.proofs.RecordLaws.{members-no-struct, members-part}
 use Rattle.spirv_words.specs.Module.{opcode, typeStruct}
 use Rattle.spirv_ids.specs.Ids.{typeNumber}
 use Rattle.spirv_members.specs.Members.{memberCountAt, memberRows}

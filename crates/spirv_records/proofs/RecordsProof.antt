@@ -10,21 +10,21 @@ use lib.Dec.{T, eqb, leb}
 use lib.ListN.{length, take, drop}
 use lib.Seq.{take-at}
 use borrow.Author.Tests.{eq-eqb, le-leb}
-use Rattle.records.specs.Result.{Result, err, ok, pick}
-use Rattle.records.specs.Record.{decoded, typeWords, memberWords, typeCount, memberCount, typeInner, structMembers}
-use Rattle.records.specs.Fields.{mostTypes, mostMembers, rowWords, tablesFit, capabilitiesKnown, recordAt}
-use Rattle.records.specs.Table.{table, resultAt, also, firstRefusal}
-use Rattle.records.specs.declared.Outcome.{Outcome}
-use Rattle.records.specs.declared.Outcome.the-variants.{Accepted, Refused}
-use Rattle.records.proofs.ResultLaws.{T-true}
-use Rattle.records.proofs.TableLaws.{accepted-all}
-use Rattle.layouter.specs.Layouter.{noLayout, layoutStep, layoutAt, layoutOutcome, layoutAnswer}
-use Rattle.valid.specs.Arena.{commonAt, judgeOutcome, arenaOutcome, arenaAnswer}
+use Rattle.ir_records.specs.Result.{Result, err, ok, pick}
+use Rattle.ir_records.specs.Record.{decoded, typeWords, memberWords, typeCount, memberCount, typeInner, structMembers}
+use Rattle.ir_records.specs.Fields.{mostTypes, mostMembers, rowWords, tablesFit, capabilitiesKnown, recordAt}
+use Rattle.ir_records.specs.Table.{table, resultAt, also, firstRefusal}
+use Rattle.ir_records.specs.declared.Outcome.{Outcome}
+use Rattle.ir_records.specs.declared.Outcome.the-variants.{Accepted, Refused}
+use Rattle.ir_records.proofs.ResultLaws.{T-true}
+use Rattle.ir_records.proofs.TableLaws.{accepted-all}
+use Rattle.proc_layouter.specs.Layouter.{noLayout, layoutStep, layoutAt, layoutOutcome, layoutAnswer}
+use Rattle.valid_arena.specs.Arena.{commonAt, judgeOutcome, arenaOutcome, arenaAnswer}
 use Rattle.spirv_ids.specs.Ids.{typeNumber}
 use Rattle.spirv_types.specs.Types.{State}
 use Rattle.spirv_instruction.specs.Instruction.{typesRoom, membersRoom}
-use Rattle.spirv.specs.declared.Section.the-variants.{Read, Refused as NotRead}
-use Rattle.spirv.specs.Read.{readModule, readInto, sectionOf, typesAfter, membersAfter}
+use Rattle.spirv_read.specs.declared.Section.the-variants.{Read, Refused as NotRead}
+use Rattle.spirv_read.specs.Read.{readModule, readInto, sectionOf, typesAfter, membersAfter}
 use Rattle.spirv_records.specs.Records.{InOrder, LaidOut, typesCut, membersCut, RecordsInOrder}
 use Rattle.spirv_records.proofs.HeldLaws.{Held, read-held}
 use Rattle.spirv_records.proofs.OrderLaws.{Sound, sound-own, Ordered, ordered-own}

@@ -6,14 +6,14 @@ use mathlib.Core.List.{List, [], _∷_}
 use Prim.Native.Nat.{ℕ, _*_, _≤_}
 use lib.Dec.{T}
 use lib.ListN.{length, take}
-use Rattle.records.specs.Record.{typeWords, memberWords}
-use Rattle.records.specs.Fields.{rowWords, capabilitiesKnown}
-use Rattle.records.specs.declared.Outcome.{Outcome}
-use Rattle.records.specs.declared.Outcome.the-variants.{Accepted, Refused}
-use Rattle.layouter.specs.Layouter.{layoutAnswer}
-use Rattle.valid.specs.Arena.{arenaAnswer}
-use Rattle.spirv.specs.declared.Section.the-variants.{Read}
-use Rattle.spirv.specs.Read.{readInto, sectionOf, typesAfter, membersAfter}
+use Rattle.ir_records.specs.Record.{typeWords, memberWords}
+use Rattle.ir_records.specs.Fields.{rowWords, capabilitiesKnown}
+use Rattle.ir_records.specs.declared.Outcome.{Outcome}
+use Rattle.ir_records.specs.declared.Outcome.the-variants.{Accepted, Refused}
+use Rattle.proc_layouter.specs.Layouter.{layoutAnswer}
+use Rattle.valid_arena.specs.Arena.{arenaAnswer}
+use Rattle.spirv_read.specs.declared.Section.the-variants.{Read}
+use Rattle.spirv_read.specs.Read.{readInto, sectionOf, typesAfter, membersAfter}
 use Rattle.spirv_records.specs.TypesRead.{Among}
 
 -- the numbers of tables that are not in order

@@ -7,7 +7,7 @@ use mathlib.Core.List.{List, [], _∷_}
 use Prim.Native.Nat.{ℕ, _/_}
 use lib.Dec.{eqb}
 use lib.ListN.{length}
-use Rattle.records.specs.Result.{pick}
+use Rattle.ir_records.specs.Result.{pick}
 use Rattle.spirv_words.specs.Module.{opcode, word, isRead, typeBool, before}
 
 -- one of the list

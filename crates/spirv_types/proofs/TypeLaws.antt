@@ -9,13 +9,13 @@ use native.Mathlib.Decide.{decLe}
 use lib.Dec.{eqb, leb}
 use lib.ListN.{length}
 use borrow.Author.Tests.{eqb-true}
-use Rattle.records.specs.Result.{err, ok, require}
-use Rattle.records.specs.declared.Words.{Words}
-use Rattle.records.specs.Record.{memberCount, innerOf, structKind}
-use Rattle.records.specs.Serving.{recordWords}
-use Rattle.alignment.specs.Alignment.{vectorAlignment, roundUp, most}
-use Rattle.alignment.proofs.PowerLaws.{vector-within}
-use Rattle.type_alignment.specs.TypeAlignment.{alignmentOf}
+use Rattle.ir_records.specs.Result.{err, ok, require}
+use Rattle.ir_records.specs.declared.Words.{Words}
+use Rattle.ir_records.specs.Record.{memberCount, innerOf, structKind}
+use Rattle.ir_records.specs.Serving.{recordWords}
+use Rattle.proc_alignment.specs.Alignment.{vectorAlignment, roundUp, most}
+use Rattle.proc_alignment.proofs.PowerLaws.{vector-within}
+use Rattle.proc_type_alignment.specs.TypeAlignment.{alignmentOf}
 use Rattle.spirv_words.specs.Module.{headerWords, before, first}
 use Rattle.spirv_words.specs.Decorations.{isInteger}
 use Rattle.spirv_words.proofs.SearchLaws.{found-below}

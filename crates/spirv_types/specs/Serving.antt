@@ -1,6 +1,6 @@
 -- Serves the contracts of functions inside the library: it adds nothing to what the other files say, and a reader may skip it.
 -- Assumes nothing.
-use Rattle.records.specs.Result.{Result, err, ok}
+use Rattle.ir_records.specs.Result.{Result, err, ok}
 use Rattle.spirv_types.specs.declared.Made.{Made}
 use Rattle.spirv_types.specs.declared.Made.the-variants as made
 use Rattle.spirv_types.specs.Types.{Typed}

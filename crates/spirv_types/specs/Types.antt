@@ -5,11 +5,11 @@ use mathlib.Core.List.{List, []}
 use Prim.Native.Nat.{ℕ, _*_, _/_}
 use lib.Dec.{eqb, leb, ltb}
 use lib.ListN.{length}
-use Rattle.records.specs.Result.{Result, ok, pick, require, valueOr}
-use Rattle.records.specs.declared.Words.{Words}
-use Rattle.records.specs.Record.{typeWord, memberCount, innerIn, scalarKind, vectorKind, matrixKind, arrayKind, structKind}
-use Rattle.alignment.specs.Alignment.{roundUp, most}
-use Rattle.type_alignment.specs.TypeAlignment.{alignmentOf}
+use Rattle.ir_records.specs.Result.{Result, ok, pick, require, valueOr}
+use Rattle.ir_records.specs.declared.Words.{Words}
+use Rattle.ir_records.specs.Record.{typeWord, memberCount, innerIn, scalarKind, vectorKind, matrixKind, arrayKind, structKind}
+use Rattle.proc_alignment.specs.Alignment.{roundUp, most}
+use Rattle.proc_type_alignment.specs.TypeAlignment.{alignmentOf}
 use Rattle.spirv_words.specs.Module.{wordCount, opcode, word, typeBool, typeInt, typeFloat, typeVector, typeMatrix, typeArray, typeRuntimeArray, before, first, only}
 use Rattle.spirv_words.specs.Decorations.{isStrideOf, isMisplaced}
 use Rattle.spirv_ids.specs.declared.Sort.{Sort}

@@ -1,19 +1,19 @@
 // The record of one type that is read, from the words of a SPIR-V module, and its refusals 29 and 30.
-use records::Words;
+use ir_records::Words;
+use proc_type_alignment::Aligned;
 use spirv_ids::Sort;
 use spirv_words::Wanted;
-use type_alignment::Aligned;
 ghost use mathlib.Core.Path.{_≡_};
 ghost use mathlib.Core.Bool.{true, false, _&&_, _||_};
 ghost use mathlib.Core.List.{List};
 ghost use Prim.Native.Nat.{ℕ, _≤_, _<_};
 ghost use lib.Dec.{eqb, leb, ltb};
 ghost use lib.ListN.{length};
-ghost use Rattle.records.specs.Result.{ok, pick, require, valueOr};
-ghost use Rattle.records.specs.Record.{memberCount, structKind};
-ghost use Rattle.alignment.specs.Alignment.{roundUp, most};
-ghost use Rattle.type_alignment.specs.TypeAlignment.{widthAlignment, baseAlignment};
-ghost use Rattle.type_alignment.specs.Serving.{alignedResult};
+ghost use Rattle.ir_records.specs.Result.{ok, pick, require, valueOr};
+ghost use Rattle.ir_records.specs.Record.{memberCount, structKind};
+ghost use Rattle.proc_alignment.specs.Alignment.{roundUp, most};
+ghost use Rattle.proc_type_alignment.specs.TypeAlignment.{widthAlignment, baseAlignment};
+ghost use Rattle.proc_type_alignment.specs.Serving.{alignedResult};
 ghost use Rattle.spirv_ids.specs.Ids.{integerBefore, typeNumber};
 ghost use Rattle.spirv_ids.specs.Places.{GivesFrom};
 ghost use Rattle.spirv_words.specs.Module.{word};
@@ -70,7 +70,7 @@ fn leaf_type(unsupported: bool, sound: bool, words: Words, factor: u32, width: u
         return Made::Refused(UNSUPPORTED);
     }
     if sound {
-        let aligned = type_alignment::leaf_alignment(factor, width);
+        let aligned = proc_type_alignment::leaf_alignment(factor, width);
         return aligned_type(words, aligned);
     }
     Made::Refused(UNSOUND)
@@ -168,7 +168,7 @@ fn vector_type(words: &[u32], from: usize, at: usize, types: &[u32], fresh: bool
     let id = spirv_words::word_of(words, at, 2);
     let sort = spirv_ids::sort_of(words, from, at, id);
     let number = spirv_members::number_of(sort);
-    let base = records::record_words(types, number);
+    let base = ir_records::record_words(types, number);
     let unsupported = !parts_ok(n) | spirv_members::is_other(sort);
     let sound = fresh & spirv_members::is_type_read(sort) & (base.kind == 0);
     let vector = Words {
@@ -179,7 +179,7 @@ fn vector_type(words: &[u32], from: usize, at: usize, types: &[u32], fresh: bool
         d: 0,
         e: 0,
     };
-    let factor = alignment::vector_alignment(n);
+    let factor = proc_alignment::vector_alignment(n);
     leaf_type(unsupported, sound, vector, factor, base.b)
 }
 
@@ -192,7 +192,7 @@ fn matrix_type(words: &[u32], from: usize, at: usize, types: &[u32], fresh: bool
     let id = spirv_words::word_of(words, at, 2);
     let sort = spirv_ids::sort_of(words, from, at, id);
     let number = spirv_members::number_of(sort);
-    let base = records::record_words(types, number);
+    let base = ir_records::record_words(types, number);
     let unsupported = !parts_ok(n) | spirv_members::is_other(sort);
     let sound = fresh & spirv_members::is_type_read(sort) & (base.kind == 1);
     let matrix = Words {
@@ -203,7 +203,7 @@ fn matrix_type(words: &[u32], from: usize, at: usize, types: &[u32], fresh: bool
         d: base.c,
         e: 0,
     };
-    let factor = alignment::vector_alignment(base.a);
+    let factor = proc_alignment::vector_alignment(base.a);
     leaf_type(unsupported, sound, matrix, factor, base.c)
 }
 
@@ -288,7 +288,7 @@ fn array_type(words: &[u32], from: usize, at: usize, alignments: &[u32], fresh: 
     let base = spirv_members::number_of(sort);
     let unsupported = spirv_members::is_other(sort) | spirv_members::is_other(counter);
     let read = spirv_members::is_type_read(sort);
-    let sound = fresh & read & (0 < place) & (0 < n) & (size <= alignment::MOST);
+    let sound = fresh & read & (0 < place) & (0 < n) & (size <= proc_alignment::MOST);
     let array = Words {
         kind: 7,
         a: base,
@@ -334,11 +334,11 @@ fn spanned_type(end: u64, alignment: u32, first: u32, n: u32) -> Made
     requires { ⌜ 0 < alignment ⌝ }
     ensures { λ r. ⌜ madeResult r ≡ require (leb (roundUp alignment end) most) 30 0 0 (ok (record { words = wordsOf structKind first n (roundUp alignment end) 0; alignment = alignment })) ⌝ }
 {
-    if alignment::MOST < end {
+    if proc_alignment::MOST < end {
         return Made::Refused(UNSOUND);
     }
-    let span = alignment::round_up(alignment, end as u32);
-    if alignment::MOST < span {
+    let span = proc_alignment::round_up(alignment, end as u32);
+    if proc_alignment::MOST < span {
         return Made::Refused(UNSOUND);
     }
     let words = Words {

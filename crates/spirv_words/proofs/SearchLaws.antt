@@ -10,7 +10,7 @@ use native.Mathlib.Omega.{arith}
 use native.Mathlib.Decide.{decLe}
 use lib.Dec.{eqb, ltb}
 use borrow.Author.Tests.{lt-ltb, le-ltb, ltb-true}
-use Rattle.records.specs.Result.{pick}
+use Rattle.ir_records.specs.Result.{pick}
 use Rattle.spirv_words.specs.Module.{wordCount, headerWords, starts, between, before, first, only, count}
 
 and-true : (a b : Bool) → (a && b) ≡ true → (a ≡ true) × (b ≡ true)

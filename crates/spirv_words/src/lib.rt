@@ -59,7 +59,7 @@ pub fn word_of(words: &[u32], at: usize, k: usize) -> u32
     ensures { λ r. ⌜ r ≡ word (now (words .entry)) at k ⌝ }
 {
     let place = at + k;
-    records::word_at(words, place)
+    ir_records::word_at(words, place)
 }
 
 // The upper 16 bits of a word.

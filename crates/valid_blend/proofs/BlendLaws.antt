@@ -13,16 +13,16 @@ use native.Mathlib.Omega.{arith}
 use lib.Bits.{bitOr, or-shr, or-step}
 use lib.Dec.{T, eqb, leb, ltb}
 use borrow.Author.Tests.{eq-eqb, ne-eqb}
-use Rattle.records.specs.Result.{Result, err, ok, pick, require, andThen}
-use Rattle.records.specs.Record.{memberType, memberOffset, memberSource, memberLocation, Sourceless}
-use Rattle.records.specs.declared.TypeInner.{TypeInner}
-use Rattle.records.proofs.ResultLaws.{required, require-twice, and-then-ok, ok-inj, T-true}
-use Rattle.flags.specs.Flags.{bit, ioShareableBit, ioShareableFlag}
-use Rattle.alignment.specs.Alignment.{most}
-use Rattle.type_info.specs.declared.Previous.{Previous}
-use Rattle.type_info.specs.Verdict.{previousOf, distanceOk}
-use Rattle.member_bounds.specs.declared.Bounds.{Bounds}
-use Rattle.member_bounds.specs.MemberBounds.{isArray, isMemberData, isApart, isMemberSized, memberBounds, boundsAfter}
+use Rattle.ir_records.specs.Result.{Result, err, ok, pick, require, andThen}
+use Rattle.ir_records.specs.Record.{memberType, memberOffset, memberSource, memberLocation, Sourceless}
+use Rattle.ir_records.specs.declared.TypeInner.{TypeInner}
+use Rattle.ir_records.proofs.ResultLaws.{required, require-twice, and-then-ok, ok-inj, T-true}
+use Rattle.valid_flags.specs.Flags.{bit, ioShareableBit, ioShareableFlag}
+use Rattle.proc_alignment.specs.Alignment.{most}
+use Rattle.valid_type_info.specs.declared.Previous.{Previous}
+use Rattle.valid_type_info.specs.Verdict.{previousOf, distanceOk}
+use Rattle.valid_member_bounds.specs.declared.Bounds.{Bounds}
+use Rattle.valid_member_bounds.specs.MemberBounds.{isArray, isMemberData, isApart, isMemberSized, memberBounds, boundsAfter}
 use Rattle.valid_blend.specs.Blend.{sourceAt, sourceRules, sourceResult, sourcesAfter, blendedAfter, otherLocation, sameType, pairOf, pairResult, structBlend}
 use Rattle.valid_blend.specs.Serving.{sourcesBefore, blendedFlags}
 

@@ -6,18 +6,18 @@ use mathlib.Core.List.{List}
 use Prim.Native.Nat.{ℕ, zero, suc}
 use lib.Bits.{bitOr}
 use lib.Dec.{eqb, leb, ltb}
-use Rattle.records.specs.Result.{Result, err, ok, pick, require, andThen}
-use Rattle.records.specs.Record.{memberType, memberOffset, memberLocation, memberSource, structKind}
-use Rattle.records.specs.declared.Words.{Words}
-use Rattle.records.specs.declared.Leaf.{Leaf}
-use Rattle.records.specs.declared.Leaf.the-variants.{Scalar, Vector, Matrix, CooperativeMatrix, Atomic, RayQuery}
-use Rattle.records.specs.declared.TypeInner.{TypeInner}
-use Rattle.records.specs.declared.TypeInner.the-variants.{Plain, Array, RuntimeArray, Struct, Other}
-use Rattle.flags.specs.Flags.{bit, startingFlags, ioShareableBit, ioShareableFlag}
-use Rattle.width.specs.Width.{dualSourceBlending}
-use Rattle.type_info.specs.Verdict.{previousOf}
-use Rattle.member_bounds.specs.declared.Bounds.{Bounds}
-use Rattle.member_bounds.specs.MemberBounds.{isMemberData, memberBounds}
+use Rattle.ir_records.specs.Result.{Result, err, ok, pick, require, andThen}
+use Rattle.ir_records.specs.Record.{memberType, memberOffset, memberLocation, memberSource, structKind}
+use Rattle.ir_records.specs.declared.Words.{Words}
+use Rattle.ir_records.specs.declared.Leaf.{Leaf}
+use Rattle.ir_records.specs.declared.Leaf.the-variants.{Scalar, Vector, Matrix, CooperativeMatrix, Atomic, RayQuery}
+use Rattle.ir_records.specs.declared.TypeInner.{TypeInner}
+use Rattle.ir_records.specs.declared.TypeInner.the-variants.{Plain, Array, RuntimeArray, Struct, Other}
+use Rattle.valid_flags.specs.Flags.{bit, startingFlags, ioShareableBit, ioShareableFlag}
+use Rattle.valid_width.specs.Width.{dualSourceBlending}
+use Rattle.valid_type_info.specs.Verdict.{previousOf}
+use Rattle.valid_member_bounds.specs.declared.Bounds.{Bounds}
+use Rattle.valid_member_bounds.specs.MemberBounds.{isMemberData, memberBounds}
 
 -- ---- one member
 -- the number plus one of the last of the first j members whose blend source is stored as this word; 0 for none

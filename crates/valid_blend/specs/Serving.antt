@@ -4,8 +4,8 @@ use mathlib.Core.Bool.{Bool}
 use mathlib.Core.List.{List}
 use Prim.Native.Nat.{ℕ, suc}
 use lib.Dec.{eqb}
-use Rattle.records.specs.Result.{Result, err, ok, pick, andThen}
-use Rattle.records.specs.declared.TypeInner.{TypeInner}
+use Rattle.ir_records.specs.Result.{Result, err, ok, pick, andThen}
+use Rattle.ir_records.specs.declared.TypeInner.{TypeInner}
 use Rattle.valid_blend.specs.declared.Source.{Source}
 use Rattle.valid_blend.specs.declared.Source.the-variants as source
 use Rattle.valid_blend.specs.declared.Blend.{Blend}

@@ -1,15 +1,15 @@
 // The blend sources of a struct, of validate_type in naga's valid/type.rs.
-use records::Leaf;
-use records::TypeInner;
-use records::Words;
+use ir_records::Leaf;
+use ir_records::TypeInner;
+use ir_records::Words;
 ghost use mathlib.Core.Path.{_≡_};
 ghost use mathlib.Core.Bool.{false};
 ghost use Prim.Native.Nat.{ℕ, _+_, _*_, _≤_, _<_};
 ghost use lib.ListN.{length};
-ghost use Rattle.records.specs.Record.{memberWords, memberCount, typeInner, memberType, Sourceless};
-ghost use Rattle.flags.specs.Flags.{bit};
-ghost use Rattle.width.specs.Width.{dualSourceBlending};
-ghost use Rattle.type_info.specs.TypeInfo.{rowsIn, rowFlags};
+ghost use Rattle.ir_records.specs.Record.{memberWords, memberCount, typeInner, memberType, Sourceless};
+ghost use Rattle.valid_flags.specs.Flags.{bit};
+ghost use Rattle.valid_width.specs.Width.{dualSourceBlending};
+ghost use Rattle.valid_type_info.specs.TypeInfo.{rowsIn, rowFlags};
 ghost use Rattle.valid_blend.specs.Blend.{sourceAt, sourceResult, sourcesAfter, otherLocation, leafWords, innerWords, sameWords, sameType, pairOf, structBlend};
 ghost use Rattle.valid_blend.specs.Serving.{sourcesBefore, blendedFlags, sourceAnswer, blendAnswer};
 
@@ -32,7 +32,7 @@ pub fn source_at(part: &[u32], word: u32, n: u32) -> u32
     let mut j = n;
     while j > 0 {
         let before = j - 1;
-        if records::own_source(part, before as usize) == word {
+        if ir_records::own_source(part, before as usize) == word {
             return j;
         }
         j = before;
@@ -48,8 +48,8 @@ fn other_location(part: &[u32], n: u32) -> bool
     let mut j = n;
     while j > 0 {
         let before = j - 1;
-        let source = records::own_source(part, before as usize);
-        let location = records::own_location(part, before as usize);
+        let source = ir_records::own_source(part, before as usize);
+        let location = ir_records::own_location(part, before as usize);
         if (source == 0) & (0 < location) {
             return true;
         }
@@ -63,15 +63,15 @@ fn source_of(dual: bool, part: &[u32], j: u32) -> Source
     requires { ⌜ j * memberWords + memberWords ≤ length (now part) ⌝ }
     ensures { λ r. ⌜ sourceAnswer r ≡ sourceResult dual (now (part .entry)) j ⌝ }
 {
-    let word = records::own_source(part, j as usize);
-    let location = records::own_location(part, j as usize);
+    let word = ir_records::own_source(part, j as usize);
+    let location = ir_records::own_location(part, j as usize);
     if word == 0 {
         return Source::Fine;
     }
     if !dual {
         return Source::Refused {
             number: 8,
-            detail: width::DUAL_SOURCE_BLENDING,
+            detail: valid_width::DUAL_SOURCE_BLENDING,
         };
     }
     if !((location == 1) & (word <= 2)) {
@@ -166,8 +166,8 @@ fn same_words(v: Words, w: Words) -> bool
 fn same_type(types: &[u32], s: u32, t: u32) -> bool
     ensures { λ r. ⌜ r ≡ sameType (typeInner (now (types .entry)) s) (typeInner (now (types .entry)) t) ⌝ }
 {
-    let v = inner_words(records::type_inner(types, s));
-    let w = inner_words(records::type_inner(types, t));
+    let v = inner_words(ir_records::type_inner(types, s));
+    let w = inner_words(ir_records::type_inner(types, t));
     same_words(v, w)
 }
 
@@ -190,21 +190,21 @@ pub fn pair_of(
             detail: 3,
         };
     }
-    let s = records::member_type(part, a);
-    let t = records::member_type(part, b);
+    let s = ir_records::member_type(part, a);
+    let t = ir_records::member_type(part, b);
     if !same_type(types, s, t) {
         return Blend::Refused {
             number: 34,
             detail: 4,
         };
     }
-    if !flags::is_io_shareable(own) {
+    if !valid_flags::is_io_shareable(own) {
         return Blend::Refused {
             number: 34,
             detail: 5,
         };
     }
-    Blend::Flags(flags | flags::IO_SHAREABLE)
+    Blend::Flags(flags | valid_flags::IO_SHAREABLE)
 }
 
 // After the last member: number 34 with detail 3 to 6, or the flags.
@@ -233,8 +233,8 @@ fn struct_blend(types: &[u32], rows: &[u32], i: u32, part: &[u32], count: u32, f
     }
     let a = first - 1;
     let b = second - 1;
-    let s = records::member_type(part, a);
-    let own = rows::own_word(rows, s, rows::FLAGS);
+    let s = ir_records::member_type(part, a);
+    let own = ir_rows::own_word(rows, s, ir_rows::FLAGS);
     pair_of(types, own, part, count, flags, a, b)
 }
 
@@ -258,7 +258,7 @@ pub fn blended_flags(
     if !sourced {
         return Blend::Flags(flags);
     }
-    let dual = flags::capable(capabilities, width::DUAL_SOURCE_BLENDING);
+    let dual = valid_flags::capable(capabilities, valid_width::DUAL_SOURCE_BLENDING);
     match sources_of(dual, part, count) {
         Source::Fine => struct_blend(types, rows, i, part, count, flags),
         Source::Refused { number, detail } => Blend::Refused { number, detail },
@@ -281,7 +281,7 @@ pub fn source_before(
     if !sourced {
         return Source::Fine;
     }
-    let dual = flags::capable(capabilities, width::DUAL_SOURCE_BLENDING);
+    let dual = valid_flags::capable(capabilities, valid_width::DUAL_SOURCE_BLENDING);
     if number == 17 {
         return sources_of(dual, part, member);
     }

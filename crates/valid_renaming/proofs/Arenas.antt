@@ -7,32 +7,32 @@ use mathlib.Core.List.{List, [], _∷_}
 use Prim.Native.Nat.{ℕ, zero, suc, _<_}
 use native.Mathlib.Omega.{arith}
 use lib.ListN.{getD}
-use Rattle.records.specs.Record.{Decoded, decoded, innerOf, typeInner, structMembers}
-use Rattle.records.specs.Fields.{tablesFit, fieldsOk, locatedTo, recordAt}
-use Rattle.records.specs.Table.{resultAt, valueAt}
-use Rattle.records.specs.declared.Outcome.the-variants.{Accepted}
-use Rattle.records.specs.declared.TypeInner.the-variants.{Struct}
-use Rattle.type_methods.specs.TypeMethods.{trySize}
-use Rattle.type_alignment.specs.TypeAlignment.{membersAlignment, alignmentOf}
-use Rattle.type_layout.specs.TypeLayout.{layoutOf}
-use Rattle.layouter.specs.Layouter.{layoutOutcome}
-use Rattle.width.specs.Width.{integerWidth, floatWidth, checkWidth}
-use Rattle.type_flags.specs.TypeFlags.{leafFlags, isStruct}
-use Rattle.type_info.specs.TypeInfo.{wordsOf}
-use Rattle.type_info.specs.declared.UniformRule.the-variants.{Older}
-use Rattle.type_info.specs.Verdict.{leastFor, arrayVerdict, shareVerdict, memberVerdict, distanceVerdict, distanceOk, unsizedVerdict, spanVerdict, previousOf}
-use Rattle.member_bounds.specs.MemberBounds.{memberBounds}
+use Rattle.ir_records.specs.Record.{Decoded, decoded, innerOf, typeInner, structMembers}
+use Rattle.ir_records.specs.Fields.{tablesFit, fieldsOk, locatedTo, recordAt}
+use Rattle.ir_records.specs.Table.{resultAt, valueAt}
+use Rattle.ir_records.specs.declared.Outcome.the-variants.{Accepted}
+use Rattle.ir_records.specs.declared.TypeInner.the-variants.{Struct}
+use Rattle.proc_type_methods.specs.TypeMethods.{trySize}
+use Rattle.proc_type_alignment.specs.TypeAlignment.{membersAlignment, alignmentOf}
+use Rattle.proc_type_layout.specs.TypeLayout.{layoutOf}
+use Rattle.proc_layouter.specs.Layouter.{layoutOutcome}
+use Rattle.valid_width.specs.Width.{integerWidth, floatWidth, checkWidth}
+use Rattle.valid_type_flags.specs.TypeFlags.{leafFlags, isStruct}
+use Rattle.valid_type_info.specs.TypeInfo.{wordsOf}
+use Rattle.valid_type_info.specs.declared.UniformRule.the-variants.{Older}
+use Rattle.valid_type_info.specs.Verdict.{leastFor, arrayVerdict, shareVerdict, memberVerdict, distanceVerdict, distanceOk, unsizedVerdict, spanVerdict, previousOf}
+use Rattle.valid_member_bounds.specs.MemberBounds.{memberBounds}
 use Rattle.valid_blend.specs.Blend.{sourceAt, sourceResult, blendedAfter, structBlend}
-use Rattle.member_rules.specs.MemberRules.{uniformAfter, storageAfter, immediatesAfter}
-use Rattle.validate_type.specs.ValidateType.{nonDataFlags, flagsOf, uniformOf, storageOf, immediatesOf, rowOf, judge, judgeCommon}
-use Rattle.valid.specs.Arena.{row, judgeOutcome, arenaOutcome, arena}
-use Rattle.valid.proofs.ArenaLaws.{accepted-types}
-use Rattle.slots.specs.declared.Slots.the-variants.{Mask}
-use Rattle.slots.specs.Slots.{covers, coversAll, maskOf, rangeSlots}
-use Rattle.type_slots.specs.Walk.{membersSlots, slotsOf, slotsAt}
-use Rattle.steps.specs.Steps.{stepOf}
-use Rattle.descent.specs.declared.Place.the-variants.{At}
-use Rattle.descent.specs.Place.{placeOf}
+use Rattle.valid_member_rules.specs.MemberRules.{uniformAfter, storageAfter, immediatesAfter}
+use Rattle.valid_types.specs.ValidateType.{nonDataFlags, flagsOf, uniformOf, storageOf, immediatesOf, rowOf, judge, judgeCommon}
+use Rattle.valid_arena.specs.Arena.{row, judgeOutcome, arenaOutcome, arena}
+use Rattle.valid_arena.proofs.ArenaLaws.{accepted-types}
+use Rattle.immediates_ranges.specs.declared.Slots.the-variants.{Mask}
+use Rattle.immediates_ranges.specs.Slots.{covers, coversAll, maskOf, rangeSlots}
+use Rattle.immediates_walk.specs.Walk.{membersSlots, slotsOf, slotsAt}
+use Rattle.place_steps.specs.Steps.{stepOf}
+use Rattle.place_descent.specs.declared.Place.the-variants.{At}
+use Rattle.place_descent.specs.Place.{placeOf}
 use Rattle.valid_renaming.specs.Renaming.{Reaches, renamedInner, MemberAgrees, Agree, RecordsAgree, ReachedAgree, renamedRow}
 use Rattle.valid_renaming.proofs.ReachLaws.{reaches-earlier}
 

@@ -6,10 +6,10 @@ use mathlib.Core.List.{List}
 use Prim.Native.Nat.{ℕ, zero, suc, _≤_, _<_}
 use native.Mathlib.Nat.{le-refl}
 use native.Mathlib.Omega.{arith}
-use Rattle.records.specs.Result.{ok}
-use Rattle.records.specs.Record.{memberSource}
-use Rattle.records.specs.declared.TypeInner.{TypeInner}
-use Rattle.records.proofs.ResultLaws.{ok-inj}
+use Rattle.ir_records.specs.Result.{ok}
+use Rattle.ir_records.specs.Record.{memberSource}
+use Rattle.ir_records.specs.declared.TypeInner.{TypeInner}
+use Rattle.ir_records.proofs.ResultLaws.{ok-inj}
 use Rattle.valid_blend.specs.Blend.{sourceAt, otherLocation, pairResult, structBlend}
 use Rattle.valid_blend.proofs.BlendLaws.{pair-flags}
 

@@ -4,18 +4,18 @@ use mathlib.Core.Path.{_≡_, refl, sym, _∙_, ap}
 use mathlib.Core.List.{List}
 use Prim.Native.Nat.{ℕ, _<_}
 use borrow.Author.Tests.{lt-ltb}
-use Rattle.records.specs.Record.{decoded, typeCount}
-use Rattle.records.specs.declared.Outcome.the-variants.{Accepted}
-use Rattle.valid.specs.Arena.{arenaAnswer}
-use Rattle.valid.proofs.WordLaws.{row-left}
-use Rattle.slots.specs.Slots.{partAnswer}
-use Rattle.type_slots.specs.Walk.{slotsAt}
-use Rattle.immediates.specs.Immediates.{slotsAnswer}
-use Rattle.descent.specs.declared.Place.{Place}
-use Rattle.descent.specs.declared.Place.the-variants.{At, NoPlace}
-use Rattle.descent.specs.Place.{placeOf}
-use Rattle.place.specs.Place.{placeAnswer, lookupAnswer}
-use Rattle.place.proofs.LookupLaws.{answer-accepted}
+use Rattle.ir_records.specs.Record.{decoded, typeCount}
+use Rattle.ir_records.specs.declared.Outcome.the-variants.{Accepted}
+use Rattle.valid_arena.specs.Arena.{arenaAnswer}
+use Rattle.valid_arena.proofs.WordLaws.{row-left}
+use Rattle.immediates_ranges.specs.Slots.{partAnswer}
+use Rattle.immediates_walk.specs.Walk.{slotsAt}
+use Rattle.immediates_slots.specs.Immediates.{slotsAnswer}
+use Rattle.place_descent.specs.declared.Place.{Place}
+use Rattle.place_descent.specs.declared.Place.the-variants.{At, NoPlace}
+use Rattle.place_descent.specs.Place.{placeOf}
+use Rattle.place_lookup.specs.Place.{placeAnswer, lookupAnswer}
+use Rattle.place_lookup.proofs.LookupLaws.{answer-accepted}
 use Rattle.valid_renaming.specs.Renaming.{itself, renamedRow, renamedPlace}
 use Rattle.valid_renaming.specs.Calls.{renamedFound, CallsRenaming}
 use Rattle.valid_renaming.proofs.RenamingProof.{renaming}

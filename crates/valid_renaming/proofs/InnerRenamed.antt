@@ -2,15 +2,15 @@
 -- Assumes nothing.
 use mathlib.Core.Path.{_≡_, refl}
 use Prim.Native.Nat.{ℕ}
-use Rattle.records.specs.declared.NonData.{NonData}
-use Rattle.records.specs.declared.NonData.the-variants.{Pointer, ValuePointer, Image, Sampler, AccelerationStructure, BindingArray}
-use Rattle.records.specs.declared.TypeInner.{TypeInner}
-use Rattle.records.specs.declared.TypeInner.the-variants.{Plain, Array, RuntimeArray, Struct, Other}
-use Rattle.type_methods.specs.TypeMethods.{nonDataSize}
-use Rattle.type_flags.specs.TypeFlags.{bindingArrayOf}
-use Rattle.type_info.specs.Verdict.{structAt}
-use Rattle.member_bounds.specs.MemberBounds.{isArray}
-use Rattle.steps.specs.Steps.{isLeaf}
+use Rattle.ir_records.specs.declared.NonData.{NonData}
+use Rattle.ir_records.specs.declared.NonData.the-variants.{Pointer, ValuePointer, Image, Sampler, AccelerationStructure, BindingArray}
+use Rattle.ir_records.specs.declared.TypeInner.{TypeInner}
+use Rattle.ir_records.specs.declared.TypeInner.the-variants.{Plain, Array, RuntimeArray, Struct, Other}
+use Rattle.proc_type_methods.specs.TypeMethods.{nonDataSize}
+use Rattle.valid_type_flags.specs.TypeFlags.{bindingArrayOf}
+use Rattle.valid_type_info.specs.Verdict.{structAt}
+use Rattle.valid_member_bounds.specs.MemberBounds.{isArray}
+use Rattle.place_steps.specs.Steps.{isLeaf}
 use Rattle.valid_renaming.specs.Renaming.{renamedNonData, renamedInner}
 
 module _ (f : ℕ → ℕ) where

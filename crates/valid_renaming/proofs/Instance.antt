@@ -5,8 +5,8 @@ use mathlib.Core.List.{[], _∷_}
 use Prim.Native.Nat.{ℕ, zero, suc, _<_}
 use native.Mathlib.Omega.{arith}
 use lib.ListN.{getD}
-use Rattle.records.specs.Record.{decoded, typeInner, innerOf}
-use Rattle.type_info.specs.declared.UniformRule.{UniformRule}
+use Rattle.ir_records.specs.Record.{decoded, typeInner, innerOf}
+use Rattle.valid_type_info.specs.declared.UniformRule.{UniformRule}
 use Rattle.valid_renaming.specs.Renaming.{Reaches, itself, pointed, bound, OneToOne, AnswersAgree}
 use Rattle.valid_renaming.proofs.RenamingProof.{renaming, one-to-one-renaming, reached-agree, binding-arrays-earlier}
 use Rattle.valid_renaming.proofs.Arenas.{types, members, types′, members′, f, accepted, accepted′, reached-below, reached}

@@ -5,17 +5,17 @@ use mathlib.Core.Bool.{Bool}
 use mathlib.Core.List.{List}
 use Prim.Native.Nat.{ℕ, zero, suc, _≤_, _<_}
 use native.Mathlib.Omega.{arith}
-use Rattle.records.specs.Result.{andThen}
-use Rattle.records.specs.Record.{memberType, memberOffset}
-use Rattle.records.specs.declared.TypeInner.{TypeInner}
-use Rattle.flags.specs.Flags.{bit, sizedBit, hostShareableBit}
-use Rattle.type_info.specs.declared.Row.{Row}
-use Rattle.type_info.specs.TypeInfo.{rowSizes, rowFlags}
-use Rattle.type_info.specs.declared.Verdict.{Verdict}
-use Rattle.type_info.specs.declared.Previous.{Previous}
-use Rattle.type_info.specs.Verdict.{previousOf, distanceOk, shareVerdict, memberVerdict, distanceVerdict, unsizedVerdict}
-use Rattle.member_bounds.specs.MemberBounds.{boundsBy, memberBounds, boundsAfter}
-use Rattle.member_rules.specs.MemberRules.{uniformAfter, storageAfter, immediatesAfter}
+use Rattle.ir_records.specs.Result.{andThen}
+use Rattle.ir_records.specs.Record.{memberType, memberOffset}
+use Rattle.ir_records.specs.declared.TypeInner.{TypeInner}
+use Rattle.valid_flags.specs.Flags.{bit, sizedBit, hostShareableBit}
+use Rattle.valid_type_info.specs.declared.Row.{Row}
+use Rattle.valid_type_info.specs.TypeInfo.{rowSizes, rowFlags}
+use Rattle.valid_type_info.specs.declared.Verdict.{Verdict}
+use Rattle.valid_type_info.specs.declared.Previous.{Previous}
+use Rattle.valid_type_info.specs.Verdict.{previousOf, distanceOk, shareVerdict, memberVerdict, distanceVerdict, unsizedVerdict}
+use Rattle.valid_member_bounds.specs.MemberBounds.{boundsBy, memberBounds, boundsAfter}
+use Rattle.valid_member_rules.specs.MemberRules.{uniformAfter, storageAfter, immediatesAfter}
 use Rattle.valid_renaming.specs.Renaming.{renamedInner, renamedVerdict, renamedRow}
 use Rattle.valid_renaming.proofs.InnerRenamed.{is-array-renamed, struct-at-renamed}
 use Rattle.valid_renaming.proofs.VerdictRenamed.{share-renamed, member-renamed, distance-renamed, unsized-renamed}

@@ -5,9 +5,9 @@ use Prim.Native.Nat.{ℕ, zero, suc, _≤_, _<_}
 use native.Mathlib.Nat.{not-suc-le-zero, le-refl}
 use native.Mathlib.Decide.{ℕ-discrete}
 use native.Mathlib.Omega.{arith}
-use Rattle.records.specs.Record.{Decoded}
-use Rattle.type_info.specs.Verdict.{minStorage}
-use Rattle.valid.proofs.AcceptedLaws.{AcceptedTypes, array-row, runtime-array-row, member-earlier, pointer-row, binding-array-row}
+use Rattle.ir_records.specs.Record.{Decoded}
+use Rattle.valid_type_info.specs.Verdict.{minStorage}
+use Rattle.valid_arena.proofs.AcceptedLaws.{AcceptedTypes, array-row, runtime-array-row, member-earlier, pointer-row, binding-array-row}
 use Rattle.valid_renaming.specs.Renaming.{Reaches, itself, element, runtimeElement, member, pointed, bound, Agree}
 
 -- the second arena, of n′ types, holds each record that t reaches, and they agree

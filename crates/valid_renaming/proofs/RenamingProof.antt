@@ -5,17 +5,17 @@ use mathlib.Core.List.{List}
 use Prim.Native.Nat.{ℕ, _<_}
 use native.Mathlib.Omega.{arith}
 use lib.Bits.{bitOr}
-use Rattle.records.specs.Record.{decoded, typeCount, typeInner}
-use Rattle.records.specs.declared.Outcome.the-variants.{Accepted}
-use Rattle.records.specs.declared.NonData.the-variants.{Pointer, BindingArray}
-use Rattle.records.specs.declared.TypeInner.the-variants.{Other}
-use Rattle.flags.proofs.BitLaws.{bit-or-left, bit-or-right}
-use Rattle.type_info.specs.declared.UniformRule.the-variants.{Older}
-use Rattle.type_info.specs.Verdict.{leastFor}
-use Rattle.valid.specs.Arena.{arena}
-use Rattle.valid.proofs.AcceptedLaws.{row-more, accepted-more}
-use Rattle.valid.proofs.ArenaLaws.{accepted-types, arena-pointer-base, arena-binding-array-base}
-use Rattle.descent.proofs.WalkLaws.{place-from}
+use Rattle.ir_records.specs.Record.{decoded, typeCount, typeInner}
+use Rattle.ir_records.specs.declared.Outcome.the-variants.{Accepted}
+use Rattle.ir_records.specs.declared.NonData.the-variants.{Pointer, BindingArray}
+use Rattle.ir_records.specs.declared.TypeInner.the-variants.{Other}
+use Rattle.valid_flags.proofs.BitLaws.{bit-or-left, bit-or-right}
+use Rattle.valid_type_info.specs.declared.UniformRule.the-variants.{Older}
+use Rattle.valid_type_info.specs.Verdict.{leastFor}
+use Rattle.valid_arena.specs.Arena.{arena}
+use Rattle.valid_arena.proofs.AcceptedLaws.{row-more, accepted-more}
+use Rattle.valid_arena.proofs.ArenaLaws.{accepted-types, arena-pointer-base, arena-binding-array-base}
+use Rattle.place_descent.proofs.WalkLaws.{place-from}
 use Rattle.valid_renaming.specs.Renaming.{Reaches, itself, renamedInner, renamedRow, renamedPlace, ReachedAgree, Renaming, OneToOneRenaming}
 use Rattle.valid_renaming.proofs.ReachLaws.{Closed, reaches-on, reaches-earlier}
 use Rattle.valid_renaming.proofs.RowRenamed.{same}

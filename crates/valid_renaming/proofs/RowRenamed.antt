@@ -6,29 +6,29 @@ use Prim.Native.Nat.{ℕ, zero, suc, _*_, _≤_, _<_}
 use native.Mathlib.Nat.{le-refl}
 use native.Mathlib.Omega.{arith}
 use lib.Bits.{bitAnd}
-use Rattle.records.specs.Result.{ok}
-use Rattle.records.specs.Record.{Decoded, memberType, memberOffset}
-use Rattle.records.specs.Table.{table}
-use Rattle.records.specs.declared.NonData.{NonData}
-use Rattle.records.specs.declared.NonData.the-variants.{Pointer, ValuePointer, Image, Sampler, AccelerationStructure, BindingArray}
-use Rattle.records.specs.declared.TypeInner.{TypeInner}
-use Rattle.records.specs.declared.TypeInner.the-variants.{Plain, Array, RuntimeArray, Struct, Other}
-use Rattle.records.proofs.ResultLaws.{ok-inj}
-use Rattle.type_methods.specs.TypeMethods.{trySize, nonDataSize}
-use Rattle.type_alignment.specs.declared.TypeLayout.{TypeLayout}
-use Rattle.type_alignment.specs.TypeAlignment.{membersAlignment, alignmentOf}
-use Rattle.type_layout.specs.TypeLayout.{layoutOf}
-use Rattle.layouter.specs.Layouter.{noLayout, layoutStep, layout}
-use Rattle.layouter.proofs.LayoutAccepted.{accepted-step, plain-layout, array-layout, runtime-array-layout, struct-layout, member-layout}
-use Rattle.type_flags.specs.TypeFlags.{pointerTo, bindingArrayOf}
-use Rattle.type_info.specs.declared.Row.{Row}
-use Rattle.type_info.specs.TypeInfo.{rowSizes, rowFlags}
-use Rattle.type_info.specs.Verdict.{minStorage, arrayVerdict, spanVerdict}
-use Rattle.member_rules.specs.MemberRules.{uniformAfter, storageAfter}
-use Rattle.validate_type.specs.ValidateType.{nonDataFlags, flagsOf, immediatesOf, rowOf}
-use Rattle.valid.specs.Arena.{row}
-use Rattle.valid.proofs.DependLaws.{innerIn, rowsBefore}
-use Rattle.valid.proofs.AcceptedLaws.{AcceptedTypes, ArrayRow, row-parts, row-size, row-alignment, plain-row, array-row, runtime-array-row, member-earlier, struct-row, other-verdicts, pointer-row, binding-array-row}
+use Rattle.ir_records.specs.Result.{ok}
+use Rattle.ir_records.specs.Record.{Decoded, memberType, memberOffset}
+use Rattle.ir_records.specs.Table.{table}
+use Rattle.ir_records.specs.declared.NonData.{NonData}
+use Rattle.ir_records.specs.declared.NonData.the-variants.{Pointer, ValuePointer, Image, Sampler, AccelerationStructure, BindingArray}
+use Rattle.ir_records.specs.declared.TypeInner.{TypeInner}
+use Rattle.ir_records.specs.declared.TypeInner.the-variants.{Plain, Array, RuntimeArray, Struct, Other}
+use Rattle.ir_records.proofs.ResultLaws.{ok-inj}
+use Rattle.proc_type_methods.specs.TypeMethods.{trySize, nonDataSize}
+use Rattle.proc_type_alignment.specs.declared.TypeLayout.{TypeLayout}
+use Rattle.proc_type_alignment.specs.TypeAlignment.{membersAlignment, alignmentOf}
+use Rattle.proc_type_layout.specs.TypeLayout.{layoutOf}
+use Rattle.proc_layouter.specs.Layouter.{noLayout, layoutStep, layout}
+use Rattle.proc_layouter.proofs.LayoutAccepted.{accepted-step, plain-layout, array-layout, runtime-array-layout, struct-layout, member-layout}
+use Rattle.valid_type_flags.specs.TypeFlags.{pointerTo, bindingArrayOf}
+use Rattle.valid_type_info.specs.declared.Row.{Row}
+use Rattle.valid_type_info.specs.TypeInfo.{rowSizes, rowFlags}
+use Rattle.valid_type_info.specs.Verdict.{minStorage, arrayVerdict, spanVerdict}
+use Rattle.valid_member_rules.specs.MemberRules.{uniformAfter, storageAfter}
+use Rattle.valid_types.specs.ValidateType.{nonDataFlags, flagsOf, immediatesOf, rowOf}
+use Rattle.valid_arena.specs.Arena.{row}
+use Rattle.valid_arena.proofs.DependLaws.{innerIn, rowsBefore}
+use Rattle.valid_arena.proofs.AcceptedLaws.{AcceptedTypes, ArrayRow, row-parts, row-size, row-alignment, plain-row, array-row, runtime-array-row, member-earlier, struct-row, other-verdicts, pointer-row, binding-array-row}
 use Rattle.valid_renaming.specs.Renaming.{itself, element, runtimeElement, member, pointed, bound, renamedNonData, renamedInner, renamedVerdict, renamedRow}
 use Rattle.valid_renaming.proofs.ReachLaws.{Closed, by-earlier}
 use Rattle.valid_renaming.proofs.InnerRenamed.{size-renamed, base-renamed}

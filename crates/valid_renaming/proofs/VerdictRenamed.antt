@@ -4,12 +4,12 @@ use mathlib.Core.Path.{_≡_, refl}
 use mathlib.Core.Bool.{Bool, true, false, _||_}
 use Prim.Native.Nat.{ℕ, _-_, max}
 use lib.Dec.{leb}
-use Rattle.records.specs.Result.{pick}
-use Rattle.alignment.specs.Alignment.{isAligned, roundUp}
-use Rattle.type_info.specs.declared.Verdict.{Verdict}
-use Rattle.type_info.specs.declared.Previous.{Previous}
-use Rattle.type_info.specs.declared.Previous.the-variants.{NoStruct, StructBefore}
-use Rattle.type_info.specs.Verdict.{minStorage, isOk, alignmentIn, okVerdict, unlessOk, strideVerdict, arrayVerdict, shareVerdict, offsetVerdict, memberVerdict, distanceVerdict, unsizedVerdict, spanVerdict, arrayStride, memberOffsetOff, memberOffsetAfterStruct, unsizedMember, structSpan, nonHostShareable}
+use Rattle.ir_records.specs.Result.{pick}
+use Rattle.proc_alignment.specs.Alignment.{isAligned, roundUp}
+use Rattle.valid_type_info.specs.declared.Verdict.{Verdict}
+use Rattle.valid_type_info.specs.declared.Previous.{Previous}
+use Rattle.valid_type_info.specs.declared.Previous.the-variants.{NoStruct, StructBefore}
+use Rattle.valid_type_info.specs.Verdict.{minStorage, isOk, alignmentIn, okVerdict, unlessOk, strideVerdict, arrayVerdict, shareVerdict, offsetVerdict, memberVerdict, distanceVerdict, unsizedVerdict, spanVerdict, arrayStride, memberOffsetOff, memberOffsetAfterStruct, unsizedMember, structSpan, nonHostShareable}
 use Rattle.valid_renaming.specs.Renaming.{renamedVerdict}
 
 module _ (f : ℕ → ℕ) where

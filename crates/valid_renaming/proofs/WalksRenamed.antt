@@ -7,26 +7,26 @@ use Prim.Native.Nat.{ℕ, zero, suc, _+_, _*_, _^_, _≤_, _<_}
 use native.Mathlib.Nat.{le-refl}
 use native.Mathlib.Omega.{arith}
 use lib.Dec.{ltb, ltb→lt}
-use Rattle.records.specs.Result.{pick}
-use Rattle.records.specs.Record.{Decoded, memberType, memberOffset}
-use Rattle.records.specs.Table.{table}
-use Rattle.records.specs.declared.TypeInner.{TypeInner}
-use Rattle.records.specs.declared.TypeInner.the-variants.{Plain, Array, RuntimeArray, Struct, Other}
-use Rattle.records.proofs.ResultLaws.{true-T}
-use Rattle.type_methods.specs.TypeMethods.{leafColumnStep}
-use Rattle.type_info.specs.Verdict.{minStorage}
-use Rattle.valid.proofs.AcceptedLaws.{AcceptedTypes, member-earlier}
-use Rattle.slots.specs.declared.Slots.{Slots}
-use Rattle.slots.specs.Slots.{rangeSlots}
-use Rattle.type_slots.specs.Walk.{membersSlots, slotsOf, noSlots, slotsStep, slotsAt}
-use Rattle.type_slots.proofs.WalkLaws.{earlier-slots, slots-by-record}
-use Rattle.steps.specs.declared.Step.{Step}
-use Rattle.steps.specs.declared.Step.the-variants.{To, Column, NoStep}
-use Rattle.steps.specs.Columns.{columnCount}
-use Rattle.steps.specs.Steps.{isLeaf, stepOf}
-use Rattle.descent.specs.declared.Place.the-variants.{At, NoPlace}
-use Rattle.descent.specs.Place.{ended, stepIn, placeIn}
-use Rattle.descent.proofs.WalkLaws.{plain-step, array-step, runtime-array-step, struct-step, other-step}
+use Rattle.ir_records.specs.Result.{pick}
+use Rattle.ir_records.specs.Record.{Decoded, memberType, memberOffset}
+use Rattle.ir_records.specs.Table.{table}
+use Rattle.ir_records.specs.declared.TypeInner.{TypeInner}
+use Rattle.ir_records.specs.declared.TypeInner.the-variants.{Plain, Array, RuntimeArray, Struct, Other}
+use Rattle.ir_records.proofs.ResultLaws.{true-T}
+use Rattle.proc_type_methods.specs.TypeMethods.{leafColumnStep}
+use Rattle.valid_type_info.specs.Verdict.{minStorage}
+use Rattle.valid_arena.proofs.AcceptedLaws.{AcceptedTypes, member-earlier}
+use Rattle.immediates_ranges.specs.declared.Slots.{Slots}
+use Rattle.immediates_ranges.specs.Slots.{rangeSlots}
+use Rattle.immediates_walk.specs.Walk.{membersSlots, slotsOf, noSlots, slotsStep, slotsAt}
+use Rattle.immediates_walk.proofs.WalkLaws.{earlier-slots, slots-by-record}
+use Rattle.place_steps.specs.declared.Step.{Step}
+use Rattle.place_steps.specs.declared.Step.the-variants.{To, Column, NoStep}
+use Rattle.place_steps.specs.Columns.{columnCount}
+use Rattle.place_steps.specs.Steps.{isLeaf, stepOf}
+use Rattle.place_descent.specs.declared.Place.the-variants.{At, NoPlace}
+use Rattle.place_descent.specs.Place.{ended, stepIn, placeIn}
+use Rattle.place_descent.proofs.WalkLaws.{plain-step, array-step, runtime-array-step, struct-step, other-step}
 use Rattle.valid_renaming.specs.Renaming.{Reaches, itself, element, runtimeElement, member, renamedInner, renamedPlace}
 use Rattle.valid_renaming.proofs.ReachLaws.{Closed, by-earlier}
 use Rattle.valid_renaming.proofs.InnerRenamed.{size-renamed, is-leaf-renamed}

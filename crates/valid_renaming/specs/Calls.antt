@@ -3,14 +3,14 @@
 use mathlib.Core.Path.{_≡_}
 use mathlib.Core.List.{List}
 use Prim.Native.Nat.{ℕ}
-use Rattle.records.specs.declared.Outcome.the-variants.{Accepted}
-use Rattle.type_info.specs.declared.UniformRule.{UniformRule}
-use Rattle.type_info.specs.TypeInfo.{rowsIn}
-use Rattle.valid.specs.Arena.{arenaAnswer, arenaWords}
-use Rattle.immediates.specs.Immediates.{slotsAnswer}
-use Rattle.place.specs.declared.PlaceAnswer.{PlaceAnswer}
-use Rattle.place.specs.declared.PlaceAnswer.the-variants.{Found, Refused}
-use Rattle.place.specs.Place.{lookupAnswer}
+use Rattle.ir_records.specs.declared.Outcome.the-variants.{Accepted}
+use Rattle.valid_type_info.specs.declared.UniformRule.{UniformRule}
+use Rattle.valid_type_info.specs.TypeInfo.{rowsIn}
+use Rattle.valid_arena.specs.Arena.{arenaAnswer, arenaWords}
+use Rattle.immediates_slots.specs.Immediates.{slotsAnswer}
+use Rattle.place_lookup.specs.declared.PlaceAnswer.{PlaceAnswer}
+use Rattle.place_lookup.specs.declared.PlaceAnswer.the-variants.{Found, Refused}
+use Rattle.place_lookup.specs.Place.{lookupAnswer}
 use Rattle.valid_renaming.specs.Renaming.{ReachedAgree, renamedRow}
 
 -- the leaf's type renamed; 26 carries zeros only

@@ -3,22 +3,22 @@
 use mathlib.Core.Path.{_≡_}
 use mathlib.Core.List.{List}
 use Prim.Native.Nat.{ℕ, _<_}
-use Rattle.records.specs.Result.{pick}
-use Rattle.records.specs.Record.{Decoded, decoded, typeCount, memberType, memberOffset, memberLocation, memberSource}
-use Rattle.records.specs.declared.Outcome.the-variants.{Accepted}
-use Rattle.records.specs.declared.NonData.{NonData}
-use Rattle.records.specs.declared.NonData.the-variants.{Pointer, ValuePointer, Image, Sampler, AccelerationStructure, BindingArray}
-use Rattle.records.specs.declared.TypeInner.{TypeInner}
-use Rattle.records.specs.declared.TypeInner.the-variants.{Plain, Array, RuntimeArray, Struct, Other}
-use Rattle.type_info.specs.declared.Verdict.{Verdict}
-use Rattle.type_info.specs.declared.Row.{Row}
-use Rattle.type_info.specs.declared.UniformRule.{UniformRule}
-use Rattle.type_info.specs.Verdict.{leastFor, isOk}
-use Rattle.valid.specs.Arena.{arena, row}
-use Rattle.type_slots.specs.Walk.{slotsAt}
-use Rattle.descent.specs.declared.Place.{Place}
-use Rattle.descent.specs.declared.Place.the-variants.{At, NoPlace}
-use Rattle.descent.specs.Place.{placeOf}
+use Rattle.ir_records.specs.Result.{pick}
+use Rattle.ir_records.specs.Record.{Decoded, decoded, typeCount, memberType, memberOffset, memberLocation, memberSource}
+use Rattle.ir_records.specs.declared.Outcome.the-variants.{Accepted}
+use Rattle.ir_records.specs.declared.NonData.{NonData}
+use Rattle.ir_records.specs.declared.NonData.the-variants.{Pointer, ValuePointer, Image, Sampler, AccelerationStructure, BindingArray}
+use Rattle.ir_records.specs.declared.TypeInner.{TypeInner}
+use Rattle.ir_records.specs.declared.TypeInner.the-variants.{Plain, Array, RuntimeArray, Struct, Other}
+use Rattle.valid_type_info.specs.declared.Verdict.{Verdict}
+use Rattle.valid_type_info.specs.declared.Row.{Row}
+use Rattle.valid_type_info.specs.declared.UniformRule.{UniformRule}
+use Rattle.valid_type_info.specs.Verdict.{leastFor, isOk}
+use Rattle.valid_arena.specs.Arena.{arena, row}
+use Rattle.immediates_walk.specs.Walk.{slotsAt}
+use Rattle.place_descent.specs.declared.Place.{Place}
+use Rattle.place_descent.specs.declared.Place.the-variants.{At, NoPlace}
+use Rattle.place_descent.specs.Place.{placeOf}
 
 -- ---- reached, here through pointer and binding-array bases too: the type itself, or got to by array bases, member types and these bases
 pub data Reaches (types : ℕ → Decoded) : ℕ → ℕ → Type 0 where

@@ -5,7 +5,7 @@ use mathlib.Core.Path.{_≡_}
 use mathlib.Core.List.{List}
 use Prim.Native.Nat.{ℕ, _≤_}
 use lib.ListN.{length}
-use Rattle.words.specs.Words.{part}
+use Rattle.program_words.specs.Words.{part}
 use Rattle.wgsl_tokens.specs.Tokens.{Token, from}
 use Rattle.wgsl_grammar.specs.Grammar.{Reading, refused, read, Name, nameOf, Value}
 use Rattle.wgsl_grammar.specs.declared.Next.{Next}

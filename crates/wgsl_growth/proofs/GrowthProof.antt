@@ -8,10 +8,10 @@ use Prim.Native.Nat.{ℕ, _+_, _≤_, _<_, _∣_}
 use native.Mathlib.Nat.{le-refl}
 use native.Mathlib.Omega.{arith}
 use lib.ListN.{getD}
-use Rattle.records.specs.Record.{typeWords, memberWords}
-use Rattle.alignment.specs.Alignment.{Power, roundUp, most}
-use Rattle.alignment.proofs.PowerLaws.{power-positive, power-vector}
-use Rattle.alignment.proofs.RoundLaws.{round-up-multiple, round-up-next}
+use Rattle.ir_records.specs.Record.{typeWords, memberWords}
+use Rattle.proc_alignment.specs.Alignment.{Power, roundUp, most}
+use Rattle.proc_alignment.proofs.PowerLaws.{power-positive, power-vector}
+use Rattle.proc_alignment.proofs.RoundLaws.{round-up-multiple, round-up-next}
 use Rattle.wgsl_tokens.specs.Tokens.{Token}
 use Rattle.wgsl_names.specs.Names.{bytesOf, numberOf}
 use Rattle.wgsl_names.specs.declared.Scalar.{Scalar}
@@ -24,7 +24,7 @@ use Rattle.wgsl_placement.specs.declared.Shape.{Shape}
 use Rattle.wgsl_tables.specs.Tables.{Records, Named}
 use Rattle.wgsl_structs.specs.Structs.{Declared, startOf, spanOf}
 use Rattle.wgsl_read.specs.Text.{textOf}
-use Rattle.w3c.specs.Wgsl.{WgslType, struct, Members as WgslMembers}
+use Rattle.w3c_agreement.specs.Wgsl.{WgslType, struct, Members as WgslMembers}
 use Rattle.wgsl_growth.specs.Tree.{NamedTree, mapped}
 use Rattle.wgsl_growth.specs.Written.{Each, Written, alignOf, withRecord, Extends, fieldsOf, AllNamed}
 use Rattle.wgsl_growth.specs.Growth.{Grows, Growth, GrowthOfMembers, StructIn, StructsOfText, GrowthOfStructs}

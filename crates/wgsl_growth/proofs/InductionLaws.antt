@@ -11,10 +11,10 @@ use native.Mathlib.Omega.{arith}
 use lib.Dec.{eqb, leb, ltb}
 use lib.ListN.{length, length-append}
 use borrow.Author.Tests.{leb-true}
-use Rattle.records.specs.Result.{pick}
-use Rattle.records.specs.Record.{typeWords, memberWords}
-use Rattle.records.specs.declared.Words.{Words}
-use Rattle.alignment.specs.Alignment.{most}
+use Rattle.ir_records.specs.Result.{pick}
+use Rattle.ir_records.specs.Record.{typeWords, memberWords}
+use Rattle.ir_records.specs.declared.Words.{Words}
+use Rattle.proc_alignment.specs.Alignment.{most}
 use Rattle.wgsl_tokens.specs.Tokens.{Token, word, number, large, mark, bad, code, tokens}
 use Rattle.wgsl_names.specs.Names.{bytesOf, predeclared, same, structWord}
 use Rattle.wgsl_names.specs.declared.Scalar.{Scalar}
@@ -32,9 +32,9 @@ use Rattle.wgsl_members.specs.declared.Attributes.{Attributes}
 use Rattle.wgsl_members.specs.declared.Given.the-variants.{Absent}
 use Rattle.wgsl_structs.specs.Structs.{MemberEnd, stops, closes, goes, memberEnd, withRest, afterMember, membersOf, Declared, startOf, spanOf, withStruct, closeStruct, isUnknown, structBody, structOf, Declaration, finished, wrong, further, declaredBy, past, declarationOf, afterDeclaration, declarationsOf}
 use Rattle.wgsl_read.specs.Text.{roomsIn, noRecords, textOf}
-use Rattle.w3c.specs.Plain as plain
-use Rattle.w3c.specs.Wgsl as wgsl
-use Rattle.w3c.specs.Wgsl.{WgslType}
+use Rattle.w3c_agreement.specs.Plain as plain
+use Rattle.w3c_agreement.specs.Wgsl as wgsl
+use Rattle.w3c_agreement.specs.Wgsl.{WgslType}
 use Rattle.wgsl_growth.specs.Tree as tree
 use Rattle.wgsl_growth.specs.Tree.{mapped, scalarTree, templateTree, arrayTree, lastTree, memberTree, TreeAt, treeAt, NamedTree, treeNamed, templateOfTree, templateRead, arrayRead, typeRead, typeTree, FieldAt, typedField, namedField, fieldTree, FieldsAt, fieldsAt, fieldsAfter, fieldsTree, TreesAt, treesAt, namedTree, bodyTree, structTree, DeclarationTree, treesBy, declarationTree, treesAfter, declarationsTree, treesOf}
 use Rattle.wgsl_growth.specs.Written.{Each, Written, withWritten, placedAfter, withRecord, Extends, fieldsOf, AllNamed}

@@ -9,12 +9,12 @@ use native.Mathlib.Omega.{arith}
 use lib.Dec.{T, eqb, ltb}
 use lib.Bits.{bitAnd}
 use borrow.Author.Tests.{ltb-true, eqb-true}
-use Rattle.records.proofs.ResultLaws.{true-T, T-true, and-left, and-right}
-use Rattle.alignment.specs.Alignment.{Power, roundUp, isMask, isAligned}
-use Rattle.alignment.proofs.PowerLaws.{power-positive, power-max, power-divides, aligned-divides}
-use Rattle.alignment.proofs.RoundLaws.{round-up-multiple, round-up-next}
-use Rattle.alignment.proofs.MaskLaws.{power-of-mask}
-use Rattle.w3c.proofs.LeastLaws.{next-least}
+use Rattle.ir_records.proofs.ResultLaws.{true-T, T-true, and-left, and-right}
+use Rattle.proc_alignment.specs.Alignment.{Power, roundUp, isMask, isAligned}
+use Rattle.proc_alignment.proofs.PowerLaws.{power-positive, power-max, power-divides, aligned-divides}
+use Rattle.proc_alignment.proofs.RoundLaws.{round-up-multiple, round-up-next}
+use Rattle.proc_alignment.proofs.MaskLaws.{power-of-mask}
+use Rattle.w3c_agreement.proofs.LeastLaws.{next-least}
 use Rattle.wgsl_placement.specs.declared.Shape.{Shape}
 use Rattle.wgsl_members.specs.Members.{Members, givenOr, alignFits, sizeFits, attributesFit, withMember}
 use Rattle.wgsl_members.specs.declared.Given.{Given}

@@ -6,9 +6,9 @@ use mathlib.Core.List.{List, [], _∷_}
 use mathlib.Core.Option.{Option, none, some}
 use Prim.Native.Nat.{ℕ}
 use lib.Dec.{ltb}
-use Rattle.records.specs.Result.{pick}
-use Rattle.records.specs.declared.Words.{Words}
-use Rattle.w3c.specs.Wgsl.{WgslType}
+use Rattle.ir_records.specs.Result.{pick}
+use Rattle.ir_records.specs.declared.Words.{Words}
+use Rattle.w3c_agreement.specs.Wgsl.{WgslType}
 use Rattle.wgsl_tokens.specs.Tokens.{Token}
 use Rattle.wgsl_names.specs.Names.{same}
 use Rattle.wgsl_grammar.specs.Grammar.{Reading, refused, read, andThen, demand}

@@ -6,12 +6,12 @@ use Prim.Native.Nat.{ℕ, zero, suc, _+_, _-_, _*_, _/_, _≤_, _<_, min}
 use native.Mathlib.Omega.{arith}
 use lib.ListN.{length, getD, take, drop, length-append, List·getD-append}
 use lib.Seq.{take-at, drop-at, getD-append-add}
-use Rattle.records.specs.Record.{typeWords, memberWords, typeWord, typeCount, memberCount, memberType, memberOffset, innerOf, innerIn, typeInner, structMembers}
-use Rattle.records.specs.declared.Words.{Words}
-use Rattle.records.specs.declared.TypeInner.the-variants.{Struct}
-use Rattle.records.proofs.RecordLaws.{members-part}
-use Rattle.alignment.specs.Alignment.{roundUp, most}
-use Rattle.alignment.proofs.RoundLaws.{round-up-next}
+use Rattle.ir_records.specs.Record.{typeWords, memberWords, typeWord, typeCount, memberCount, memberType, memberOffset, innerOf, innerIn, typeInner, structMembers}
+use Rattle.ir_records.specs.declared.Words.{Words}
+use Rattle.ir_records.specs.declared.TypeInner.the-variants.{Struct}
+use Rattle.ir_records.proofs.RecordLaws.{members-part}
+use Rattle.proc_alignment.specs.Alignment.{roundUp, most}
+use Rattle.proc_alignment.proofs.RoundLaws.{round-up-next}
 use Rattle.wgsl_tokens.specs.Tokens.{Token}
 use Rattle.wgsl_placement.specs.Placement.{wordsOf, structRecord}
 use Rattle.wgsl_tables.specs.Tables.{Records}

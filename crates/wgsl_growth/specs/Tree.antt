@@ -6,10 +6,10 @@ use mathlib.Core.Option.{Option, none, some}
 use Prim.Native.Nat.{ℕ, zero, suc, _+_}
 use lib.Dec.{eqb}
 use lib.ListN.{length}
-use Rattle.records.specs.Result.{pick}
-use Rattle.w3c.specs.Plain as plain
-use Rattle.w3c.specs.Wgsl as wgsl
-use Rattle.w3c.specs.Wgsl.{WgslType}
+use Rattle.ir_records.specs.Result.{pick}
+use Rattle.w3c_agreement.specs.Plain as plain
+use Rattle.w3c_agreement.specs.Wgsl as wgsl
+use Rattle.w3c_agreement.specs.Wgsl.{WgslType}
 use Rattle.wgsl_tokens.specs.Tokens.{Token, word, number, large, mark, bad, code, tokens}
 use Rattle.wgsl_names.specs.Names.{same, structWord, predeclared}
 use Rattle.wgsl_names.specs.declared.Scalar.{Scalar}

@@ -4,14 +4,14 @@ use mathlib.Core.Path.{_≡_}
 use mathlib.Core.List.{List, [], _∷_, _++_}
 use mathlib.Core.Option.{Option}
 use Prim.Native.Nat.{ℕ, _+_}
-use Rattle.records.specs.declared.Words.{Words}
+use Rattle.ir_records.specs.declared.Words.{Words}
 use Rattle.wgsl_tokens.specs.Tokens.{Token}
 use Rattle.wgsl_placement.specs.Placement.{wordsOf}
 use Rattle.wgsl_placement.specs.declared.Shape.{Shape}
 use Rattle.wgsl_tables.specs.Tables.{Records, Named}
 use Rattle.wgsl_members.specs.Members.{Members, alignOfMember, sizeOfMember, offsetOfMember, withMember}
 use Rattle.wgsl_members.specs.declared.Attributes.{Attributes}
-use Rattle.w3c.specs.Wgsl.{WgslType, Members as WgslMembers}
+use Rattle.w3c_agreement.specs.Wgsl.{WgslType, Members as WgslMembers}
 use Rattle.wgsl_growth.specs.Tree.{lastTree, memberTree, NamedTree}
 
 -- of each in a list

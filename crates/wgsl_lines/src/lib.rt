@@ -1,5 +1,5 @@
 // The answer to a WGSL text: a line for each record, or the refusal and a line that says where it stands and what is wrong.
-use output::Buffer;
+use program_output::Buffer;
 use wgsl_read::TextAt;
 
 pub fn put_answer(out: &mut Buffer, at: usize, text: &[u8]) -> usize {
@@ -9,9 +9,9 @@ pub fn put_answer(out: &mut Buffer, at: usize, text: &[u8]) -> usize {
         TextAt::Records {
             types: t,
             members: m,
-        } => record_lines::put_records(out, at, &types, t, &members, m),
+        } => program_record_lines::put_records(out, at, &types, t, &members, m),
         TextAt::Refused(r) => {
-            let end = output::put_refusal(out, at, r.number, 0, 0, 0);
+            let end = program_output::put_refusal(out, at, r.number, 0, 0, 0);
             wgsl_messages::put_message(out, end, text, r)
         }
     }

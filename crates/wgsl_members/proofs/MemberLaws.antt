@@ -6,11 +6,11 @@ use Prim.Native.Nat.{ℕ, zero, suc, _+_, _-_, _*_, _≤_, _<_, max, min}
 use native.Mathlib.Omega.{arith}
 use lib.Dec.{ltb}
 use lib.ListN.{length, set, drop}
-use Rattle.records.specs.Result.{pick}
-use Rattle.records.specs.Record.{typeWords, memberWords}
-use Rattle.rows.specs.Rows.{withPart}
-use Rattle.alignment.specs.Alignment.{roundUp, most}
-use Rattle.words.specs.Words.{part}
+use Rattle.ir_records.specs.Result.{pick}
+use Rattle.ir_records.specs.Record.{typeWords, memberWords}
+use Rattle.ir_rows.specs.Rows.{withPart}
+use Rattle.proc_alignment.specs.Alignment.{roundUp, most}
+use Rattle.program_words.specs.Words.{part}
 use Rattle.wgsl_tokens.specs.Tokens.{Token, from}
 use Rattle.wgsl_grammar.specs.Grammar.{Reading, refused, read, andThen, demand, expect}
 use Rattle.wgsl_placement.specs.declared.Shape.{Shape}

@@ -9,11 +9,11 @@ use wgsl_types::Closed;
 ghost use mathlib.Core.Path.{_≡_};
 ghost use mathlib.Core.Bool.{_&&_};
 ghost use lib.Dec.{ltb};
-ghost use Rattle.alignment.specs.Alignment.{isMask};
+ghost use Rattle.proc_alignment.specs.Alignment.{isMask};
 ghost use Prim.Native.Nat.{_*_, _≤_, min};
 ghost use lib.ListN.{length};
-ghost use Rattle.records.specs.Result.{pick};
-ghost use Rattle.words.specs.Words.{part};
+ghost use Rattle.ir_records.specs.Result.{pick};
+ghost use Rattle.program_words.specs.Words.{part};
 ghost use Rattle.wgsl_tokens.specs.Tokens.{from};
 ghost use Rattle.wgsl_grammar.specs.Serving.{numberRead};
 ghost use Rattle.wgsl_tables.specs.Tables.{structsIn};
@@ -191,7 +191,7 @@ fn align_fits(given: Given, e: Shape) -> bool
 {
     match given {
         Given::Absent => true,
-        Given::Once(k) => is_power(k) & alignment::is_aligned(e.align, k),
+        Given::Once(k) => is_power(k) & proc_alignment::is_aligned(e.align, k),
         Given::Twice => false,
     }
 }
@@ -262,7 +262,7 @@ fn place_member(
     Body {
         names: body.names + 1,
         end: offset + (size as u64),
-        align: alignment::larger(body.align, align),
+        align: proc_alignment::larger(body.align, align),
         fixed: body.fixed & shape.fixed,
         types,
         members: body.members + 1,

@@ -6,7 +6,7 @@ use mathlib.Core.List.{List}
 use Prim.Native.Nat.{ℕ, zero, suc, _+_, _≤_}
 use native.Mathlib.Omega.{arith}
 use native.Mathlib.Numerals.{add-one}
-use Rattle.records.specs.Result.{pick}
+use Rattle.ir_records.specs.Result.{pick}
 use Rattle.wgsl_messages.specs.Position.{breakAt, lineOf, columnOf}
 
 pick-within : (b : Bool) (x y m : ℕ) → x ≤ m → y ≤ m → pick b x y ≤ m

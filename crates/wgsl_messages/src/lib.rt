@@ -1,5 +1,5 @@
 // What is said of a WGSL text that is refused: the line and the column where the refusal stands, what stands there, and what is wrong with it.
-use output::Buffer;
+use program_output::Buffer;
 use wgsl_grammar::Refusal;
 use wgsl_tokens::Gap;
 use wgsl_tokens::Lexed;
@@ -67,9 +67,9 @@ fn put_token(out: &mut Buffer, at: usize, text: &[u8], start: usize, end: usize)
     if text.len() < end {
         return at;
     }
-    let a = output::put_text(out, at, b"`");
-    let b = output::put_text(out, a, &text[start..end]);
-    output::put_text(out, b, b"`: ")
+    let a = program_output::put_text(out, at, b"`");
+    let b = program_output::put_text(out, a, &text[start..end]);
+    program_output::put_text(out, b, b"`: ")
 }
 
 // The token that starts at a place.
@@ -79,8 +79,8 @@ fn put_found(out: &mut Buffer, at: usize, text: &[u8], start: usize) -> usize {
         Lexed::Number { value: _, end } => put_token(out, at, text, start, end),
         Lexed::Large(end) => put_token(out, at, text, start, end),
         Lexed::Mark { byte: _, end } => put_token(out, at, text, start, end),
-        Lexed::Bad => output::put_text(out, at, b"no word, number or mark: "),
-        Lexed::End => output::put_text(out, at, b"the end of the text: "),
+        Lexed::Bad => program_output::put_text(out, at, b"no word, number or mark: "),
+        Lexed::End => program_output::put_text(out, at, b"the end of the text: "),
     }
 }
 
@@ -93,7 +93,7 @@ const NO_COMMA: u32 = 127;
 
 // Lines of one text, numbered by their reasons: the three above, then those of wgsl_grammar in their order.
 fn put_sentence(out: &mut Buffer, at: usize, why: u32) -> usize {
-    output::put_line_of(
+    program_output::put_line_of(
         out,
         at,
         b"a comment is not closed
@@ -127,9 +127,9 @@ fn put_mark(out: &mut Buffer, at: usize, mark: u8) -> usize {
     if mark == b',' {
         return put_sentence(out, at, NO_COMMA);
     }
-    let a = output::put_text(out, at, b"expected `");
-    let b = output::put_text(out, a, &[mark]);
-    output::put_text(out, b, b"`\n")
+    let a = program_output::put_text(out, at, b"expected `");
+    let b = program_output::put_text(out, a, &[mark]);
+    program_output::put_text(out, b, b"`\n")
 }
 
 // What was wrong: a number below 128 is the mark that was expected.
@@ -142,9 +142,9 @@ fn put_reason(out: &mut Buffer, at: usize, why: u32) -> usize {
 
 fn put_position(out: &mut Buffer, at: usize, text: &[u8], byte: usize) -> usize {
     let p = line_and_column(text, byte);
-    let a = output::put_named(out, at, b"line", p.line as u64);
-    let b = output::put_named(out, a, b", column", p.column as u64);
-    output::put_text(out, b, b": ")
+    let a = program_output::put_named(out, at, b"line", p.line as u64);
+    let b = program_output::put_named(out, a, b", column", p.column as u64);
+    program_output::put_text(out, b, b": ")
 }
 
 // A line about a comment that is no text of WGSL.

@@ -8,7 +8,7 @@ use lib.Dec.{eqb}
 use lib.ListN.{length, getD, drop}
 use lib.Seq.{drop-cons}
 use borrow.Author.Tests.{eq-eqb, eqb-true}
-use Rattle.records.proofs.ResultLaws.{true-T, T-true, and-left, and-right}
+use Rattle.ir_records.proofs.ResultLaws.{true-T, T-true, and-left, and-right}
 use Rattle.wgsl_names.specs.Names.{same}
 
 pub same-refl : (w : List ℕ) → same w w ≡ true

@@ -4,7 +4,7 @@ use mathlib.Core.Bool.{Bool, true, false, _&&_, _||_}
 use mathlib.Core.List.{List, [], _∷_}
 use Prim.Native.Nat.{ℕ}
 use lib.Dec.{eqb}
-use Rattle.records.specs.Result.{pick}
+use Rattle.ir_records.specs.Result.{pick}
 use Rattle.wgsl_names.specs.declared.Scalar.{Scalar}
 use Rattle.wgsl_names.specs.declared.Scalar.the-variants.{Bool as BoolScalar, I32, U32, F32, F16}
 use Rattle.wgsl_names.specs.declared.Dimension.{Dimension}

@@ -6,11 +6,11 @@ use mathlib.Core.List.{List, [], _∷_, _++_}
 use mathlib.Core.Option.{Option, none, some}
 use Prim.Native.Nat.{ℕ, _≤_}
 use lib.ListN.{length}
-use Rattle.records.specs.Record.{typeWords, memberWords, decoded}
-use Rattle.records.specs.declared.TypeInner.the-variants.{Struct}
-use Rattle.alignment.specs.Alignment.{roundUp, most}
-use Rattle.w3c.specs.Wgsl as wgsl
-use Rattle.w3c.proofs.Agreement.{tables-agreement}
+use Rattle.ir_records.specs.Record.{typeWords, memberWords, decoded}
+use Rattle.ir_records.specs.declared.TypeInner.the-variants.{Struct}
+use Rattle.proc_alignment.specs.Alignment.{roundUp, most}
+use Rattle.w3c_agreement.specs.Wgsl as wgsl
+use Rattle.w3c_agreement.proofs.Agreement.{tables-agreement}
 use Rattle.wgsl_tokens.specs.Tokens.{Token}
 use Rattle.wgsl_placement.specs.Placement.{shape, wordsOf, scalarRecord, templateRecord, arrayRecord}
 use Rattle.wgsl_placement.specs.declared.Shape.{Shape}

@@ -4,14 +4,14 @@ use mathlib.Core.Path.{_≡_, refl}
 use mathlib.Core.Bool.{true}
 use mathlib.Core.Option.{Option, none, some}
 use Prim.Native.Nat.{ℕ, _*_}
-use Rattle.records.specs.Record.{innerOf, innerIn, Decoded}
-use Rattle.records.specs.declared.TypeInner.the-variants.{Plain as PlainRecord}
-use Rattle.w3c.specs.Plain as plain
-use Rattle.w3c.specs.Plain.{leafOf, byScalar, sizeOfPlain, alignOfPlain}
-use Rattle.w3c.specs.Wgsl as wgsl
-use Rattle.w3c.specs.Wgsl.{WgslType}
-use Rattle.w3c.specs.Placed.{IsPlaced}
-use Rattle.w3c.specs.Placement.{placement}
+use Rattle.ir_records.specs.Record.{innerOf, innerIn, Decoded}
+use Rattle.ir_records.specs.declared.TypeInner.the-variants.{Plain as PlainRecord}
+use Rattle.w3c_agreement.specs.Plain as plain
+use Rattle.w3c_agreement.specs.Plain.{leafOf, byScalar, sizeOfPlain, alignOfPlain}
+use Rattle.w3c_agreement.specs.Wgsl as wgsl
+use Rattle.w3c_agreement.specs.Wgsl.{WgslType}
+use Rattle.w3c_agreement.specs.Placed.{IsPlaced}
+use Rattle.w3c_agreement.specs.Placement.{placement}
 use Rattle.wgsl_names.specs.Names.{kindOf, widthOf, bytesOf, numberOf}
 use Rattle.wgsl_names.specs.declared.Scalar.{Scalar}
 use Rattle.wgsl_names.specs.declared.Scalar.the-variants.{Bool as BoolScalar, I32, U32, F32, F16}

@@ -6,16 +6,16 @@ use mathlib.Core.List.{List, [], _∷_}
 use Prim.Native.Nat.{ℕ, suc, _+_, _≤_, _<_, max}
 use native.Mathlib.Omega.{arith}
 use lib.ListN.{length}
-use Rattle.records.specs.Record.{memberOffset, Decoded}
-use Rattle.records.specs.declared.TypeInner.the-variants.{Struct}
-use Rattle.alignment.specs.Alignment.{roundUp, most}
-use Rattle.alignment.proofs.PowerLaws.{power-positive}
-use Rattle.w3c.specs.Wgsl as wgsl
-use Rattle.w3c.specs.Wgsl.{maxOver, offsetBy}
-use Rattle.w3c.specs.Placed as placed
-use Rattle.w3c.specs.Placed.{IsPlaced}
-use Rattle.w3c.specs.Placement.{placement, placeAt}
-use Rattle.w3c.proofs.PlacementLaws.{last-same, offset-same, align-power, align-member-power}
+use Rattle.ir_records.specs.Record.{memberOffset, Decoded}
+use Rattle.ir_records.specs.declared.TypeInner.the-variants.{Struct}
+use Rattle.proc_alignment.specs.Alignment.{roundUp, most}
+use Rattle.proc_alignment.proofs.PowerLaws.{power-positive}
+use Rattle.w3c_agreement.specs.Wgsl as wgsl
+use Rattle.w3c_agreement.specs.Wgsl.{maxOver, offsetBy}
+use Rattle.w3c_agreement.specs.Placed as placed
+use Rattle.w3c_agreement.specs.Placed.{IsPlaced}
+use Rattle.w3c_agreement.specs.Placement.{placement, placeAt}
+use Rattle.w3c_agreement.proofs.PlacementLaws.{last-same, offset-same, align-power, align-member-power}
 use Rattle.wgsl_placement.specs.Placement.{shape}
 use Rattle.wgsl_members.specs.Members.{attributesFit}
 use Rattle.wgsl_growth.specs.Written.{Each, Written, alignOf}

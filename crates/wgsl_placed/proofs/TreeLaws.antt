@@ -9,13 +9,13 @@ use native.Mathlib.Omega.{arith}
 use lib.Dec.{T, leb}
 use lib.ListN.{length, getD}
 use borrow.Author.Tests.{leb-true}
-use Rattle.records.specs.Record.{memberType, Decoded}
-use Rattle.records.proofs.ResultLaws.{T-true, and-left, and-right}
-use Rattle.alignment.specs.Alignment.{roundUp, most}
-use Rattle.w3c.specs.Wgsl as wgsl
-use Rattle.w3c.specs.Wgsl.{WgslType, maxOver, offsetBy}
-use Rattle.w3c.specs.Placed.{IsPlaced, IsMember}
-use Rattle.w3c.specs.Placement.{placement, placeAt}
+use Rattle.ir_records.specs.Record.{memberType, Decoded}
+use Rattle.ir_records.proofs.ResultLaws.{T-true, and-left, and-right}
+use Rattle.proc_alignment.specs.Alignment.{roundUp, most}
+use Rattle.w3c_agreement.specs.Wgsl as wgsl
+use Rattle.w3c_agreement.specs.Wgsl.{WgslType, maxOver, offsetBy}
+use Rattle.w3c_agreement.specs.Placed.{IsPlaced, IsMember}
+use Rattle.w3c_agreement.specs.Placement.{placement, placeAt}
 use Rattle.wgsl_placement.specs.declared.Shape.{Shape}
 use Rattle.wgsl_members.specs.Members.{givenOr, alignFits, sizeFits, attributesFit}
 use Rattle.wgsl_members.specs.declared.Given.{Given}

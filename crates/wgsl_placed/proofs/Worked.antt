@@ -5,11 +5,11 @@ use mathlib.Core.Bool.{true}
 use mathlib.Core.List.{List, [], _∷_, _++_}
 use mathlib.Core.Option.{none, some}
 use Prim.Native.Nat.{ℕ}
-use Rattle.records.specs.Record.{Decoded, decoded}
-use Rattle.words.specs.Words.{runOf}
-use Rattle.words.specs.Number.{allDigits, decimal, numberOf}
-use Rattle.w3c.specs.Plain.{scalar, vector, integer, float, i32, f32, Dimension, two, three}
-use Rattle.w3c.specs.Wgsl.{WgslType, plain, array, struct, last, member}
+use Rattle.ir_records.specs.Record.{Decoded, decoded}
+use Rattle.program_words.specs.Words.{runOf}
+use Rattle.program_words.specs.Number.{allDigits, decimal, numberOf}
+use Rattle.w3c_agreement.specs.Plain.{scalar, vector, integer, float, i32, f32, Dimension, two, three}
+use Rattle.w3c_agreement.specs.Wgsl.{WgslType, plain, array, struct, last, member}
 use Rattle.wgsl_tokens.specs.Tokens.{wordOf, digitsOf, codeStep, stepOf, tokens}
 use Rattle.wgsl_names.specs.Names.{same, firstKeyword, middleKeyword, lastKeyword, isKeyword, matrixNamed, vectorNamed, predeclared}
 use Rattle.wgsl_grammar.specs.Grammar.{Reading, read}

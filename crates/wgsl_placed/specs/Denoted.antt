@@ -7,11 +7,11 @@ use mathlib.Core.List.{List}
 use mathlib.Core.Option.{Option, none, some}
 use Prim.Native.Nat.{ℕ, _<_, _∣_}
 use lib.Dec.{T}
-use Rattle.records.specs.Record.{Decoded, decoded, typeCount}
-use Rattle.records.specs.declared.Outcome.the-variants.{Accepted}
-use Rattle.layouter.specs.Layouter.{layout, layoutOutcome}
-use Rattle.w3c.specs.Wgsl.{WgslType, alignOf, sizeOf, HostShareable, FixedSize, WellFormed}
-use Rattle.w3c.specs.Placement.{IsType}
+use Rattle.ir_records.specs.Record.{Decoded, decoded, typeCount}
+use Rattle.ir_records.specs.declared.Outcome.the-variants.{Accepted}
+use Rattle.proc_layouter.specs.Layouter.{layout, layoutOutcome}
+use Rattle.w3c_agreement.specs.Wgsl.{WgslType, alignOf, sizeOf, HostShareable, FixedSize, WellFormed}
+use Rattle.w3c_agreement.specs.Placement.{IsType}
 use Rattle.wgsl_grammar.specs.Grammar.{read}
 use Rattle.wgsl_placement.specs.declared.Shape.{Shape}
 use Rattle.wgsl_structs.specs.Structs.{Declared}

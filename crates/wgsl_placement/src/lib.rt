@@ -1,12 +1,12 @@
 // The standard's placement of types: sizes, alignments and strides. Sums are wider than 32 bits, so that none wraps.
-use records::Words;
+use ir_records::Words;
 use wgsl_names::Dimension;
 use wgsl_names::Scalar;
 use wgsl_names::Template;
 ghost use mathlib.Core.Path.{_≡_};
 ghost use mathlib.Core.Bool.{true};
 ghost use Prim.Native.Nat.{_≤_, _+_, _*_};
-ghost use Rattle.alignment.specs.Alignment.{roundUp};
+ghost use Rattle.proc_alignment.specs.Alignment.{roundUp};
 ghost use Rattle.wgsl_names.specs.Names.{bytesOf, numberOf};
 ghost use Rattle.wgsl_placement.specs.Placement.{shape, alignOfVector, sizeOfVector, alignOfTemplate, sizeOfTemplate, elements, isCounted, recordOf, scalarRecord, templateRecord, arrayWords};
 ghost use Rattle.wgsl_placement.specs.Serving.{Measured};
@@ -53,7 +53,7 @@ pub fn round_up(alignment: u32, n: u64) -> u64
 fn align_of_vector(n: Dimension, scalar: Scalar) -> u32
     ensures { λ r. ⌜ (r ≡ alignOfVector n scalar) × (r ≤ 16) ⌝ }
 {
-    let parts = alignment::vector_alignment(wgsl_names::number_of(n));
+    let parts = proc_alignment::vector_alignment(wgsl_names::number_of(n));
     let align = parts * wgsl_names::bytes_of(scalar);
     align
 }

@@ -5,8 +5,8 @@ use Prim.Native.Nat.{ℕ, _+_, _*_, _≤_}
 use native.Mathlib.Omega.{arith}
 use lib.ListN.{length, take, drop, replicate, take-append-drop, drop-of-length-le}
 use lib.Seq.{length-take-le}
-use Rattle.records.specs.Record.{typeWords, memberWords}
-use Rattle.rows.specs.Rows.{cleared}
+use Rattle.ir_records.specs.Record.{typeWords, memberWords}
+use Rattle.ir_rows.specs.Rows.{cleared}
 use Rattle.wgsl_grammar.specs.Grammar.{Reading, refused, read}
 use Rattle.wgsl_tables.specs.Tables.{recordsIn, structsIn}
 use Rattle.wgsl_members.specs.Members.{Rooms}

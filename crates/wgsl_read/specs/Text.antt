@@ -3,8 +3,8 @@
 use mathlib.Core.List.{List, [], _∷_, _++_}
 use Prim.Native.Nat.{ℕ, _+_, _/_, min}
 use lib.ListN.{length, drop, replicate}
-use Rattle.records.specs.Record.{typeWords, memberWords}
-use Rattle.records.specs.Fields.{mostTypes, mostMembers}
+use Rattle.ir_records.specs.Record.{typeWords, memberWords}
+use Rattle.ir_records.specs.Fields.{mostTypes, mostMembers}
 use Rattle.wgsl_tokens.specs.Tokens.{code, tokens}
 use Rattle.wgsl_grammar.specs.Grammar.{Reading, refused, read}
 use Rattle.wgsl_grammar.specs.declared.Refusal.{Refusal}

@@ -4,8 +4,8 @@ use wgsl_structs::StructAt;
 ghost use mathlib.Core.Path.{_≡_};
 ghost use Prim.Native.Nat.{_+_, _/_, min};
 ghost use lib.ListN.{length};
-ghost use Rattle.records.specs.Record.{typeWords, memberWords};
-ghost use Rattle.records.specs.Fields.{mostTypes, mostMembers};
+ghost use Rattle.ir_records.specs.Record.{typeWords, memberWords};
+ghost use Rattle.ir_records.specs.Fields.{mostTypes, mostMembers};
 ghost use Rattle.wgsl_read.specs.Text.{textOf, answerOf, typesLeft, membersLeft, numberedBy, Filled};
 
 // How many type and member records the text has, or the number of its refusal.
@@ -34,8 +34,8 @@ fn least(n: usize, most: usize) -> usize
 fn fill(text: &[u8], types: &mut [u32], members: &mut [u32]) -> StructAt
     ensures { λ r. ⌜ Filled (now (text .entry)) (now (types .entry)) (now (types .exit)) (now (members .entry)) (now (members .exit)) r ⌝ }
 {
-    let room = least(types.len() / records::TYPE_WORDS, MOST_TYPES) as u32;
-    let rows = least(members.len() / records::MEMBER_WORDS, MOST_MEMBERS) as u32;
+    let room = least(types.len() / ir_records::TYPE_WORDS, MOST_TYPES) as u32;
+    let rows = least(members.len() / ir_records::MEMBER_WORDS, MOST_MEMBERS) as u32;
     let mut structs = [0usize; 2048];
     let mut shapes = [0u32; 4096];
     let mut names = [0usize; 8192];
@@ -64,8 +64,8 @@ pub fn read_at(text: &[u8], types: &mut [u32], members: &mut [u32]) -> TextAt
             members: state.members,
         },
         StructAt::Refused(r) => {
-            rows::clear(types, types.len());
-            rows::clear(members, members.len());
+            ir_rows::clear(types, types.len());
+            ir_rows::clear(members, members.len());
             TextAt::Refused(r)
         }
     }

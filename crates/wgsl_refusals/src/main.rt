@@ -4,7 +4,7 @@ use wgsl_read::TextAt;
 fn refuse(text: &[u8]) {
     let mut out = [0u8; 65536];
     let end = wgsl_lines::put_answer(&mut out, 0, text);
-    output::write_out(&out, end);
+    program_output::write_out(&out, end);
 }
 
 // What was expected.
@@ -60,7 +60,7 @@ fn refuse_short(text: &[u8], types: &mut [u32], members: &mut [u32]) {
         } => {}
         TextAt::Refused(r) => {
             let end = wgsl_messages::put_message(&mut out, 0, text, r);
-            output::write_out(&out, end);
+            program_output::write_out(&out, end);
         }
     }
 }

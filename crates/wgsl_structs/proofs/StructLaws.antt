@@ -5,16 +5,16 @@ use mathlib.Core.List.{List, [], _∷_, _++_}
 use Prim.Native.Nat.{ℕ, zero, suc, _+_, _-_, _*_, _≤_, _<_}
 use native.Mathlib.Omega.{arith}
 use lib.ListN.{length, set, drop}
-use Rattle.records.specs.Record.{typeWords, memberWords}
-use Rattle.rows.specs.Rows.{withPart}
-use Rattle.rows.proofs.RowLaws.{drop-later}
-use Rattle.alignment.specs.Alignment.{roundUp}
+use Rattle.ir_records.specs.Record.{typeWords, memberWords}
+use Rattle.ir_rows.specs.Rows.{withPart}
+use Rattle.ir_rows.proofs.RowLaws.{drop-later}
+use Rattle.proc_alignment.specs.Alignment.{roundUp}
 use Rattle.wgsl_tokens.specs.Tokens.{Token, word, from}
 use Rattle.wgsl_names.specs.Names.{same, structWord}
 use Rattle.wgsl_grammar.specs.Grammar.{Reading, refused, read, andThen}
 use Rattle.wgsl_placement.specs.Placement.{shape, wordsOf, structRecord}
 use Rattle.wgsl_placement.specs.declared.Shape.{Shape}
-use Rattle.words.specs.Words.{part}
+use Rattle.program_words.specs.Words.{part}
 use Rattle.wgsl_tables.specs.Tables.{recordsIn, nameIn, namesIn, structsIn, flag, Named}
 use Rattle.wgsl_tables.proofs.TableLaws.{one-struct, one-record, name-within}
 use Rattle.wgsl_members.specs.Members.{Members, Rooms, memberOf}

@@ -11,7 +11,7 @@ ghost use mathlib.Core.Path.{_≡_};
 ghost use mathlib.Core.Bool.{true};
 ghost use Prim.Native.Nat.{_*_, _+_, _≤_};
 ghost use lib.ListN.{length};
-ghost use Rattle.words.specs.Words.{part};
+ghost use Rattle.program_words.specs.Words.{part};
 ghost use Rattle.wgsl_tokens.specs.Tokens.{from};
 ghost use Rattle.wgsl_grammar.specs.Grammar.{expect};
 ghost use Rattle.wgsl_tables.specs.Tables.{structsIn};

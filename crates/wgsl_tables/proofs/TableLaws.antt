@@ -11,11 +11,11 @@ use lib.Dec.{eqb, leb}
 use lib.ListN.{length, getD, take, drop, set, length-set}
 use lib.Seq.{take-at, getD-set-same, getD-set-other, getD-take, getD-append-add, length-take-le}
 use borrow.Author.Tests.{le-leb, leb-true}
-use Rattle.records.proofs.ResultLaws.{true-T, T-true, and-left, and-right}
-use Rattle.records.specs.Result.{pick}
-use Rattle.words.specs.Words.{part}
-use Rattle.rows.specs.Rows.{withPart}
-use Rattle.rows.proofs.RowLaws.{take-part}
+use Rattle.ir_records.proofs.ResultLaws.{true-T, T-true, and-left, and-right}
+use Rattle.ir_records.specs.Result.{pick}
+use Rattle.program_words.specs.Words.{part}
+use Rattle.ir_rows.specs.Rows.{withPart}
+use Rattle.ir_rows.proofs.RowLaws.{take-part}
 use Rattle.wgsl_names.specs.Names.{same}
 use Rattle.wgsl_placement.specs.Placement.{shape}
 use Rattle.wgsl_placement.specs.declared.Shape.{Shape}

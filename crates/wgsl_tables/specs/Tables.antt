@@ -7,9 +7,9 @@ use mathlib.Core.Option.{Option, none, some}
 use Prim.Native.Nat.{ℕ, zero, suc, _+_, _*_}
 use lib.Dec.{eqb, leb}
 use lib.ListN.{length, getD, take}
-use Rattle.records.specs.Result.{pick}
-use Rattle.records.specs.Record.{typeWords, memberWords}
-use Rattle.words.specs.Words.{part}
+use Rattle.ir_records.specs.Result.{pick}
+use Rattle.ir_records.specs.Record.{typeWords, memberWords}
+use Rattle.program_words.specs.Words.{part}
 use Rattle.wgsl_names.specs.Names.{same}
 use Rattle.wgsl_placement.specs.Placement.{shape}
 use Rattle.wgsl_placement.specs.declared.Shape.{Shape}

@@ -1,14 +1,14 @@
 // The tables that the reader of WGSL text fills.
-use records::MEMBER_WORDS;
-use records::TYPE_WORDS;
-use records::Words;
+use ir_records::MEMBER_WORDS;
+use ir_records::TYPE_WORDS;
+use ir_records::Words;
 use wgsl_placement::Shape;
 ghost use mathlib.Core.Path.{_≡_};
 ghost use mathlib.Core.List.{[], _∷_};
 ghost use Prim.Native.Nat.{_≤_, _+_, _*_};
 ghost use lib.ListN.{length, set};
-ghost use Rattle.rows.specs.Rows.{withPart};
-ghost use Rattle.records.specs.Record.{typeWords, memberWords};
+ghost use Rattle.ir_rows.specs.Rows.{withPart};
+ghost use Rattle.ir_records.specs.Record.{typeWords, memberWords};
 ghost use Rattle.wgsl_placement.specs.Placement.{wordsOf};
 ghost use Rattle.wgsl_tables.specs.Tables.{nameIn, nameAt, shapeAt, entryOf, flag};
 

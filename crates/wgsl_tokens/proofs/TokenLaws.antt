@@ -11,7 +11,7 @@ use lib.Dec.{eqb}
 use lib.ListN.{length, getD, take, drop, drop-of-length-le, List·getD-eq-default}
 use lib.Seq.{drop-cons, drop-drop, drop-nil, getD-drop}
 use borrow.Author.Tests.{eqb-true}
-use Rattle.records.proofs.ResultLaws.{true-T, T-true, and-left, and-right}
+use Rattle.ir_records.proofs.ResultLaws.{true-T, T-true, and-left, and-right}
 use Rattle.wgsl_tokens.specs.Tokens.{Token, bad, Mode, code, line, block, stopped, head, codeStep, stepOf, followed, tokens, from}
 
 -- a position with a byte other than 0 is inside

@@ -11,9 +11,9 @@ use lib.Dec.{eqb, ltb}
 use lib.ListN.{length, getD, take, drop, length-drop}
 use lib.Seq.{drop-cons, drop-drop, getD-drop, getD-take, length-take-le}
 use borrow.Author.Tests.{eq-eqb, ne-eqb}
-use Rattle.words.specs.Words.{runOf, part}
-use Rattle.words.specs.Number.{isDigit, numberOf}
-use Rattle.words.specs.declared.Number as words-number
+use Rattle.program_words.specs.Words.{runOf, part}
+use Rattle.program_words.specs.Number.{isDigit, numberOf}
+use Rattle.program_words.specs.declared.Number as words-number
 use Rattle.wgsl_tokens.specs.Tokens.{numberToken, Token, word, mark, bad, Mode, code, stopped, isBlank, startsWord, inWord, isMark, opensLine, opensBlock, head, wordOf, digitsOf, codeStep, stepOf, tokens, from}
 use Rattle.wgsl_tokens.specs.Serving.{IsBad, startsGap, TokenAt}
 use Rattle.wgsl_tokens.specs.declared.Lexed.{Lexed}

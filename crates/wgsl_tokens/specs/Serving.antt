@@ -6,9 +6,9 @@ use mathlib.Core.Bool.{Bool, false, _||_}
 use mathlib.Core.List.{List, [], _∷_}
 use Prim.Native.Nat.{ℕ, _+_, _≤_, _<_}
 use lib.ListN.{length, getD, drop}
-use Rattle.words.specs.Words.{part}
+use Rattle.program_words.specs.Words.{part}
 use Rattle.wgsl_tokens.specs.Tokens.{Token, word, number, large, mark, bad, isBlank, opensLine, opensBlock, inWord, Mode, block, tokens, from}
-use Rattle.words.specs.Number.{isDigit}
+use Rattle.program_words.specs.Number.{isDigit}
 use Rattle.wgsl_tokens.specs.declared.Run.{Run}
 use Rattle.wgsl_tokens.specs.declared.Run.the-variants as run
 use Rattle.wgsl_tokens.specs.declared.Gap.{Gap}

@@ -6,11 +6,11 @@ use mathlib.Core.List.{List, [], _∷_, _++_}
 use Prim.Native.Nat.{ℕ, zero, suc, _+_, _-_}
 use lib.Dec.{eqb, leb, ltb}
 use lib.ListN.{length, getD, take, drop}
-use Rattle.records.specs.Result.{pick}
-use Rattle.words.specs.Words.{runOf}
-use Rattle.words.specs.Number.{isDigit, numberOf}
-use Rattle.words.specs.declared.Number.{Number}
-use Rattle.words.specs.declared.Number.the-variants.{Value, NotANumber, TooLarge}
+use Rattle.ir_records.specs.Result.{pick}
+use Rattle.program_words.specs.Words.{runOf}
+use Rattle.program_words.specs.Number.{isDigit, numberOf}
+use Rattle.program_words.specs.declared.Number.{Number}
+use Rattle.program_words.specs.declared.Number.the-variants.{Value, NotANumber, TooLarge}
 
 pub data Token : Type 0 where
   -- an identifier or a keyword, by its bytes

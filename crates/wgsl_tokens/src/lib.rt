@@ -1,11 +1,11 @@
 // WGSL text as tokens: the next one from a position on, after blankspace and comments.
-use words::Number;
+use program_words::Number;
 ghost use mathlib.Core.Path.{_≡_};
 ghost use mathlib.Core.Bool.{true, false};
 ghost use Prim.Native.Nat.{_+_, _≤_, _<_};
 ghost use lib.ListN.{length, getD, drop};
-ghost use Rattle.words.specs.Words.{runOf};
-ghost use Rattle.words.specs.Number.{isDigit};
+ghost use Rattle.program_words.specs.Words.{runOf};
+ghost use Rattle.program_words.specs.Number.{isDigit};
 ghost use Rattle.wgsl_tokens.specs.Tokens.{code, isBlank, endsLine, isAscii, startsWord, inWord, isMark, opensLine, opensBlock, closesBlock, line, block};
 ghost use Rattle.wgsl_tokens.specs.Serving.{isIn, GapAt, BlockAt, startsGap, StartAt, TokenAt};
 
@@ -297,7 +297,7 @@ fn number_at(s: &[u8], start: usize) -> Lexed
     if ((s[start] == ZERO) & (1 < long)) | in_word(next) | (next == POINT) {
         return Lexed::Bad;
     }
-    match words::number_of(&s[start..end]) {
+    match program_words::number_of(&s[start..end]) {
         Number::Value(value) => Lexed::Number { value, end },
         Number::TooLarge => Lexed::Large(end),
         Number::NotANumber => Lexed::Bad,

@@ -8,10 +8,10 @@ use native.Mathlib.Numerals.{add-one}
 use native.Mathlib.Nat.{suc-mul, mul-le-mul-right}
 use lib.ListN.{length, take, drop}
 use borrow.Author.Tests.{lt-ltb, le-ltb}
-use Rattle.records.specs.Record.{typeWords}
-use Rattle.records.specs.declared.Words.{Words}
-use Rattle.rows.specs.Rows.{withPart}
-use Rattle.rows.proofs.RowLaws.{drop-part, drop-later}
+use Rattle.ir_records.specs.Record.{typeWords}
+use Rattle.ir_records.specs.declared.Words.{Words}
+use Rattle.ir_rows.specs.Rows.{withPart}
+use Rattle.ir_rows.proofs.RowLaws.{drop-part, drop-later}
 use Rattle.wgsl_names.specs.Names.{predeclared}
 use Rattle.wgsl_names.specs.declared.Template.{Template}
 use Rattle.wgsl_tokens.specs.Tokens.{Token, from}

@@ -5,8 +5,8 @@ use mathlib.Core.List.{List, [], _∷_, _++_}
 use mathlib.Core.Option.{Option, none, some}
 use Prim.Native.Nat.{ℕ, zero, suc, _+_}
 use lib.Dec.{eqb, ltb}
-use Rattle.records.specs.Result.{pick}
-use Rattle.records.specs.declared.Words.{Words}
+use Rattle.ir_records.specs.Result.{pick}
+use Rattle.ir_records.specs.declared.Words.{Words}
 use Rattle.wgsl_tokens.specs.Tokens.{Token}
 use Rattle.wgsl_names.specs.Names.{predeclared, bytesOf}
 use Rattle.wgsl_names.specs.declared.Scalar.{Scalar}

@@ -1,5 +1,5 @@
 // A type in WGSL text: the type reader and the template-argument reader call each other, and the levels left fall.
-use records::Words;
+use ir_records::Words;
 use wgsl_grammar::NameAt;
 use wgsl_grammar::Next;
 use wgsl_grammar::NumberAt;
@@ -16,8 +16,8 @@ ghost use mathlib.Core.List.{List};
 ghost use mathlib.Core.Option.{some};
 ghost use Prim.Native.Nat.{ℕ, _*_, _≤_};
 ghost use lib.ListN.{length};
-ghost use Rattle.records.specs.Record.{typeWords};
-ghost use Rattle.words.specs.Words.{part};
+ghost use Rattle.ir_records.specs.Record.{typeWords};
+ghost use Rattle.program_words.specs.Words.{part};
 ghost use Rattle.wgsl_tokens.specs.Tokens.{Token, from};
 ghost use Rattle.wgsl_tables.specs.Tables.{Records, recordsIn, structsIn};
 ghost use Rattle.wgsl_types.specs.Types.{knownType, Closing, makeType, scalarType, closeTemplate, templateOf, templateType, numberCount, commaCount, countOf, closeArray, arrayOf, argumentsOf, typeNamed, typeAfter, typeOf};

@@ -7,7 +7,7 @@ use native.Mathlib.Omega.{arith}
 use denote.Ref.{now}
 use lib.ListN.{length, take, drop, replicate}
 use lib.Seq.{paste}
-use Rattle.rows.proofs.RowLaws.{take-part}
+use Rattle.ir_rows.proofs.RowLaws.{take-part}
 use Rattle.order_numbers.specs.Order.{memberAt}
 use Rattle.order_struct.specs.Struct.{structRecord, memberRows}
 use Rattle.order_struct.proofs.PutLaws.{rows-length}

@@ -3,7 +3,7 @@ use mathlib.Core.Path.{_≡_, refl, sym, _∙_}
 use native.Mathlib.Omega.{arith}
 use lib.ListN.{length}
 use denote.Ref.{now}
-use Rattle.records.proofs.RecordLaws.{tables-fitting}
+use Rattle.ir_records.proofs.RecordLaws.{tables-fitting}
 use Rattle.place_short.specs.Short.{shortAnswer, shortWords}
 use Rattle.place_short.proofs.OutcomeLaws.{fits-parts}
 use Rattle.place_short.proofs.judge.Statement.{statement}

@@ -9,10 +9,10 @@ use native.Mathlib.Numerals.{add-one}
 use native.Mathlib.Omega.{arith}
 use lib.ListN.{length, take, drop}
 use denote.Ref.{now}
-use Rattle.records.specs.Fields.{recordAt}
-use Rattle.records.specs.Table.{outcomeAt, firstRefusal, flat}
-use Rattle.records.specs.declared.Outcome.the-variants.{Accepted}
-use Rattle.records.proofs.TableLaws.{stays, all-ok}
+use Rattle.ir_records.specs.Fields.{recordAt}
+use Rattle.ir_records.specs.Table.{outcomeAt, firstRefusal, flat}
+use Rattle.ir_records.specs.declared.Outcome.the-variants.{Accepted}
+use Rattle.ir_records.proofs.TableLaws.{stays, all-ok}
 use Rattle.place_short.specs.Short.{threeAt}
 use Rattle.place_short.specs.Serving.{threeFrom, threeResult}
 use Rattle.place_short.proofs.ShortLaws.{three-wide, three-there, three-refusal, three-written, rest-kept}

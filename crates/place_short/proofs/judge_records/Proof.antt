@@ -5,10 +5,10 @@ use Prim.Native.Nat.{ℕ, _*_}
 use native.Mathlib.Omega.{arith}
 use lib.ListN.{replicate, take-append-drop}
 use denote.Ref.{now}
-use Rattle.records.specs.Record.{decoded}
-use Rattle.records.specs.Table.{firstRefusal}
-use Rattle.records.specs.declared.Outcome.{Outcome}
-use Rattle.layouter.specs.Layouter.{layoutAt}
+use Rattle.ir_records.specs.Record.{decoded}
+use Rattle.ir_records.specs.Table.{firstRefusal}
+use Rattle.ir_records.specs.declared.Outcome.{Outcome}
+use Rattle.proc_layouter.specs.Layouter.{layoutAt}
 use Rattle.place_short.specs.Short.{scratchAfter}
 use Rattle.place_short.proofs.OutcomeLaws.{arena-also, arena-passed, refused-scratch}
 use Rattle.place_short.proofs.judge_records.Statement.{statement}

@@ -8,12 +8,12 @@ use native.Mathlib.Numerals.{add-one}
 use native.Mathlib.Omega.{arith}
 use lib.ListN.{length, take, drop}
 use denote.Ref.{now}
-use Rattle.records.specs.Record.{decoded}
-use Rattle.records.specs.Fields.{recordAt}
-use Rattle.records.specs.Table.{firstRefusal, flat}
-use Rattle.records.specs.declared.Outcome.the-variants.{Accepted}
-use Rattle.records.proofs.TableLaws.{stays, all-ok}
-use Rattle.layouter.specs.Layouter.{layoutAt}
+use Rattle.ir_records.specs.Record.{decoded}
+use Rattle.ir_records.specs.Fields.{recordAt}
+use Rattle.ir_records.specs.Table.{firstRefusal, flat}
+use Rattle.ir_records.specs.declared.Outcome.the-variants.{Accepted}
+use Rattle.ir_records.proofs.TableLaws.{stays, all-ok}
+use Rattle.proc_layouter.specs.Layouter.{layoutAt}
 use Rattle.place_short.specs.Serving.{laidFrom}
 use Rattle.place_short.proofs.ShortLaws.{laidAt, laid-wide, laid-outcome, laid-three, three-written, rest-kept}
 use Rattle.place_short.proofs.layout_all.Statement.{statement}

@@ -1,7 +1,7 @@
 -- `place_short::lookup` meets its contract: judging answers first, and an arena that it accepts descends. Assumes nothing.
 use borrow.Author.Needs.{needs}
 use mathlib.Core.Path.{refl, sym, _∙_}
-use Rattle.place.proofs.LookupLaws.{arena-descends}
+use Rattle.place_lookup.proofs.LookupLaws.{arena-descends}
 use Rattle.place_short.specs.Short.{shortLookup}
 use Rattle.place_short.proofs.OutcomeLaws.{short-accepted}
 use Rattle.place_short.proofs.lookup.Statement.{statement}

@@ -3,9 +3,9 @@ use mathlib.Core.Path.{refl, sym, _∙_, ap}
 use native.Mathlib.Omega.{arith}
 use borrow.Author.Tests.{not-true}
 use denote.Ref.{now}
-use Rattle.records.specs.Record.{typeInner, Sourceless}
-use Rattle.flags.specs.Flags.{bit}
-use Rattle.width.specs.Width.{dualSourceBlending}
+use Rattle.ir_records.specs.Record.{typeInner, Sourceless}
+use Rattle.valid_flags.specs.Flags.{bit}
+use Rattle.valid_width.specs.Width.{dualSourceBlending}
 use Rattle.valid_blend.specs.Serving.{sourceAnswer}
 use Rattle.valid_blend.proofs.BlendLaws.{no-sources, no-blend}
 use Rattle.place_short_flags.specs.ShortFlags.{shortFlags}

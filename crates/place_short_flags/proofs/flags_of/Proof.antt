@@ -1,5 +1,5 @@
 use borrow.Author.Needs.{needs}
-use Rattle.validate_type.specs.ValidateType.{flagsOf}
+use Rattle.valid_types.specs.ValidateType.{flagsOf}
 use Rattle.place_short_flags.proofs.flags_of.Statement.{statement}
 use Rattle.place_short_flags.proofs.flags_of.Tie as tie
 

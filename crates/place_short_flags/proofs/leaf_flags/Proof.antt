@@ -1,5 +1,5 @@
 use borrow.Author.Needs.{needs}
-use Rattle.type_flags.specs.TypeFlags.{leafFlags}
+use Rattle.valid_type_flags.specs.TypeFlags.{leafFlags}
 use Rattle.place_short_flags.proofs.leaf_flags.Statement.{statement}
 use Rattle.place_short_flags.proofs.leaf_flags.Tie as tie
 

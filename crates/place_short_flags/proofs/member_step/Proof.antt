@@ -1,8 +1,8 @@
 use borrow.Author.Needs.{needs}
 use mathlib.Core.Path.{_≡_, refl, _∙_}
 use denote.Ref.{now}
-use Rattle.records.specs.Record.{memberType}
-use Rattle.member_bounds.specs.MemberBounds.{memberBounds}
+use Rattle.ir_records.specs.Record.{memberType}
+use Rattle.valid_member_bounds.specs.MemberBounds.{memberBounds}
 use Rattle.place_short_flags.proofs.member_step.Statement.{statement}
 use Rattle.place_short_flags.proofs.member_step.Tie as tie
 

@@ -7,11 +7,11 @@ use native.Mathlib.Nat.{le-antisymm}
 use native.Mathlib.Omega.{arith}
 use borrow.Author.Tests.{eqb-true, not-false}
 use denote.Ref.{now}
-use Rattle.records.specs.Result.{ok}
-use Rattle.records.specs.Record.{typeInner, Sourceless}
-use Rattle.type_alignment.proofs.AlignmentLaws.{one-more-sourceless}
-use Rattle.type_info.specs.Verdict.{previousOf}
-use Rattle.member_bounds.specs.MemberBounds.{boundsAfter}
+use Rattle.ir_records.specs.Result.{ok}
+use Rattle.ir_records.specs.Record.{typeInner, Sourceless}
+use Rattle.proc_type_alignment.proofs.AlignmentLaws.{one-more-sourceless}
+use Rattle.valid_type_info.specs.Verdict.{previousOf}
+use Rattle.valid_member_bounds.specs.MemberBounds.{boundsAfter}
 use Rattle.place_short_flags.specs.ShortFlags.{shortSizes, shortFlags}
 use Rattle.place_short_flags.proofs.MembersLaws.{previous-next, member-taken, member-refused}
 use Rattle.place_short_flags.proofs.members_of.Statement.{statement}

@@ -1,5 +1,5 @@
 use borrow.Author.Needs.{needs}
-use Rattle.validate_type.specs.ValidateType.{nonDataFlags}
+use Rattle.valid_types.specs.ValidateType.{nonDataFlags}
 use Rattle.place_short_flags.proofs.non_data_flags.Statement.{statement}
 use Rattle.place_short_flags.proofs.non_data_flags.Tie as tie
 

@@ -2,7 +2,7 @@ use borrow.Author.Needs.{needs}
 use mathlib.Core.Path.{_≡_, sym, _∙_}
 use native.Mathlib.Omega.{arith}
 use denote.Ref.{now}
-use Rattle.records.specs.Record.{typeInner}
+use Rattle.ir_records.specs.Record.{typeInner}
 use Rattle.valid_blend.proofs.BlendLaws.{both-missing, second-alone, first-alone, both-there}
 use Rattle.place_short_flags.specs.ShortFlags.{shortFlags}
 use Rattle.place_short_flags.proofs.struct_blend.Statement.{statement}

@@ -4,12 +4,12 @@ use Prim.Native.Nat.{_<_}
 use native.Mathlib.Omega.{arith}
 use borrow.Author.Tests.{lt-ltb}
 use denote.Ref.{now}
-use Rattle.records.specs.Record.{typeInner}
-use Rattle.flags.specs.Flags.{bit}
-use Rattle.width.specs.Width.{dualSourceBlending}
+use Rattle.ir_records.specs.Record.{typeInner}
+use Rattle.valid_flags.specs.Flags.{bit}
+use Rattle.valid_width.specs.Width.{dualSourceBlending}
 use Rattle.valid_blend.specs.Serving.{sourceAnswer, blendAnswer}
 use Rattle.valid_blend.proofs.BlendLaws.{blended-refused, flags-taken, flags-refused}
-use Rattle.validate_type.specs.ValidateType.{flagsOf}
+use Rattle.valid_types.specs.ValidateType.{flagsOf}
 use Rattle.place_short_flags.specs.ShortFlags.{shortSizes, shortFlags}
 use Rattle.place_short_flags.proofs.MembersLaws.{not-false-too}
 use Rattle.place_short_flags.proofs.struct_flags.Statement.{statement}

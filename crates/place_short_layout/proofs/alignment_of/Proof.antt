@@ -1,6 +1,6 @@
 use borrow.Author.Needs.{needs}
 use mathlib.Core.Path.{refl}
-use Rattle.type_alignment.specs.TypeAlignment.{alignmentOf}
+use Rattle.proc_type_alignment.specs.TypeAlignment.{alignmentOf}
 use Rattle.place_short_layout.proofs.alignment_of.Statement.{statement}
 use Rattle.place_short_layout.proofs.alignment_of.Tie as tie
 

@@ -1,7 +1,7 @@
 use borrow.Author.Needs.{needs}
 use mathlib.Core.Path.{refl, sym, ap, _∙_}
-use Rattle.type_methods.specs.Serving.{sizeResult}
-use Rattle.type_layout.specs.TypeLayout.{layoutOf}
+use Rattle.proc_type_methods.specs.Serving.{sizeResult}
+use Rattle.proc_type_layout.specs.TypeLayout.{layoutOf}
 use Rattle.place_short_layout.proofs.layout_of.Statement.{statement}
 use Rattle.place_short_layout.proofs.layout_of.Tie as tie
 

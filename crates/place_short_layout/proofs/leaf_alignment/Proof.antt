@@ -1,8 +1,8 @@
 use borrow.Author.Needs.{needs}
 use mathlib.Core.Path.{refl}
 use native.Mathlib.Omega.{arith}
-use Rattle.alignment.proofs.PowerLaws.{cooperative-within}
-use Rattle.type_alignment.proofs.AlignmentLaws.{factor-within}
+use Rattle.proc_alignment.proofs.PowerLaws.{cooperative-within}
+use Rattle.proc_type_alignment.proofs.AlignmentLaws.{factor-within}
 use Rattle.place_short_layout.proofs.leaf_alignment.Statement.{statement}
 use Rattle.place_short_layout.proofs.leaf_alignment.Tie as tie
 

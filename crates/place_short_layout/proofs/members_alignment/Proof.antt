@@ -5,9 +5,9 @@ use mathlib.Core.Path.{_≡_, refl, sym}
 use Prim.Native.Nat.{_≤_, _-_}
 use native.Mathlib.Nat.{le-antisymm}
 use denote.Ref.{now}
-use Rattle.records.specs.Result.{ok}
-use Rattle.type_alignment.specs.TypeAlignment.{membersAlignment}
-use Rattle.type_alignment.proofs.AlignmentLaws.{member-earlier, member-late}
+use Rattle.ir_records.specs.Result.{ok}
+use Rattle.proc_type_alignment.specs.TypeAlignment.{membersAlignment}
+use Rattle.proc_type_alignment.proofs.AlignmentLaws.{member-earlier, member-late}
 use Rattle.place_short_layout.specs.ShortRows.{shortLayouts}
 use Rattle.place_short_layout.proofs.members_alignment.Statement.{statement}
 use Rattle.place_short_layout.proofs.members_alignment.Tie as tie

@@ -5,7 +5,7 @@ use mathlib.Core.Path.{_≡_, refl, sym, ap, _∙_}
 use Prim.Native.Nat.{ℕ, _+_, _-_, _≤_, _<_}
 use native.Mathlib.Omega.{arith}
 use denote.Ref.{now}
-use Rattle.records.specs.Result.{pick}
+use Rattle.ir_records.specs.Result.{pick}
 use Rattle.spirv_words.specs.Module.{wordCount, opcode, isRead, between, first}
 use Rattle.spirv_words.proofs.SearchLaws.{search-on, search-found, search-end, search-stuck}
 use Rattle.spirv_ids.specs.Ids.{gives, giver, typeNumber}

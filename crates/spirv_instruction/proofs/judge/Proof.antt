@@ -2,7 +2,7 @@
 use borrow.Author.Needs.{needs}
 use mathlib.Core.Path.{_≡_, refl, sym, ap, _∙_}
 use denote.Ref.{now}
-use Rattle.records.specs.Record.{typeCount}
+use Rattle.ir_records.specs.Record.{typeCount}
 use Rattle.spirv_instruction.proofs.InstructionLaws.{count-some, instruction-short, instruction-type, instruction-other, told-type, told-other}
 use Rattle.spirv_instruction.proofs.judge.Statement.{statement}
 use Rattle.spirv_instruction.proofs.judge.Tie as tie

@@ -2,7 +2,7 @@
 use Prim.Native.Nat.{_*_, _≤_}
 use mathlib.Core.Path.{_≡_, refl}
 use native.Mathlib.Omega.{arith}
-use Rattle.alignment.proofs.PowerLaws.{mul-within}
+use Rattle.proc_alignment.proofs.PowerLaws.{mul-within}
 use Rattle.spirv_members.proofs.array_size.Statement.{statement}
 use Rattle.spirv_members.proofs.array_size.Tie as tie
 

@@ -4,7 +4,7 @@ use mathlib.Core.Path.{_≡_, refl, sym, ap, _∙_}
 use Prim.Native.Nat.{ℕ, suc, _-_, _≤_, _<_}
 use native.Mathlib.Omega.{arith}
 use denote.Ref.{now}
-use Rattle.alignment.proofs.PowerLaws.{mul-within, vector-within}
+use Rattle.proc_alignment.proofs.PowerLaws.{mul-within, vector-within}
 use Rattle.spirv_members.specs.Members.{columnStepIn}
 use Rattle.spirv_members.proofs.MemberLaws.{step-matrix, step-none, step-array, step-last, matrix-width}
 use Rattle.spirv_members.proofs.column_step.Statement.{statement}

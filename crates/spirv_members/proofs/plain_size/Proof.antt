@@ -3,9 +3,9 @@ use borrow.Author.Needs.{needs}
 use mathlib.Core.Path.{_≡_, refl, sym, _∙_}
 use Prim.Native.Nat.{ℕ, _≤_}
 use native.Mathlib.Omega.{arith}
-use Rattle.records.specs.Result.{ok, err}
-use Rattle.records.proofs.ResultLaws.{ok-inj}
-use Rattle.type_methods.specs.Serving.{sizeResult}
+use Rattle.ir_records.specs.Result.{ok, err}
+use Rattle.ir_records.proofs.ResultLaws.{ok-inj}
+use Rattle.proc_type_methods.specs.Serving.{sizeResult}
 use Rattle.spirv_members.proofs.plain_size.Statement.{statement}
 use Rattle.spirv_members.proofs.plain_size.Tie as tie
 

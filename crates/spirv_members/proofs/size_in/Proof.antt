@@ -3,7 +3,7 @@ use borrow.Author.Needs.{needs}
 use mathlib.Core.Path.{_≡_, refl, sym, ap, _∙_}
 use Prim.Native.Nat.{_≤_}
 use native.Mathlib.Omega.{arith}
-use Rattle.type_methods.specs.TypeMethods.{trySize, sizeOf}
+use Rattle.proc_type_methods.specs.TypeMethods.{trySize, sizeOf}
 use Rattle.spirv_members.specs.Members.{sizeIn}
 use Rattle.spirv_members.proofs.size_in.Statement.{statement}
 use Rattle.spirv_members.proofs.size_in.Tie as tie

@@ -39,11 +39,11 @@ use denote.Triple.Walked.{says, Stays, stay-none-slice, gave-slice, walkOf, goes
 use denote.Exit.{yes}
 use Rattle.spirv_reader.specs.Section.{sectionAt, typesAt, membersAt}
 use Rattle.spirv_reader.specs.declared.Reader.{Reader}
-use Rattle.spirv.specs.declared.Section.{Section}
+use Rattle.spirv_read.specs.declared.Section.{Section}
 use Rattle.spirv_reader.proofs.Reader as T
 use Rattle.spirv_reader.proofs.Reader.Laws as T′
-use Rattle.spirv.proofs.Section as S
-use Rattle.spirv.proofs.Section.Laws as S′
+use Rattle.spirv_read.proofs.Section as S
+use Rattle.spirv_read.proofs.Section.Laws as S′
 use Rattle.spirv_reader.proofs.new as new
 use Rattle.spirv_reader.proofs.new.Symbol as new-def
 use Rattle.spirv_reader.proofs.new.Symbol.{name as #spirv-reader·new}

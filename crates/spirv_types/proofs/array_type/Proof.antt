@@ -5,11 +5,11 @@ use Prim.Native.Nat.{ℕ, _*_, _/_, _≤_, _<_}
 use native.Mathlib.Omega.{arith}
 use lib.ListN.{length}
 use denote.Ref.{now}
-use Rattle.alignment.proofs.PowerLaws.{mul-within}
-use Rattle.records.specs.Record.{innerOf}
+use Rattle.proc_alignment.proofs.PowerLaws.{mul-within}
+use Rattle.ir_records.specs.Record.{innerOf}
 use Rattle.spirv_members.proofs.NumberLaws.{sort-below}
 use Rattle.spirv_types.specs.Types.{arrayType}
-use Rattle.type_alignment.specs.TypeAlignment.{alignmentOf}
+use Rattle.proc_type_alignment.specs.TypeAlignment.{alignmentOf}
 use Rattle.spirv_types.proofs.array_type.Statement.{statement}
 use Rattle.spirv_types.proofs.array_type.Tie as tie
 

@@ -1,9 +1,9 @@
 -- `spirv_types::bool_type` meets its contract. Assumes nothing.
 use Prim.Native.Nat.{ℕ, _*_, _/_, _≤_, _<_}
 use native.Mathlib.Omega.{arith}
-use Rattle.records.specs.Record.{innerOf}
+use Rattle.ir_records.specs.Record.{innerOf}
 use Rattle.spirv_types.specs.Types.{boolType}
-use Rattle.type_alignment.specs.TypeAlignment.{alignmentOf}
+use Rattle.proc_type_alignment.specs.TypeAlignment.{alignmentOf}
 use Rattle.spirv_types.proofs.bool_type.Statement.{statement}
 use Rattle.spirv_types.proofs.bool_type.Tie as tie
 

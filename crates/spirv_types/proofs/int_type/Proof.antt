@@ -3,10 +3,10 @@ use borrow.Author.Needs.{needs}
 use mathlib.Core.Path.{_≡_, refl, sym, ap, _∙_}
 use Prim.Native.Nat.{ℕ, _*_, _/_, _≤_, _<_}
 use native.Mathlib.Omega.{arith}
-use Rattle.records.specs.Record.{innerOf}
+use Rattle.ir_records.specs.Record.{innerOf}
 use Rattle.spirv_types.proofs.TypeLaws.{width-within}
 use Rattle.spirv_types.specs.Types.{intType}
-use Rattle.type_alignment.specs.TypeAlignment.{alignmentOf}
+use Rattle.proc_type_alignment.specs.TypeAlignment.{alignmentOf}
 use Rattle.spirv_types.proofs.int_type.Statement.{statement}
 use Rattle.spirv_types.proofs.int_type.Tie as tie
 

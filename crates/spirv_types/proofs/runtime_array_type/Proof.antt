@@ -1,9 +1,9 @@
 -- `spirv_types::runtime_array_type` meets its contract. Assumes nothing.
 use borrow.Author.Needs.{needs}
 use mathlib.Core.Path.{_≡_, refl, sym, ap, _∙_}
-use Rattle.records.specs.Record.{innerOf}
+use Rattle.ir_records.specs.Record.{innerOf}
 use Rattle.spirv_types.specs.Types.{runtimeArrayType}
-use Rattle.type_alignment.specs.TypeAlignment.{alignmentOf}
+use Rattle.proc_type_alignment.specs.TypeAlignment.{alignmentOf}
 use Rattle.spirv_types.proofs.runtime_array_type.Statement.{statement}
 use Rattle.spirv_types.proofs.runtime_array_type.Tie as tie
 

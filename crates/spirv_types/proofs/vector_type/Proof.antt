@@ -5,10 +5,10 @@ use mathlib.Core.Path.{_≡_, refl, sym, ap, _∙_}
 use Prim.Native.Nat.{ℕ, _*_, _/_, _≤_, _<_}
 use native.Mathlib.Omega.{arith}
 use denote.Ref.{now}
-use Rattle.records.specs.Record.{innerOf}
+use Rattle.ir_records.specs.Record.{innerOf}
 use Rattle.spirv_types.proofs.TypeLaws.{base-scalar, vector-small}
 use Rattle.spirv_types.specs.Types.{vectorType}
-use Rattle.type_alignment.specs.TypeAlignment.{alignmentOf}
+use Rattle.proc_type_alignment.specs.TypeAlignment.{alignmentOf}
 use Rattle.spirv_types.proofs.vector_type.Statement.{statement}
 use Rattle.spirv_types.proofs.vector_type.Tie as tie
 

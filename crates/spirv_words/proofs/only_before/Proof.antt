@@ -6,7 +6,7 @@ use Prim.Native.Nat.{ℕ, _+_, _-_, _<_}
 use native.Mathlib.Omega.{arith}
 use lib.Dec.{eqb}
 use denote.Ref.{now}
-use Rattle.records.specs.Result.{pick}
+use Rattle.ir_records.specs.Result.{pick}
 use Rattle.spirv_words.specs.Module.{wordCount, between, first, only}
 use Rattle.spirv_words.specs.Decorations.{passes}
 use Rattle.spirv_words.proofs.SearchLaws.{only-none, only-found, found-below}

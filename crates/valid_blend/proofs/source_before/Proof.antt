@@ -4,8 +4,8 @@ use native.Mathlib.Omega.{arith}
 use native.Mathlib.Numerals.{add-one}
 use borrow.Author.Tests.{ne-eqb, not-true}
 use denote.Ref.{now}
-use Rattle.flags.specs.Flags.{bit}
-use Rattle.width.specs.Width.{dualSourceBlending}
+use Rattle.valid_flags.specs.Flags.{bit}
+use Rattle.valid_width.specs.Width.{dualSourceBlending}
 use Rattle.valid_blend.specs.Serving.{sourcesBefore}
 use Rattle.valid_blend.proofs.BlendLaws.{before-within, no-sources}
 use Rattle.valid_blend.proofs.source_before.Statement.{statement}

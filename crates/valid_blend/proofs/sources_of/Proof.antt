@@ -5,7 +5,7 @@ use mathlib.Core.Path.{_≡_, refl, sym, _∙_, ap}
 use Prim.Native.Nat.{_≤_, _-_}
 use native.Mathlib.Nat.{le-antisymm}
 use denote.Ref.{now}
-use Rattle.records.specs.Result.{ok}
+use Rattle.ir_records.specs.Result.{ok}
 use Rattle.valid_blend.specs.Blend.{sourcesAfter}
 use Rattle.valid_blend.specs.Serving.{sourceAnswer}
 use Rattle.valid_blend.proofs.BlendLaws.{source-passes, source-stops}

@@ -3,8 +3,8 @@ use Prim.Native.Nat.{_+_, _*_, _≤_, _<_}
 use native.Mathlib.Omega.{arith}
 use lib.ListN.{length}
 use denote.Ref.{now}
-use Rattle.records.specs.Record.{memberWords}
-use Rattle.rows.proofs.RowLaws.{drop-part}
+use Rattle.ir_records.specs.Record.{memberWords}
+use Rattle.ir_rows.proofs.RowLaws.{drop-part}
 use Rattle.wgsl_members.proofs.MemberLaws.{place-is}
 use borrow.Author.Needs.{needs}
 use Rattle.wgsl_members.proofs.place_member.Statement.{statement}

@@ -1,8 +1,8 @@
 use mathlib.Core.Path.{_≡_, refl, sym, ap, _∙_}
 use Prim.Native.Nat.{_+_, _*_, _/_, _%_, _≤_, _<_}
 use native.Mathlib.Omega.{arith}
-use Rattle.alignment.specs.Alignment.{vectorAlignment}
-use Rattle.alignment.proofs.PowerLaws.{mul-within, vector-within}
+use Rattle.proc_alignment.specs.Alignment.{vectorAlignment}
+use Rattle.proc_alignment.proofs.PowerLaws.{mul-within, vector-within}
 use borrow.Author.Needs.{needs}
 use Rattle.wgsl_placement.proofs.align_of_vector.Statement.{statement}
 use Rattle.wgsl_placement.proofs.align_of_vector.Tie as tie

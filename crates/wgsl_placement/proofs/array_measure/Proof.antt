@@ -2,7 +2,7 @@ use mathlib.Core.Path.{_≡_, refl, sym, ap, _∙_}
 use Prim.Native.Nat.{_+_, _*_, _/_, _%_, _≤_, _<_}
 use native.Mathlib.Omega.{arith}
 use borrow.Author.Tests.{le-leb, lt-leb}
-use Rattle.alignment.proofs.PowerLaws.{mul-within}
+use Rattle.proc_alignment.proofs.PowerLaws.{mul-within}
 use borrow.Author.Needs.{needs}
 use Rattle.wgsl_placement.proofs.array_measure.Statement.{statement}
 use Rattle.wgsl_placement.proofs.array_measure.Tie as tie

@@ -4,8 +4,8 @@ use native.Mathlib.Omega.{arith}
 use lib.ListN.{length}
 use denote.Ref.{now}
 use borrow.Author.Tests.{le-leb, lt-leb, lt-ltb, le-ltb}
-use Rattle.records.specs.Record.{typeWords}
-use Rattle.rows.proofs.RowLaws.{drop-part}
+use Rattle.ir_records.specs.Record.{typeWords}
+use Rattle.ir_rows.proofs.RowLaws.{drop-part}
 use Rattle.wgsl_grammar.specs.Grammar.{read}
 use Rattle.wgsl_structs.proofs.StructLaws.{struct-is}
 use borrow.Author.Needs.{needs}

@@ -4,7 +4,7 @@ use native.Mathlib.Omega.{arith}
 use lib.ListN.{length}
 use denote.Ref.{now}
 use borrow.Author.Tests.{ne-eqb}
-use Rattle.words.specs.Words.{part}
+use Rattle.program_words.specs.Words.{part}
 use Rattle.wgsl_tokens.specs.Tokens.{from}
 use Rattle.wgsl_members.specs.Serving.{rooms}
 use Rattle.wgsl_structs.specs.Structs.{structOf}

@@ -3,7 +3,7 @@ use Prim.Native.Nat.{_+_, _*_, _-_, _≤_, _<_}
 use native.Mathlib.Omega.{arith}
 use lib.ListN.{length}
 use denote.Ref.{now}
-use Rattle.words.specs.Words.{part}
+use Rattle.program_words.specs.Words.{part}
 use Rattle.wgsl_members.specs.Serving.{rooms}
 use Rattle.wgsl_structs.specs.Serving.{declarations}
 use Rattle.wgsl_structs.proofs.StructLaws.{start-bounds, body-stopped, struct-read}

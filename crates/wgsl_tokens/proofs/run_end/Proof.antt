@@ -5,8 +5,8 @@ use native.Mathlib.Omega.{arith}
 use lib.ListN.{length, getD, drop}
 use denote.Ref.{now}
 use borrow.Author.Tests.{not-true, not-false}
-use Rattle.words.specs.Words.{runOf}
-use Rattle.words.proofs.WordLaws.{run-more, run-stop, run-done}
+use Rattle.program_words.specs.Words.{runOf}
+use Rattle.program_words.proofs.WordLaws.{run-more, run-stop, run-done}
 use Rattle.wgsl_tokens.specs.Serving.{isIn}
 use borrow.Author.Needs.{needs}
 use Rattle.wgsl_tokens.proofs.run_end.Statement.{statement}

@@ -7,7 +7,7 @@ use denote.Ref.{now}
 use borrow.Author.Needs.{needs}
 use borrow.Fn.Kinds.{In}
 use borrow.Fn.PlainCycle.{Measures, is, falls, and}
-use Rattle.records.specs.Record.{typeWords}
+use Rattle.ir_records.specs.Record.{typeWords}
 use Rattle.wgsl_tokens.specs.Tokens.{from}
 use Rattle.wgsl_tables.specs.Tables.{recordsIn, structsIn}
 use Rattle.wgsl_types.specs.Types.{arrayOf, typeOf}

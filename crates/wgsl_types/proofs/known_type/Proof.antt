@@ -2,7 +2,7 @@ use mathlib.Core.Path.{_≡_, sym, _∙_}
 use Prim.Native.Nat.{_*_, _+_, _<_, _≤_}
 use native.Mathlib.Omega.{arith}
 use denote.Ref.{now}
-use Rattle.words.specs.Words.{part}
+use Rattle.program_words.specs.Words.{part}
 use Rattle.wgsl_tables.proofs.TableLaws.{entry-within, lookup-entry}
 use borrow.Author.Needs.{needs}
 use Rattle.wgsl_types.proofs.known_type.Statement.{statement}
