@@ -1,10 +1,13 @@
 // The program `from_spirv`: reads a SPIR-V module from standard input, or from each file that an argument names, and writes a line for each
 // type and member that `inspect` takes, or the refusal.
+use program_output::Buffer;
 use spirv_read::Section;
 ghost use mathlib.Core.Path.{_≡_};
 ghost use Prim.Native.Nat.{_≤_};
 ghost use lib.ListN.{length};
+ghost use Rattle.program_output.specs.Bytes.{Puts};
 ghost use Rattle.from_spirv.specs.Serving.{HeldWithin};
+ghost use Rattle.from_spirv.specs.Lines.{moduleLines};
 
 const STDOUT: i32 = 1;
 
@@ -15,17 +18,24 @@ enum Held {
     Long,
 }
 
-fn answer(words: &[u32]) {
+// What is written of a module.
+fn put_answer(out: &mut Buffer, at: usize, words: &[u32]) -> usize
+    ensures { λ r. ⌜ Puts (now (out .entry)) at (moduleLines (now (words .entry))) (now (out .exit)) r ⌝ }
+{
     let mut types = [0u32; 6144];
     let mut members = [0u32; 16384];
-    let mut out = [0u8; 65536];
-    let end = match spirv_reader::read_module(words, &mut types, &mut members) {
+    match spirv_reader::read_module(words, &mut types, &mut members) {
         Section::Read {
             types: t,
             members: m,
-        } => program_record_lines::put_records(&mut out, 0, &types, t, &members, m),
-        Section::Refused { number } => program_output::put_refusal(&mut out, 0, number, 0, 0, 0),
-    };
+        } => program_record_lines::put_records(out, at, &types, t, &members, m),
+        Section::Refused { number } => program_output::put_refusal(out, at, number, 0, 0, 0),
+    }
+}
+
+fn answer(words: &[u32]) {
+    let mut out = [0u8; 1114112];
+    let end = put_answer(&mut out, 0, words);
     program_output::write_out(&out, end);
 }
 

@@ -5,7 +5,7 @@ ghost use mathlib.Core.Path.{_≡_};
 ghost use lib.ListN.{length};
 
 fn answer(text: &[u8]) {
-    let mut out = [0u8; 65536];
+    let mut out = [0u8; 1114112];
     let end = wgsl_lines::put_answer(&mut out, 0, text);
     program_output::write_out(&out, end);
 }

@@ -4,7 +4,7 @@ use program_commands::Session;
 fn stop_at(s: Session, line: &[u8]) {
     let mut arena = [0u32; 22528];
     let mut numbers = [0u32; 1025];
-    let mut out = [0u8; 65536];
+    let mut out = [0u8; 1114112];
     let read = program_lines::read_line(line, &mut numbers);
     let stopped = program_commands::change(read, s, &mut arena);
     program_commands::flushed(stopped, &mut out);

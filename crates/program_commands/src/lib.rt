@@ -3,8 +3,12 @@ use immediates_pass::Pass;
 use program_arguments::Reason;
 use program_lines::Line;
 use program_output::Buffer;
-ghost use Prim.Native.Nat.{_≤_};
+ghost use mathlib.Core.Path.{_≡_};
+ghost use mathlib.Core.Bool.{Bool};
+ghost use Prim.Native.Nat.{_+_, _≤_};
 ghost use lib.ListN.{length};
+ghost use lib.Seq.{sets};
+ghost use Rattle.program_commands.specs.Commands.{started, partOf, typesHeld, rowsHeld, heldAfter, typeAdded, withType, memberAdded, withMember, stoppedBy, cleared, changed, arenaAfter, afterWrite};
 
 // The arena is one run of words: the types from its start on, the members from here on.
 pub const MEMBERS_AT: usize = 6144;
@@ -37,13 +41,16 @@ pub struct Session {
     pub word: u32,
 }
 
-pub fn start() -> Session {
+pub fn start() -> Session
+    ensures { λ r. ⌜ r ≡ started ⌝ }
+{
+    let pass = immediates_pass::start();
     Session {
         capabilities: 0,
         rule: 0,
         types: 0,
         members: MEMBERS_AT,
-        pass: immediates_pass::start(),
+        pass,
         line: 1,
         waiting: 0,
         held: 0,
@@ -53,7 +60,9 @@ pub fn start() -> Session {
 }
 
 // The words from `start` up to `end`.
-pub fn part(words: &[u32], start: usize, end: usize) -> &[u32] {
+pub fn part(words: &[u32], start: usize, end: usize) -> &[u32]
+    ensures { λ r. ⌜ now r ≡ partOf (now (words .entry)) start end ⌝ }
+{
     if words.len() < end {
         return &words[..0];
     }
@@ -63,33 +72,10 @@ pub fn part(words: &[u32], start: usize, end: usize) -> &[u32] {
     &words[start..end]
 }
 
-// Adds a record at `at` in the table that ends at `limit`.
-fn add(mut s: Session, arena: &mut Arena, at: usize, limit: usize, words: &[u32]) -> Session
-    requires { ⌜ (length (now words) ≤ limit) × (limit ≤ 22528) ⌝ }
-{
-    if limit - words.len() < at {
-        s.why = if limit == MEMBERS_AT {
-            program_output::TYPES_FULL
-        } else {
-            program_output::MEMBERS_FULL
-        };
-        return s;
-    }
-    let mut i = 0;
-    while i < words.len() {
-        arena[at + i] = words[i];
-        i += 1;
-    }
-    if limit == MEMBERS_AT {
-        s.types = at + i;
-    } else {
-        s.members = at + i;
-    }
-    s
-}
-
 // How many types and how many member rows the arena holds.
-pub fn types_held(s: Session) -> u32 {
+pub fn types_held(s: Session) -> u32
+    ensures { λ r. ⌜ r ≡ typesHeld s ⌝ }
+{
     let end = s.types;
     if end > MEMBERS_AT {
         return 0;
@@ -97,7 +83,9 @@ pub fn types_held(s: Session) -> u32 {
     (end / ir_records::TYPE_WORDS) as u32
 }
 
-pub fn rows_held(s: Session) -> u32 {
+pub fn rows_held(s: Session) -> u32
+    ensures { λ r. ⌜ r ≡ rowsHeld s ⌝ }
+{
     let end = s.members;
     if end > ARENA_WORDS {
         return 0;
@@ -109,48 +97,116 @@ pub fn rows_held(s: Session) -> u32 {
 }
 
 // One type and some member rows more than n and m.
-pub fn held(mut s: Session, n: u32, m: u32, more: usize) -> Session {
+pub fn held(mut s: Session, n: u32, m: u32, more: usize) -> Session
+    ensures { λ r. ⌜ r ≡ heldAfter n m more s ⌝ }
+{
     s.types = (n as usize + 1) * ir_records::TYPE_WORDS;
     if more < 8 {
         s.members = MEMBERS_AT + (m as usize + more) * ir_records::MEMBER_WORDS;
+        return s;
     }
     s
 }
 
-fn stop(mut s: Session, reason: Reason) -> Session {
+// Writes words into the arena.
+fn store(arena: &mut Arena, at: usize, words: &[u32])
+    requires { ⌜ at + length (now words) ≤ 22528 ⌝ }
+    ensures { λ _. ⌜ now (arena .exit) ≡ sets (now (arena .entry)) at (now (words .entry)) ⌝ }
+{
+    let mut i = 0;
+    while i < words.len() {
+        arena[at + i] = words[i];
+        i += 1;
+    }
+}
+
+fn add_type(mut s: Session, arena: &mut Arena, words: &[u32]) -> Session
+    requires { ⌜ length (now words) ≡ 6 ⌝ }
+    ensures { λ r. ⌜ r ≡ typeAdded s ⌝ }
+    ensures { λ _. ⌜ now (arena .exit) ≡ withType (now (words .entry)) s (now (arena .entry)) ⌝ }
+{
+    let at = s.types;
+    if MEMBERS_AT - ir_records::TYPE_WORDS < at {
+        s.why = program_output::TYPES_FULL;
+        return s;
+    }
+    store(arena, at, words);
+    s.types = at + ir_records::TYPE_WORDS;
+    s
+}
+
+fn add_member(mut s: Session, arena: &mut Arena, words: &[u32]) -> Session
+    requires { ⌜ length (now words) ≡ 4 ⌝ }
+    ensures { λ r. ⌜ r ≡ memberAdded s ⌝ }
+    ensures { λ _. ⌜ now (arena .exit) ≡ withMember (now (words .entry)) s (now (arena .entry)) ⌝ }
+{
+    let at = s.members;
+    if ARENA_WORDS - ir_records::MEMBER_WORDS < at {
+        s.why = program_output::MEMBERS_FULL;
+        return s;
+    }
+    store(arena, at, words);
+    s.members = at + ir_records::MEMBER_WORDS;
+    s
+}
+
+fn stop(mut s: Session, reason: Reason) -> Session
+    ensures { λ r. ⌜ r ≡ stoppedBy reason s ⌝ }
+{
     match reason {
         Reason::NotANumber(word) => {
             s.word = word;
             s.why = program_output::NOT_A_NUMBER;
+            s
         }
         Reason::TooLarge(word) => {
             s.word = word;
             s.why = program_output::TOO_LARGE;
+            s
         }
         Reason::Usage(command) => {
             s.why = program_output::usage_line(command);
+            s
         }
         Reason::ByteOrderMark => {
             s.why = program_output::BYTE_ORDER_MARK;
+            s
         }
         Reason::Nul => {
             s.why = program_output::NUL;
+            s
         }
         Reason::Return => {
             s.why = program_output::RETURN;
+            s
         }
     }
+}
+
+fn clear(mut s: Session) -> Session
+    ensures { λ r. ⌜ r ≡ cleared s ⌝ }
+{
+    s.capabilities = 0;
+    s.rule = 0;
+    s.types = 0;
+    s.members = MEMBERS_AT;
     s
 }
 
 // A line that asks for an answer leaves the session as it is.
-pub fn change(line: Line, mut s: Session, arena: &mut Arena) -> Session {
+pub fn change(line: Line, mut s: Session, arena: &mut Arena) -> Session
+    ensures { λ r. ⌜ r ≡ changed line s ⌝ }
+    ensures { λ _. ⌜ now (arena .exit) ≡ arenaAfter line s (now (arena .entry)) ⌝ }
+{
     match line {
+        Line::Nothing => s,
         Line::Capabilities(word) => {
             s.capabilities = word;
+            s
         }
         Line::Rule(word) => {
             s.rule = word;
+            s
         }
         Line::TypeRecord {
             kind,
@@ -159,49 +215,57 @@ pub fn change(line: Line, mut s: Session, arena: &mut Arena) -> Session {
             c,
             d,
             e,
-        } => {
-            s = add(s, arena, s.types, MEMBERS_AT, &[kind, a, b, c, d, e]);
-        }
+        } => add_type(s, arena, &[kind, a, b, c, d, e]),
         Line::MemberRecord {
             ty,
             offset,
             location,
             source,
-        } => {
-            s = add(
-                s,
-                arena,
-                s.members,
-                ARENA_WORDS,
-                &[ty, offset, location, source],
-            );
-        }
+        } => add_member(s, arena, &[ty, offset, location, source]),
+        Line::Layout => s,
+        Line::Judge => s,
+        Line::Check => s,
+        Line::Members(_) => s,
+        Line::Slots { ty: _, offset: _ } => s,
+        Line::Range { offset: _, size: _ } => s,
+        Line::Place { start: _, steps: _ } => s,
+        Line::Short { start: _, steps: _ } => s,
+        Line::Report => s,
+        Line::Plain { shape: _, width: _ } => s,
         Line::Pass => {
-            s.pass = immediates_pass::start();
+            let pass = immediates_pass::start();
+            s.pass = pass;
+            s
         }
-        Line::Clear => {
-            s.capabilities = 0;
-            s.rule = 0;
-            s.types = 0;
-            s.members = MEMBERS_AT;
-        }
-        Line::Wrong(reason) => {
-            s = stop(s, reason);
-        }
-        _ => {}
+        Line::SetRange { offset: _, size: _ } => s,
+        Line::Choose(_) => s,
+        Line::Run => s,
+        Line::Clear => clear(s),
+        Line::Order { span: _, given: _ } => s,
+        Line::Wrong(reason) => stop(s, reason),
+    }
+}
+
+// After a write that failed nothing more is answered.
+pub fn after_write(mut s: Session, written: bool) -> Session
+    ensures { λ r. ⌜ r ≡ afterWrite written s ⌝ }
+{
+    s.waiting = 0;
+    if !written {
+        s.why = program_input::FAILED;
+        return s;
     }
     s
 }
 
 // Writes the answers that wait, and why the session stops if a line is the reason.
-pub fn flushed(mut s: Session, out: &mut Buffer) -> Session {
+pub fn flushed(s: Session, out: &mut Buffer) -> Session
+    ensures { λ r. ⌜ ((written : Bool) × (r ≡ afterWrite written s)) ⌝ }
+{
+    let mut end = s.waiting;
     if s.why > program_input::ENDED {
-        s.waiting = program_output::put_stop(out, s.waiting, s.line, s.word, s.why);
+        end = program_output::put_stop(out, end, s.line, s.word, s.why);
     }
-    // After a write that failed nothing more is answered.
-    if !program_output::flush(out, s.waiting) {
-        s.why = program_input::FAILED;
-    }
-    s.waiting = 0;
-    s
+    let written = program_output::write_out(out, end);
+    after_write(s, written)
 }

@@ -1,6 +1,7 @@
 // Standard input, read into a buffer after the bytes that are held there.
 ghost use Prim.Native.Nat.{_≤_};
 ghost use lib.ListN.{length};
+ghost use Rattle.program_input.specs.Input.{ReadMore, Kept};
 
 // How a read ended: there may be more to read, or the input has ended, or the buffer is full with no end of a line, or the read failed.
 pub const MORE: u32 = 0;
@@ -23,7 +24,7 @@ const NEWLINE: u8 = 10;
 
 // Reads once, after the bytes that are held. At the end of the input a newline ends its last line.
 pub fn read_more(buffer: &mut [u8], held: usize) -> Input
-    ensures { λ r. ⌜ r .end ≤ length (now (buffer .entry)) ⌝ }
+    ensures { λ r. ⌜ ReadMore (now (buffer .entry)) held (now (buffer .exit)) (r .end) (r .read) ⌝ }
 {
     if buffer.len() <= held {
         return Input { end: 0, read: FULL };
@@ -52,6 +53,7 @@ pub fn read_more(buffer: &mut [u8], held: usize) -> Input
 // Moves the bytes from `from` up to `end` to the front.
 pub fn keep_rest(buffer: &mut [u8], from: usize, end: usize)
     requires { ⌜ end ≤ length (now buffer) ⌝ }
+    ensures { λ _. ⌜ Kept (now (buffer .entry)) from end (now (buffer .exit)) ⌝ }
 {
     if from == 0 {
         return;

@@ -1,20 +1,32 @@
-// The answers wait in a buffer, which is written out when it is full and before the program reads again.
-// `at` is how many bytes wait, or one more than the buffer has once a write has failed; each function answers how many do after it.
+// The answers wait in a buffer. `at` is how many bytes wait; it stays past the buffer's end once there was no room for a byte.
+// Each `put_` function says which bytes it puts there and answers how many wait after it. Only `flush` and `write_out` write.
 use immediates_ranges::SlotsAnswer;
 use ir_records::Outcome;
+ghost use mathlib.Core.Path.{_≡_};
+ghost use mathlib.Core.Bool.{false};
+ghost use mathlib.Core.List.{[], _∷_, _++_};
+ghost use Prim.Native.Nat.{_≤_, _<_, _-_, _+_, _*_};
+ghost use lib.ListN.{length, take, drop};
+ghost use lib.Dec.{eqb};
+ghost use Rattle.ir_records.specs.Result.{pick};
+ghost use Rattle.program_output.specs.Bytes.{Puts, ascii, lineAt, joined, decimal, number, named, numbers, newline, wordsLine, rowLine, rowLines, reportLine, reportLines};
+ghost use Rattle.program_output.specs.Answers.{refusalLine, outcomeLines, slotsLine, placeLine, totalsLines, stepLine, dispatchLines, reasons, usageLine, wordPart, numberedLine, stopLine};
 
 // A reference to an array of a known length is proved sooner than one to a slice.
-pub type Buffer = [u8; 65536];
+// There is room for every answer: 1,048,576 bytes of a WGSL text, which may be one token, and what is said of it.
+pub type Buffer = [u8; 1114112];
 
 const STDOUT: i32 = 1;
 
 const STDERR: i32 = 2;
 
-const FAILED: usize = 65537;
+const NEWLINE: u8 = 10;
 
-// Writes out what waits; false where that fails or has failed before.
+// Writes out what waits; false where that fails, or where there was no room for all of it.
 // A program has no exit status, so a failed write is told where the answers do not go.
-pub fn flush(out: &[u8], at: usize) -> bool {
+pub fn flush(out: &[u8], at: usize) -> bool
+    ensures { λ r. ⌜ (length (now (out .entry)) < at → r ≡ false) ⌝ }
+{
     if at > out.len() {
         return false;
     }
@@ -26,23 +38,25 @@ pub fn flush(out: &[u8], at: usize) -> bool {
 }
 
 // The same for a buffer that a program holds: an array of a known length asks for no proof of it.
-pub fn write_out(out: &Buffer, at: usize) -> bool {
+pub fn write_out(out: &Buffer, at: usize) -> bool
+    ensures { λ r. ⌜ (1114112 < at → r ≡ false) ⌝ }
+{
     flush(out, at)
 }
 
-pub fn put_byte(out: &mut Buffer, at: usize, b: u8) -> usize {
+pub fn put_byte(out: &mut Buffer, at: usize, b: u8) -> usize
+    ensures { λ r. ⌜ Puts (now (out .entry)) at (b ∷ []) (now (out .exit)) r ⌝ }
+{
     if at < out.len() {
         out[at] = b;
         return at + 1;
     }
-    if flush(out, at) {
-        out[0] = b;
-        return 1;
-    }
-    FAILED
+    if at == out.len() { at + 1 } else { at }
 }
 
-pub fn put_text(out: &mut Buffer, at: usize, text: &[u8]) -> usize {
+pub fn put_text(out: &mut Buffer, at: usize, text: &[u8]) -> usize
+    ensures { λ r. ⌜ Puts (now (out .entry)) at (now (text .entry)) (now (out .exit)) r ⌝ }
+{
     let mut end = at;
     let mut i = 0;
     while i < text.len() {
@@ -52,32 +66,77 @@ pub fn put_text(out: &mut Buffer, at: usize, text: &[u8]) -> usize {
     end
 }
 
-// A number after a blank or a newline.
-fn put_number(out: &mut Buffer, at: usize, before: u8, n: u64) -> usize {
+// A number with nothing before it.
+pub fn put_decimal(out: &mut Buffer, at: usize, n: u64) -> usize
+    ensures { λ r. ⌜ Puts (now (out .entry)) at (decimal n) (now (out .exit)) r ⌝ }
+{
     let mut digits = [0u8; 20];
     let k = io::decimal(n, &mut digits);
-    let end = put_byte(out, at, before);
-    put_text(out, end, &digits[..k])
+    put_text(out, at, &digits[..k])
+}
+
+// A number after a blank.
+fn put_number(out: &mut Buffer, at: usize, n: u64) -> usize
+    ensures { λ r. ⌜ Puts (now (out .entry)) at (number 32 n) (now (out .exit)) r ⌝ }
+{
+    let end = put_byte(out, at, b' ');
+    put_decimal(out, end, n)
 }
 
 // A word and a number.
-pub fn put_named(out: &mut Buffer, at: usize, name: &[u8], n: u64) -> usize {
+pub fn put_named(out: &mut Buffer, at: usize, name: &[u8], n: u64) -> usize
+    ensures { λ r. ⌜ Puts (now (out .entry)) at (named (now (name .entry)) n) (now (out .exit)) r ⌝ }
+{
     let end = put_text(out, at, name);
-    put_number(out, end, b' ', n)
+    put_number(out, end, n)
 }
 
-// A line of words after its head. With `rows` each fourteen words are a line of their own, which begins with its number.
-pub fn put_words(out: &mut Buffer, at: usize, head: &[u8], words: &[u32], rows: bool) -> usize {
-    let mut end = put_text(out, at, head);
+// Each number after a blank.
+fn put_numbers(out: &mut Buffer, at: usize, words: &[u32]) -> usize
+    ensures { λ r. ⌜ Puts (now (out .entry)) at (numbers (now (words .entry))) (now (out .exit)) r ⌝ }
+{
+    let mut end = at;
     let mut i = 0;
     while i < words.len() {
-        if rows & (i % ir_records::ROW_WORDS == 0) {
-            end = put_number(out, end, b'\n', (i / ir_records::ROW_WORDS) as u64);
-        }
-        end = put_number(out, end, b' ', ir_records::word_at(words, i) as u64);
+        end = put_number(out, end, ir_records::word_at(words, i) as u64);
         i += 1;
     }
-    put_byte(out, end, b'\n')
+    end
+}
+
+// A line of words after its head.
+pub fn put_words(out: &mut Buffer, at: usize, head: &[u8], words: &[u32]) -> usize
+    ensures { λ r. ⌜ Puts (now (out .entry)) at (wordsLine (now (head .entry)) (now (words .entry))) (now (out .exit)) r ⌝ }
+{
+    let a = put_text(out, at, head);
+    let b = put_numbers(out, a, words);
+    put_byte(out, b, NEWLINE)
+}
+
+// Row i, after its number.
+fn put_row(out: &mut Buffer, at: usize, rows: &[u32], i: usize) -> usize
+    requires { ⌜ i * 14 + 14 ≤ length (now rows) ⌝ }
+    ensures { λ r. ⌜ Puts (now (out .entry)) at (rowLine (now (rows .entry)) i) (now (out .exit)) r ⌝ }
+{
+    let first = i * ir_records::ROW_WORDS;
+    let last = first + ir_records::ROW_WORDS;
+    let a = put_decimal(out, at, i as u64);
+    let b = put_numbers(out, a, &rows[first..last]);
+    put_byte(out, b, NEWLINE)
+}
+
+// A line for each row of fourteen words.
+fn put_rows(out: &mut Buffer, at: usize, rows: &[u32]) -> usize
+    ensures { λ r. ⌜ Puts (now (out .entry)) at (rowLines (now (rows .entry))) (now (out .exit)) r ⌝ }
+{
+    let n = rows.len() / ir_records::ROW_WORDS;
+    let mut end = at;
+    let mut i = 0;
+    while i < n {
+        end = put_row(out, end, rows, i);
+        i += 1;
+    }
+    end
 }
 
 pub fn put_refusal(
@@ -87,18 +146,27 @@ pub fn put_refusal(
     ty: u32,
     member: u32,
     detail: u32,
-) -> usize {
-    put_words(out, at, b"refused", &[number, ty, member, detail], false)
+) -> usize
+    ensures { λ r. ⌜ Puts (now (out .entry)) at (refusalLine number ty member detail) (now (out .exit)) r ⌝ }
+{
+    put_words(out, at, b"refused", &[number, ty, member, detail])
 }
 
-pub fn put_members(out: &mut Buffer, at: usize, words: &[u32]) -> usize {
-    put_words(out, at, b"members", words, false)
+pub fn put_members(out: &mut Buffer, at: usize, words: &[u32]) -> usize
+    ensures { λ r. ⌜ Puts (now (out .entry)) at (wordsLine (ascii "members") (now (words .entry))) (now (out .exit)) r ⌝ }
+{
+    put_words(out, at, b"members", words)
 }
 
 // The answer over an arena, with the rows of the types.
-pub fn put_outcome(out: &mut Buffer, at: usize, outcome: Outcome, rows: &[u32]) -> usize {
+pub fn put_outcome(out: &mut Buffer, at: usize, outcome: Outcome, rows: &[u32]) -> usize
+    ensures { λ r. ⌜ Puts (now (out .entry)) at (outcomeLines outcome (now (rows .entry))) (now (out .exit)) r ⌝ }
+{
     match outcome {
-        Outcome::Accepted => put_words(out, at, b"ok", rows, true),
+        Outcome::Accepted => {
+            let end = put_text(out, at, b"ok\n");
+            put_rows(out, end, rows)
+        }
         Outcome::Refused {
             number,
             ty,
@@ -108,13 +176,20 @@ pub fn put_outcome(out: &mut Buffer, at: usize, outcome: Outcome, rows: &[u32]) 
     }
 }
 
-pub fn put_slots(out: &mut Buffer, at: usize, answer: SlotsAnswer) -> usize {
+// A word, two numbers and the end of the line.
+fn put_two(out: &mut Buffer, at: usize, name: &[u8], n: u64, m: u64) -> usize
+    ensures { λ r. ⌜ Puts (now (out .entry)) at (named (now (name .entry)) n ++ number 32 m ++ newline) (now (out .exit)) r ⌝ }
+{
+    let a = put_named(out, at, name, n);
+    let b = put_number(out, a, m);
+    put_byte(out, b, NEWLINE)
+}
+
+pub fn put_slots(out: &mut Buffer, at: usize, answer: SlotsAnswer) -> usize
+    ensures { λ r. ⌜ Puts (now (out .entry)) at (slotsLine answer) (now (out .exit)) r ⌝ }
+{
     match answer {
-        SlotsAnswer::Slots { touched, partly } => {
-            let a = put_named(out, at, b"slots", touched);
-            let b = put_number(out, a, b' ', partly);
-            put_byte(out, b, b'\n')
-        }
+        SlotsAnswer::Slots { touched, partly } => put_two(out, at, b"slots", touched, partly),
         SlotsAnswer::Refused {
             number,
             ty,
@@ -124,43 +199,74 @@ pub fn put_slots(out: &mut Buffer, at: usize, answer: SlotsAnswer) -> usize {
     }
 }
 
-pub fn put_place(out: &mut Buffer, at: usize, byte: u64, leaf: u32) -> usize {
-    let a = put_named(out, at, b"place", byte);
-    let b = put_number(out, a, b' ', leaf as u64);
-    put_byte(out, b, b'\n')
+pub fn put_place(out: &mut Buffer, at: usize, byte: u64, leaf: u32) -> usize
+    ensures { λ r. ⌜ Puts (now (out .entry)) at (placeLine byte leaf) (now (out .exit)) r ⌝ }
+{
+    put_two(out, at, b"place", byte, leaf as u64)
+}
+
+// The two counts of type i, after its number.
+fn put_counts(out: &mut Buffer, at: usize, report: &[u64], i: usize) -> usize
+    requires { ⌜ i * 2 + 2 ≤ length (now report) ⌝ }
+    ensures { λ r. ⌜ Puts (now (out .entry)) at (reportLine (now (report .entry)) i) (now (out .exit)) r ⌝ }
+{
+    let first = i * 2;
+    let second = first + 1;
+    let a = put_decimal(out, at, i as u64);
+    let b = put_number(out, a, report[first]);
+    let c = put_number(out, b, report[second]);
+    put_byte(out, c, NEWLINE)
+}
+
+// A line for each type of a report.
+fn put_report_lines(out: &mut Buffer, at: usize, report: &[u64]) -> usize
+    ensures { λ r. ⌜ Puts (now (out .entry)) at (reportLines (now (report .entry))) (now (out .exit)) r ⌝ }
+{
+    let n = report.len() / 2;
+    let mut end = at;
+    let mut i = 0;
+    while i < n {
+        end = put_counts(out, end, report, i);
+        i += 1;
+    }
+    end
 }
 
 // The totals, then a line for each type: its number and its two words of the report.
-pub fn put_report(out: &mut Buffer, at: usize, carried: u64, wasted: u64, report: &[u64]) -> usize {
-    let mut end = put_named(out, at, b"report", carried);
-    end = put_number(out, end, b' ', wasted);
-    let mut i = 0;
-    while i < report.len() {
-        if i % 2 == 0 {
-            end = put_number(out, end, b'\n', (i / 2) as u64);
-        }
-        end = put_number(out, end, b' ', report[i]);
-        i += 1;
-    }
-    put_byte(out, end, b'\n')
+pub fn put_report(out: &mut Buffer, at: usize, carried: u64, wasted: u64, report: &[u64]) -> usize
+    ensures { λ r. ⌜ Puts (now (out .entry)) at (totalsLines carried wasted (now (report .entry))) (now (out .exit)) r ⌝ }
+{
+    let end = put_two(out, at, b"report", carried, wasted);
+    put_report_lines(out, end, report)
 }
 
-pub fn put_plain(out: &mut Buffer, at: usize, size: u32, alignment: u32, step: u32) -> usize {
-    put_words(out, at, b"plain", &[size, alignment, step], false)
+pub fn put_plain(out: &mut Buffer, at: usize, size: u32, alignment: u32, step: u32) -> usize
+    ensures { λ r. ⌜ Puts (now (out .entry)) at (wordsLine (ascii "plain") (size ∷ alignment ∷ step ∷ [])) (now (out .exit)) r ⌝ }
+{
+    put_words(out, at, b"plain", &[size, alignment, step])
 }
 
 // The struct's type number and its span, and the member at each place.
-pub fn put_order(out: &mut Buffer, at: usize, words: &[u32]) -> usize {
-    put_words(out, at, b"order", words, false)
+pub fn put_order(out: &mut Buffer, at: usize, words: &[u32]) -> usize
+    ensures { λ r. ⌜ Puts (now (out .entry)) at (wordsLine (ascii "order") (now (words .entry))) (now (out .exit)) r ⌝ }
+{
+    put_words(out, at, b"order", words)
+}
+
+// A word, a number and the end of the line.
+fn put_one(out: &mut Buffer, at: usize, name: &[u8], n: u64) -> usize
+    ensures { λ r. ⌜ Puts (now (out .entry)) at (named (now (name .entry)) n ++ newline) (now (out .exit)) r ⌝ }
+{
+    let end = put_named(out, at, name, n);
+    put_byte(out, end, NEWLINE)
 }
 
 // The slots after a step of a pass that was accepted.
-pub fn put_step(out: &mut Buffer, at: usize, name: &[u8], mask: u64, outcome: Outcome) -> usize {
+pub fn put_step(out: &mut Buffer, at: usize, name: &[u8], mask: u64, outcome: Outcome) -> usize
+    ensures { λ r. ⌜ Puts (now (out .entry)) at (stepLine (now (name .entry)) mask outcome) (now (out .exit)) r ⌝ }
+{
     match outcome {
-        Outcome::Accepted => {
-            let end = put_named(out, at, name, mask);
-            put_byte(out, end, b'\n')
-        }
+        Outcome::Accepted => put_one(out, at, name, mask),
         Outcome::Refused {
             number,
             ty,
@@ -171,7 +277,9 @@ pub fn put_step(out: &mut Buffer, at: usize, name: &[u8], mask: u64, outcome: Ou
 }
 
 // Whether a dispatch passes, and the slots that are missing where it does not.
-pub fn put_dispatch(out: &mut Buffer, at: usize, outcome: Outcome, missing: u64) -> usize {
+pub fn put_dispatch(out: &mut Buffer, at: usize, outcome: Outcome, missing: u64) -> usize
+    ensures { λ r. ⌜ Puts (now (out .entry)) at (dispatchLines outcome missing) (now (out .exit)) r ⌝ }
+{
     match outcome {
         Outcome::Accepted => put_text(out, at, b"passes\n"),
         Outcome::Refused {
@@ -180,9 +288,8 @@ pub fn put_dispatch(out: &mut Buffer, at: usize, outcome: Outcome, missing: u64)
             member,
             detail,
         } => {
-            let a = put_refusal(out, at, number, ty, member, detail);
-            let b = put_named(out, a, b"missing", missing);
-            put_byte(out, b, b'\n')
+            let end = put_refusal(out, at, number, ty, member, detail);
+            put_one(out, end, b"missing", missing)
         }
     }
 }
@@ -203,7 +310,9 @@ pub const NUL: u32 = 9;
 pub const RETURN: u32 = 10;
 
 // The line that says what a command takes.
-pub fn usage_line(command: program_arguments::Command) -> u32 {
+pub fn usage_line(command: program_arguments::Command) -> u32
+    ensures { λ r. ⌜ r ≡ usageLine command ⌝ }
+{
     match command {
         program_arguments::Command::Capabilities => 11,
         program_arguments::Command::Rule => 12,
@@ -229,26 +338,64 @@ pub fn usage_line(command: program_arguments::Command) -> u32 {
     }
 }
 
-// A line of a text, with its end. Its lines are numbered from `first` on.
-pub fn put_line_of(out: &mut Buffer, at: usize, text: &[u8], first: u32, number: u32) -> usize {
-    let mut end = at;
-    let mut line = first;
+// How many line ends are still to be passed after a byte.
+fn lines_left(left: u32, b: u8) -> u32
+    ensures { λ r. ⌜ r ≡ pick (eqb b 10) (left - 1) left ⌝ }
+{
+    if b == NEWLINE {
+        if left > 0 { left - 1 } else { 0 }
+    } else {
+        left
+    }
+}
+
+// Where line k of a text starts; the end of the text where it has fewer lines.
+fn line_start(text: &[u8], k: u32) -> usize
+    ensures { λ r. ⌜ (r ≤ length (now (text .entry))) × (lineAt k (now (text .entry)) ≡ lineAt 0 (drop r (now (text .entry)))) ⌝ }
+{
+    let mut left = k;
     let mut i = 0;
     while i < text.len() {
-        let b = text[i];
-        if line == number {
-            end = put_byte(out, end, b);
+        if left == 0 {
+            return i;
         }
-        if b == b'\n' {
-            line = std::num::wrapping_add_u32(line, 1);
+        left = lines_left(left, text[i]);
+        i += 1;
+    }
+    i
+}
+
+// The end of the line that starts at `start`, after its newline.
+fn line_end(text: &[u8], start: usize) -> usize
+    requires { ⌜ start ≤ length (now text) ⌝ }
+    ensures { λ r. ⌜ (start ≤ r) × (r ≤ length (now (text .entry))) × (lineAt 0 (drop start (now (text .entry))) ≡ take (r - start) (drop start (now (text .entry)))) ⌝ }
+{
+    let mut i = start;
+    while i < text.len() {
+        if text[i] == NEWLINE {
+            return i + 1;
         }
         i += 1;
     }
-    end
+    i
+}
+
+// A line of a text, with its end. Its lines are numbered from `first` on.
+pub fn put_line_of(out: &mut Buffer, at: usize, text: &[u8], first: u32, number: u32) -> usize
+    ensures { λ r. ⌜ Puts (now (out .entry)) at (numberedLine (now (text .entry)) first number) (now (out .exit)) r ⌝ }
+{
+    if number < first {
+        return at;
+    }
+    let start = line_start(text, number - first);
+    let end = line_end(text, start);
+    put_text(out, at, &text[start..end])
 }
 
 // One text for all the reasons is proved sooner than a text in each arm that has one. Its lines are numbered from 2 on.
-fn put_why(out: &mut Buffer, at: usize, why: u32) -> usize {
+fn put_why(out: &mut Buffer, at: usize, why: u32) -> usize
+    ensures { λ r. ⌜ Puts (now (out .entry)) at (numberedLine reasons 2 why) (now (out .exit)) r ⌝ }
+{
     put_line_of(
         out,
         at,
@@ -289,10 +436,13 @@ fn put_why(out: &mut Buffer, at: usize, why: u32) -> usize {
 }
 
 // The line at which a session stops, the word of it that is wrong, unless that is 0, and why.
-pub fn put_stop(out: &mut Buffer, at: usize, line: u64, word: u32, why: u32) -> usize {
-    let mut end = put_named(out, at, b"line", line);
+pub fn put_stop(out: &mut Buffer, at: usize, line: u64, word: u32, why: u32) -> usize
+    ensures { λ r. ⌜ Puts (now (out .entry)) at (stopLine line word why) (now (out .exit)) r ⌝ }
+{
+    let a = put_named(out, at, b"line", line);
     if word > 0 {
-        end = put_named(out, end, b": word", word as u64);
+        let b = put_named(out, a, b": word", word as u64);
+        return put_why(out, b, why);
     }
-    put_why(out, end, why)
+    put_why(out, a, why)
 }

@@ -339,6 +339,21 @@ fn put_order(
     }
 }
 
+// Up to here there is room for any answer: the longest are 1,024 rows and 4,096 members, of fewer than 200,000 bytes.
+const FREE: usize = 851968;
+
+// Past the end of the buffer: nothing more is put or written.
+const FULL: usize = 1114113;
+
+// Writes out what waits where there may be no room for an answer. After a write that failed nothing more waits, and the next one fails too.
+fn with_room(mut s: Session, out: &Buffer) -> Session {
+    if s.waiting > FREE {
+        let written = program_output::write_out(out, s.waiting);
+        s.waiting = if written { 0 } else { FULL };
+    }
+    s
+}
+
 // Answers a line.
 pub fn answer(
     line: &[u8],
@@ -347,6 +362,7 @@ pub fn answer(
     rows: &mut Rows,
     out: &mut Buffer,
 ) -> Session {
+    s = with_room(s, out);
     let mut numbers = [0u32; 1025];
     let read = program_lines::read_line(line, &mut numbers);
     s = program_commands::change(read, s, arena);

@@ -57,7 +57,7 @@ pub fn run() {
     let mut arena = [0u32; 22528];
     let mut rows = [0u32; 14336];
     let mut buffer = [0u8; 65536];
-    let mut out = [0u8; 65536];
+    let mut out = [0u8; 1114112];
     let mut s = program_commands::start();
     let mut turns = u64::MAX;
     while turns > 0 {

@@ -215,7 +215,7 @@ fn answer_module(asked: Asked, out: &mut Buffer, at: usize, bytes: &[u8]) -> usi
 
 // What is printed of the bytes of a file with this name.
 pub fn answer(asked: Asked, name: &[u8], bytes: &[u8]) {
-    let mut out = io::large_buffer();
+    let mut out = [0u8; 1114112];
     answer_into(asked, &mut out, name, bytes);
 }
 

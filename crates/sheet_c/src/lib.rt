@@ -10,16 +10,16 @@ fn put_scalar(out: &mut Buffer, at: usize, kind: u32, width: u32) -> usize {
         1 => sheet_output::put_with(out, at, b"uint", bits, b"_t"),
         _ => {
             match width {
-                2 => program_output::put_text(out, at, b"uint16_t"),
-                4 => program_output::put_text(out, at, b"float"),
-                _ => program_output::put_text(out, at, b"double"),
+                2 => sheet_output::put_text(out, at, b"uint16_t"),
+                4 => sheet_output::put_text(out, at, b"float"),
+                _ => sheet_output::put_text(out, at, b"double"),
             }
         }
     }
 }
 
 pub fn put_start(out: &mut Buffer, at: usize) -> usize {
-    program_output::put_text(
+    sheet_output::put_text(
         out,
         at,
         b"/* Made by sheet. The assertions hold where the host's structs are those of the kernel. */
@@ -32,25 +32,25 @@ pub fn put_start(out: &mut Buffer, at: usize) -> usize {
 
 // The name of struct i, with `struct ` before it.
 fn put_tag(out: &mut Buffer, at: usize, text: &[u8], names: &[usize], i: u32) -> usize {
-    let end = program_output::put_text(out, at, b"struct ");
+    let end = sheet_output::put_text(out, at, b"struct ");
     sheet_identifiers::put_type(out, end, text, names, i)
 }
 
 pub fn put_open(out: &mut Buffer, at: usize, text: &[u8], names: &[usize], i: u32) -> usize {
-    let a = program_output::put_byte(out, at, b'\n');
+    let a = sheet_output::put_byte(out, at, b'\n');
     let b = put_tag(out, a, text, names, i);
-    program_output::put_text(out, b, b" {\n")
+    sheet_output::put_text(out, b, b" {\n")
 }
 
 pub fn put_close(out: &mut Buffer, at: usize) -> usize {
-    program_output::put_text(out, at, b"};\n")
+    sheet_output::put_text(out, at, b"};\n")
 }
 
 // A struct that has no form for a host.
 pub fn put_none(out: &mut Buffer, at: usize, text: &[u8], names: &[usize], i: u32) -> usize {
-    let a = program_output::put_text(out, at, b"\n/* ");
+    let a = sheet_output::put_text(out, at, b"\n/* ");
     let b = put_tag(out, a, text, names, i);
-    program_output::put_text(
+    sheet_output::put_text(
         out,
         b,
         b" has no form here: it is not host-shareable, or its storage verdict is not ok. */\n",
@@ -85,9 +85,9 @@ fn put_dimension(out: &mut Buffer, at: usize, n: u64, alone: bool) -> usize {
         return sheet_output::put_with(out, at, b"[", n, b"]");
     }
     if alone {
-        return program_output::put_text(out, at, b"[1]");
+        return sheet_output::put_text(out, at, b"[1]");
     }
-    program_output::put_text(out, at, b"[]")
+    sheet_output::put_text(out, at, b"[]")
 }
 
 fn put_dimensions(out: &mut Buffer, at: usize, list: &[u64], count: usize, alone: bool) -> usize {
@@ -125,7 +125,7 @@ fn put_as_bytes(
     j: u32,
     size: u64,
 ) -> usize {
-    let a = program_output::put_text(out, at, b"uint8_t ");
+    let a = sheet_output::put_text(out, at, b"uint8_t ");
     let b = put_name(out, a, text, names, types, i, j);
     sheet_output::put_with(out, b, b"[", size, b"]")
 }
@@ -146,7 +146,7 @@ fn put_declared(
     match sheet_dimensions::of_type(types, rows, ty, &mut list) {
         Dimensions::Over { count, base } => {
             let a = put_base(out, at, text, names, types, base);
-            let b = program_output::put_byte(out, a, b' ');
+            let b = sheet_output::put_byte(out, a, b' ');
             let c = put_name(out, b, text, names, types, i, j);
             put_dimensions(out, c, &list, count, j == 0)
         }
@@ -170,11 +170,11 @@ pub fn put_member(
     ty: u32,
     offset: u32,
 ) -> usize {
-    let mut end = program_output::put_text(out, at, b"    ");
+    let mut end = sheet_output::put_text(out, at, b"    ");
     end = put_declared(out, end, text, names, types, rows, i, j, ty);
     end = sheet_output::put_with(out, end, b"; /* ", offset as u64, b": ");
     end = sheet_types::put_type(out, end, text, names, types, ty, false);
-    program_output::put_text(out, end, b" */\n")
+    sheet_output::put_text(out, end, b" */\n")
 }
 
 // The assertion of a member's offset.
@@ -188,16 +188,16 @@ pub fn put_offset(
     j: u32,
     offset: u32,
 ) -> usize {
-    let mut end = program_output::put_text(out, at, b"_Static_assert(offsetof(");
+    let mut end = sheet_output::put_text(out, at, b"_Static_assert(offsetof(");
     end = put_tag(out, end, text, names, i);
-    end = program_output::put_text(out, end, b", ");
+    end = sheet_output::put_text(out, end, b", ");
     end = put_name(out, end, text, names, types, i, j);
     sheet_output::put_with(out, end, b") == ", offset as u64, b", \"offset\");\n")
 }
 
 // The assertion of the size.
 fn put_size(out: &mut Buffer, at: usize, text: &[u8], names: &[usize], i: u32, size: u64) -> usize {
-    let mut end = program_output::put_text(out, at, b"_Static_assert(sizeof(");
+    let mut end = sheet_output::put_text(out, at, b"_Static_assert(sizeof(");
     end = put_tag(out, end, text, names, i);
     sheet_output::put_with(out, end, b") == ", size, b", \"size\");\n")
 }
@@ -213,9 +213,9 @@ fn put_step(
     j: u32,
     step: u64,
 ) -> usize {
-    let mut end = program_output::put_text(out, at, b"_Static_assert(sizeof(((");
+    let mut end = sheet_output::put_text(out, at, b"_Static_assert(sizeof(((");
     end = put_tag(out, end, text, names, i);
-    end = program_output::put_text(out, end, b" *)0)->");
+    end = sheet_output::put_text(out, end, b" *)0)->");
     end = put_name(out, end, text, names, types, i, j);
     sheet_output::put_with(out, end, b"[0]) == ", step, b", \"step\");\n")
 }

@@ -111,12 +111,12 @@ pub fn is_counted(rows: &[u32], counts: &[u64], i: u32) -> bool {
 // Why a struct has no slots: it is not host-shareable, has no fixed size or has 16-bit scalars.
 fn put_no_slots(out: &mut Buffer, at: usize, rows: &[u32], i: u32) -> usize {
     if !sheet_verdicts::is_shareable(rows, i) {
-        return program_output::put_text(out, at, b"no, the struct is not host-shareable");
+        return sheet_output::put_text(out, at, b"no, the struct is not host-shareable");
     }
     if !sheet_verdicts::is_sized(rows, i) {
-        return program_output::put_text(out, at, b"no, the struct is runtime-sized");
+        return sheet_output::put_text(out, at, b"no, the struct is runtime-sized");
     }
-    program_output::put_text(out, at, b"no, a member has 16-bit scalars")
+    sheet_output::put_text(out, at, b"no, a member has 16-bit scalars")
 }
 
 // The slots of struct i in words, or why there are none.
@@ -125,7 +125,7 @@ pub fn put_slots(out: &mut Buffer, at: usize, rows: &[u32], counts: &[u64], i: u
         return put_no_slots(out, at, rows, i);
     }
     if MOST_IMMEDIATE < sheet_verdicts::row_word(rows, i, 0) {
-        return program_output::put_text(out, at, b"no, the struct ends past byte 256");
+        return sheet_output::put_text(out, at, b"no, the struct ends past byte 256");
     }
     let place = SLOTS_AT + (i as usize) * 2;
     sheet_verdicts::put_slots(

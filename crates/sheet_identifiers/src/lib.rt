@@ -106,9 +106,9 @@ fn put_identifier(out: &mut Buffer, at: usize, name: &[u8]) -> usize {
     let made = is_numbered(stem, b"unused_at_")
         | is_numbered(stem, b"type_")
         | is_numbered(stem, b"member_");
-    let end = program_output::put_text(out, at, name);
+    let end = sheet_output::put_text(out, at, name);
     if made | is_kept(stem) {
-        return program_output::put_byte(out, end, b'_');
+        return sheet_output::put_byte(out, end, b'_');
     }
     end
 }

@@ -3,7 +3,7 @@ use program_output::Buffer;
 
 // What each number stands for: of the records, from 1 to 27.
 fn put_first_meanings(out: &mut Buffer, at: usize, number: u32) -> usize {
-    program_output::put_line_of(
+    sheet_output::put_line_of(
         out,
         at,
         b"there are more than 1024 types or 4096 members, or the capability word has a bit above 13
@@ -41,7 +41,7 @@ a host-shareable struct reaches an array with a stride below its element's size
 
 // Of a module, of a text and of blend sources, from 28 on.
 fn put_last_meanings(out: &mut Buffer, at: usize, number: u32) -> usize {
-    program_output::put_line_of(
+    sheet_output::put_line_of(
         out,
         at,
         b"the module's header is short or has another magic number, or a word count is 0, past the end or too small
@@ -59,7 +59,7 @@ the blend sources of a struct's members are refused
 
 // The bits of the capability word, from 0 on.
 pub fn put_capability(out: &mut Buffer, at: usize, bit: u32) -> usize {
-    program_output::put_line_of(
+    sheet_output::put_line_of(
         out,
         at,
         b"FLOAT64, --capabilities 1
@@ -84,7 +84,7 @@ DUAL_SOURCE_BLENDING, --capabilities 8192
 
 // Instructions by their opcodes: the types, from 19 on.
 fn put_type_instruction(out: &mut Buffer, at: usize, op: u32) -> usize {
-    program_output::put_line_of(
+    sheet_output::put_line_of(
         out,
         at,
         b"OpTypeVoid
@@ -115,9 +115,9 @@ OpTypePipe
 
 pub fn put_instruction(out: &mut Buffer, at: usize, op: u32) -> usize {
     match op {
-        43 => program_output::put_text(out, at, b"OpConstant\n"),
-        71 => program_output::put_text(out, at, b"OpDecorate\n"),
-        72 => program_output::put_text(out, at, b"OpMemberDecorate\n"),
+        43 => sheet_output::put_text(out, at, b"OpConstant\n"),
+        71 => sheet_output::put_text(out, at, b"OpDecorate\n"),
+        72 => sheet_output::put_text(out, at, b"OpMemberDecorate\n"),
         _ => {
             if spirv_ids::is_type(op) {
                 return put_type_instruction(out, at, op);

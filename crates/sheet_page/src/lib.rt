@@ -2,7 +2,7 @@
 use program_output::Buffer;
 
 pub fn put_start(out: &mut Buffer, at: usize) -> usize {
-    program_output::put_text(
+    sheet_output::put_text(
         out,
         at,
         b"<!DOCTYPE html>
@@ -39,7 +39,7 @@ table { border-collapse: collapse; width: 100%; margin: 0 0 1em; }
 }
 
 pub fn put_end(out: &mut Buffer, at: usize) -> usize {
-    program_output::put_text(out, at, b"</body>\n</html>\n")
+    sheet_output::put_text(out, at, b"</body>\n</html>\n")
 }
 
 // The name, the size and the alignment.
@@ -51,11 +51,11 @@ pub fn put_head(
     rows: &[u32],
     i: u32,
 ) -> usize {
-    let mut end = program_output::put_text(out, at, b"<h2>struct ");
+    let mut end = sheet_output::put_text(out, at, b"<h2>struct ");
     end = sheet_types::put_struct_name(out, end, text, names, i, true);
-    end = program_output::put_text(out, end, b"</h2>\n<p>");
+    end = sheet_output::put_text(out, end, b"</h2>\n<p>");
     end = sheet_verdicts::put_measures(out, end, rows, i);
-    program_output::put_text(out, end, b"<br>\nstorage: ")
+    sheet_output::put_text(out, end, b"<br>\nstorage: ")
 }
 
 // The verdicts, after the word `storage:`.
@@ -69,7 +69,7 @@ pub fn put_verdicts(
     i: u32,
 ) -> usize {
     let mut end = sheet_verdicts::put_verdict(out, at, text, names, types, rows, i, 8, true);
-    end = program_output::put_text(out, end, b"<br>\nuniform: ");
+    end = sheet_output::put_text(out, end, b"<br>\nuniform: ");
     sheet_verdicts::put_verdict(out, end, text, names, types, rows, i, 3, true)
 }
 
@@ -79,7 +79,7 @@ pub fn put_bytes(out: &mut Buffer, at: usize, carried: u64, wasted: u64) -> usiz
 }
 
 pub fn put_table_head(out: &mut Buffer, at: usize) -> usize {
-    program_output::put_text(
+    sheet_output::put_text(
         out,
         at,
         b"</p>
@@ -90,7 +90,7 @@ pub fn put_table_head(out: &mut Buffer, at: usize) -> usize {
 }
 
 pub fn put_table_end(out: &mut Buffer, at: usize) -> usize {
-    program_output::put_text(out, at, b"</table>\n")
+    sheet_output::put_text(out, at, b"</table>\n")
 }
 
 // A cell with a number.
@@ -100,10 +100,10 @@ fn put_cell(out: &mut Buffer, at: usize, n: u64) -> usize {
 
 // Bytes between two members, or after the last one.
 pub fn put_gap(out: &mut Buffer, at: usize, start: u64, bytes: u64) -> usize {
-    let a = program_output::put_text(out, at, b"<tr>");
+    let a = sheet_output::put_text(out, at, b"<tr>");
     let b = put_cell(out, a, start);
     let c = put_cell(out, b, bytes);
-    program_output::put_text(
+    sheet_output::put_text(
         out,
         c,
         b"<td></td><td class=\"gap\"></td><td>unused</td></tr>\n",
@@ -114,7 +114,7 @@ pub fn put_gap(out: &mut Buffer, at: usize, start: u64, bytes: u64) -> usize {
 fn put_measures(out: &mut Buffer, at: usize, rows: &[u32], ty: u32, offset: u32) -> usize {
     let size = sheet_verdicts::row_word(rows, ty, 0) as u64;
     let alignment = sheet_verdicts::row_word(rows, ty, 1) as u64;
-    let a = program_output::put_text(out, at, b"<tr>");
+    let a = sheet_output::put_text(out, at, b"<tr>");
     let b = put_cell(out, a, offset as u64);
     let c = put_cell(out, b, size);
     put_cell(out, c, alignment)
@@ -136,8 +136,8 @@ pub fn put_member(
     let mut end = put_measures(out, at, rows, ty, offset);
     end = sheet_output::put_with(out, end, b"<td class=\"c", (j % 8) as u64, b"\">");
     end = sheet_types::put_member_name(out, end, text, names, types, i, j, true);
-    end = program_output::put_text(out, end, b"</td><td>");
+    end = sheet_output::put_text(out, end, b"</td><td>");
     end = sheet_types::put_type(out, end, text, names, types, ty, true);
     end = sheet_table::put_steps(out, end, types, ty);
-    program_output::put_text(out, end, b"</td></tr>\n")
+    sheet_output::put_text(out, end, b"</td></tr>\n")
 }

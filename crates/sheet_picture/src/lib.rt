@@ -8,7 +8,7 @@ const MOST_DRAWN: u64 = 4096;
 const ROW_BYTES: u64 = 16;
 
 pub fn put_head(out: &mut Buffer, at: usize) -> usize {
-    program_output::put_text(
+    sheet_output::put_text(
         out,
         at,
         b"<table class=\"bytes\">
@@ -53,12 +53,12 @@ fn put_run(
 ) -> usize {
     let mut end = sheet_output::put_with(out, at, b"<td colspan=\"", bytes, b"\" class=\"");
     if !sheet_bytes::in_leaf(types, members, rows, i, from) {
-        return program_output::put_text(out, end, b"gap\"></td>");
+        return sheet_output::put_text(out, end, b"gap\"></td>");
     }
     let j = sheet_bytes::holder(types, members, rows, i, from);
     end = sheet_output::put_with(out, end, b"c", (j % 8) as u64, b"\">");
     end = sheet_types::put_member_name(out, end, text, names, types, i, j, true);
-    program_output::put_text(out, end, b"</td>")
+    sheet_output::put_text(out, end, b"</td>")
 }
 
 fn put_row_start(out: &mut Buffer, at: usize, from: u64) -> usize {
@@ -66,7 +66,7 @@ fn put_row_start(out: &mut Buffer, at: usize, from: u64) -> usize {
 }
 
 fn put_row_end(out: &mut Buffer, at: usize) -> usize {
-    program_output::put_text(out, at, b"</tr>\n")
+    sheet_output::put_text(out, at, b"</tr>\n")
 }
 
 // The row of the bytes from one up to a limit.
@@ -139,7 +139,7 @@ pub fn put_rows(
 // Under the picture: what is not drawn.
 pub fn put_rest(out: &mut Buffer, at: usize, rows: &[u32], i: u32) -> usize {
     let size = sheet_verdicts::row_word(rows, i, 0) as u64;
-    let end = program_output::put_text(out, at, b"</table>\n");
+    let end = sheet_output::put_text(out, at, b"</table>\n");
     if MOST_DRAWN < size {
         return sheet_output::put_with(
             out,

@@ -5,19 +5,22 @@ use wgsl_grammar::Refusal;
 const MOST_TYPES: u32 = 1024;
 
 const MOST_MEMBERS: u32 = 4096;
+// The longest message: a token of 1,048,576 bytes and what is said of it.
+const MESSAGE: usize = 1052672;
 
 // A refusal of a text.
 pub fn put_text(out: &mut Buffer, at: usize, text: &[u8], refusal: Refusal) -> usize {
     let a = sheet_meanings::put_number(out, at, refusal.number);
-    let b = program_output::put_text(out, a, b"  ");
-    wgsl_messages::put_message(out, b, text, refusal)
+    let b = sheet_output::put_text(out, a, b"  ");
+    let c = sheet_output::room(out, b, MESSAGE);
+    wgsl_messages::put_message(out, c, text, refusal)
 }
 
 // The word at which an instruction stands, and the instruction.
 fn put_word(out: &mut Buffer, at: usize, words: &[u32], place: usize) -> usize {
     let end = sheet_output::put_with(out, at, b"word ", place as u64, b", ");
     if place < spirv_words::HEADER_WORDS {
-        return program_output::put_text(out, end, b"the header\n");
+        return sheet_output::put_text(out, end, b"the header\n");
     }
     sheet_meanings::put_instruction(out, end, ir_records::word_at(words, place) % 65536)
 }
@@ -32,7 +35,7 @@ pub fn put_module(
     number: u32,
 ) -> usize {
     let a = sheet_meanings::put_number(out, at, number);
-    let b = program_output::put_text(out, a, b"  ");
+    let b = sheet_output::put_text(out, a, b"  ");
     if sheet_places::is_refused(sheet_places::before(words, 0), types, members) {
         return put_word(out, b, words, 0);
     }
@@ -88,13 +91,13 @@ fn put_place(
     j: u32,
     meant: bool,
 ) -> usize {
-    let mut end = program_output::put_text(out, at, b"  struct ");
+    let mut end = sheet_output::put_text(out, at, b"  struct ");
     end = sheet_types::put_struct_name(out, end, text, names, i, false);
     let mut entry = sheet_names::type_entry(i);
     if meant {
         end = sheet_output::put_with(out, end, b", member ", j as u64, b" (");
         end = sheet_types::put_member_name(out, end, text, names, types, i, j, false);
-        end = program_output::put_byte(out, end, b')');
+        end = sheet_output::put_byte(out, end, b')');
         entry = sheet_names::member_entry(sheet_names::member_row(types, i, j));
     }
     put_position(out, end, text, sheet_names::start_of(names, entry))
@@ -155,14 +158,14 @@ fn put_in_module(
     ty: u32,
     member: u32,
 ) -> usize {
-    let mut end = program_output::put_text(out, at, b"  ");
+    let mut end = sheet_output::put_text(out, at, b"  ");
     end = sheet_types::put_type(out, end, bytes, names, types, ty, false);
     if names_member(number) {
         end = sheet_output::put_with(out, end, b", member ", member as u64, b" (");
         end = sheet_types::put_member_name(out, end, bytes, names, types, ty, member, false);
-        end = program_output::put_byte(out, end, b')');
+        end = sheet_output::put_byte(out, end, b')');
     }
-    end = program_output::put_text(out, end, b", ");
+    end = sheet_output::put_text(out, end, b", ");
     put_word(out, end, words, place)
 }
 
@@ -170,7 +173,7 @@ fn put_in_module(
 fn put_arena_number(out: &mut Buffer, at: usize, number: u32, detail: u32) -> usize {
     let end = sheet_meanings::put_number(out, at, number);
     if number == 8 {
-        let next = program_output::put_text(out, end, b"  ");
+        let next = sheet_output::put_text(out, end, b"  ");
         return sheet_meanings::put_capability(out, next, detail);
     }
     end

@@ -10,7 +10,7 @@ fn put_scalar(out: &mut Buffer, at: usize, kind: u32, width: u32) -> usize {
         1 => sheet_output::put_with(out, at, b"u", bits, b""),
         _ => {
             if width == 2 {
-                return program_output::put_text(out, at, b"u16");
+                return sheet_output::put_text(out, at, b"u16");
             }
             sheet_output::put_with(out, at, b"f", bits, b"")
         }
@@ -18,7 +18,7 @@ fn put_scalar(out: &mut Buffer, at: usize, kind: u32, width: u32) -> usize {
 }
 
 pub fn put_start(out: &mut Buffer, at: usize) -> usize {
-    program_output::put_text(
+    sheet_output::put_text(
         out,
         at,
         b"// Made by sheet. The assertions hold where the host's structs are those of the kernel.\n",
@@ -26,7 +26,7 @@ pub fn put_start(out: &mut Buffer, at: usize) -> usize {
 }
 
 pub fn put_open(out: &mut Buffer, at: usize, text: &[u8], names: &[usize], i: u32) -> usize {
-    let a = program_output::put_text(
+    let a = sheet_output::put_text(
         out,
         at,
         b"
@@ -36,14 +36,14 @@ pub fn put_open(out: &mut Buffer, at: usize, text: &[u8], names: &[usize], i: u3
 pub struct ",
     );
     let b = sheet_identifiers::put_type(out, a, text, names, i);
-    program_output::put_text(out, b, b" {\n")
+    sheet_output::put_text(out, b, b" {\n")
 }
 
 // A struct that has no form for a host.
 pub fn put_none(out: &mut Buffer, at: usize, text: &[u8], names: &[usize], i: u32) -> usize {
-    let a = program_output::put_text(out, at, b"\n// struct ");
+    let a = sheet_output::put_text(out, at, b"\n// struct ");
     let b = sheet_identifiers::put_type(out, a, text, names, i);
-    program_output::put_text(
+    sheet_output::put_text(
         out,
         b,
         b" has no form here: it is not host-shareable, or its storage verdict is not ok.\n",
@@ -75,7 +75,7 @@ fn put_brackets(out: &mut Buffer, at: usize, count: usize) -> usize {
     let mut end = at;
     let mut k = 0;
     while k < count {
-        end = program_output::put_byte(out, end, b'[');
+        end = sheet_output::put_byte(out, end, b'[');
         k += 1;
     }
     end
@@ -147,19 +147,19 @@ pub fn put_member(
     ty: u32,
     offset: u32,
 ) -> usize {
-    let mut end = program_output::put_text(out, at, b"    pub ");
+    let mut end = sheet_output::put_text(out, at, b"    pub ");
     end = sheet_identifiers::put_member(out, end, text, names, types, i, j);
-    end = program_output::put_text(out, end, b": ");
+    end = sheet_output::put_text(out, end, b": ");
     end = put_type(out, end, text, names, types, rows, ty);
     end = sheet_output::put_with(out, end, b", // ", offset as u64, b": ");
     end = sheet_types::put_type(out, end, text, names, types, ty, false);
-    program_output::put_byte(out, end, b'\n')
+    sheet_output::put_byte(out, end, b'\n')
 }
 
 fn put_impl(out: &mut Buffer, at: usize, text: &[u8], names: &[usize], i: u32) -> usize {
-    let a = program_output::put_text(out, at, b"}\n#[allow(dead_code)]\nimpl ");
+    let a = sheet_output::put_text(out, at, b"}\n#[allow(dead_code)]\nimpl ");
     let b = sheet_identifiers::put_type(out, a, text, names, i);
-    program_output::put_text(out, b, b" {\n")
+    sheet_output::put_text(out, b, b" {\n")
 }
 
 // After the members: the numbers of the struct, up to its offsets.
@@ -206,7 +206,7 @@ pub fn put_size(
     rows: &[u32],
     i: u32,
 ) -> usize {
-    let mut end = program_output::put_text(
+    let mut end = sheet_output::put_text(
         out,
         at,
         b"    ];\n}\nconst _: () = assert!(::core::mem::size_of::<",
@@ -227,13 +227,13 @@ pub fn put_assertion(
     j: u32,
     offset: u32,
 ) -> usize {
-    let mut end = program_output::put_text(
+    let mut end = sheet_output::put_text(
         out,
         at,
         b"const _: () = assert!(::core::mem::offset_of!(",
     );
     end = sheet_identifiers::put_type(out, end, text, names, i);
-    end = program_output::put_text(out, end, b", ");
+    end = sheet_output::put_text(out, end, b", ");
     end = sheet_identifiers::put_member(out, end, text, names, types, i, j);
     sheet_output::put_with(out, end, b") == ", offset as u64, b");\n")
 }

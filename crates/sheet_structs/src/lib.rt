@@ -30,7 +30,7 @@ fn put_table(
         i,
         width,
     );
-    program_output::put_byte(out, end, b'\n')
+    sheet_output::put_byte(out, end, b'\n')
 }
 
 // The bytes of struct i, where they were counted.
@@ -67,9 +67,9 @@ fn put_text(
     let mut end = sheet_table::put_head(out, at, text, names, rows, i);
     end = sheet_table::put_verdicts(out, end, text, names, types, rows, i);
     end = put_bytes(out, end, rows, counts, i, false);
-    end = program_output::put_text(out, end, b"  immediates: ");
+    end = sheet_output::put_text(out, end, b"  immediates: ");
     end = sheet_counts::put_slots(out, end, rows, counts, i);
-    end = program_output::put_text(out, end, b"\n");
+    end = sheet_output::put_text(out, end, b"\n");
     put_table(out, end, text, names, types, members, rows, i)
 }
 
@@ -191,7 +191,7 @@ fn put_page(
     let mut end = sheet_page::put_head(out, at, text, names, rows, i);
     end = sheet_page::put_verdicts(out, end, text, names, types, rows, i);
     end = put_bytes(out, end, rows, counts, i, true);
-    end = program_output::put_text(out, end, b"<br>\nimmediates: ");
+    end = sheet_output::put_text(out, end, b"<br>\nimmediates: ");
     end = sheet_counts::put_slots(out, end, rows, counts, i);
     put_drawn(out, end, text, names, types, members, rows, i)
 }
@@ -224,16 +224,16 @@ fn put_one(
 pub fn put_start(form: Form, out: &mut Buffer, at: usize, name: &[u8]) -> usize {
     match form {
         Form::Text => {
-            let a = program_output::put_text(out, at, b"Layout sheet");
+            let a = sheet_output::put_text(out, at, b"Layout sheet");
             let b = sheet_types::put_file(out, a, name, false);
-            program_output::put_text(out, b, b"\n\n")
+            sheet_output::put_text(out, b, b"\n\n")
         }
         Form::C => sheet_c::put_start(out, at),
         Form::Rust => sheet_rust::put_start(out, at),
         Form::Page => {
             let a = sheet_page::put_start(out, at);
             let b = sheet_types::put_file(out, a, name, true);
-            program_output::put_text(out, b, b"</h1>\n")
+            sheet_output::put_text(out, b, b"</h1>\n")
         }
     }
 }
@@ -245,7 +245,7 @@ fn put_end(form: Form, out: &mut Buffer, at: usize, types: u64, structs: u64) ->
         Form::C => at,
         Form::Rust => at,
         Form::Page => {
-            let a = program_output::put_text(out, at, b"<p>");
+            let a = sheet_output::put_text(out, at, b"<p>");
             let b = put_counts(out, a, types, structs, b"</p>\n");
             sheet_page::put_end(out, b)
         }
@@ -261,7 +261,7 @@ fn put_counts(out: &mut Buffer, at: usize, types: u64, structs: u64, last: &[u8]
         structs,
         b". Only structs have a table. At most 1024 types and 4096 members are read.",
     );
-    program_output::put_text(out, b, last)
+    sheet_output::put_text(out, b, last)
 }
 
 // How many types are structs.

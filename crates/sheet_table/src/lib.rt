@@ -36,11 +36,11 @@ pub fn put_head(
     rows: &[u32],
     i: u32,
 ) -> usize {
-    let mut end = program_output::put_text(out, at, b"struct ");
+    let mut end = sheet_output::put_text(out, at, b"struct ");
     end = sheet_types::put_struct_name(out, end, text, names, i, false);
-    end = program_output::put_text(out, end, b"\n  ");
+    end = sheet_output::put_text(out, end, b"\n  ");
     end = sheet_verdicts::put_measures(out, end, rows, i);
-    program_output::put_text(out, end, b"\n  storage: ")
+    sheet_output::put_text(out, end, b"\n  storage: ")
 }
 
 // The verdicts, after the word `storage:`.
@@ -54,9 +54,9 @@ pub fn put_verdicts(
     i: u32,
 ) -> usize {
     let mut end = sheet_verdicts::put_verdict(out, at, text, names, types, rows, i, 8, false);
-    end = program_output::put_text(out, end, b"\n  uniform: ");
+    end = sheet_output::put_text(out, end, b"\n  uniform: ");
     end = sheet_verdicts::put_verdict(out, end, text, names, types, rows, i, 3, false);
-    program_output::put_byte(out, end, b'\n')
+    sheet_output::put_byte(out, end, b'\n')
 }
 
 // The bytes that leaves carry and those that lie in none.
@@ -66,9 +66,9 @@ pub fn put_bytes(out: &mut Buffer, at: usize, carried: u64, wasted: u64) -> usiz
 }
 
 pub fn put_table_head(out: &mut Buffer, at: usize, width: usize) -> usize {
-    let mut end = program_output::put_text(out, at, b"    offset    size  align  member");
+    let mut end = sheet_output::put_text(out, at, b"    offset    size  align  member");
     end = sheet_output::put_blanks(out, end, sheet_output::missing(6, width));
-    program_output::put_text(out, end, b"  type\n")
+    sheet_output::put_text(out, end, b"  type\n")
 }
 
 // Bytes between two members, or after the last one.
@@ -76,9 +76,9 @@ pub fn put_gap(out: &mut Buffer, at: usize, end_before: u64, bytes: u64) -> usiz
     let a = sheet_output::put_right(out, at, WIDE + 2, end_before);
     let b = sheet_output::put_with(out, a, b"  ", bytes, b" ");
     if bytes == 1 {
-        return program_output::put_text(out, b, b"byte unused\n");
+        return sheet_output::put_text(out, b, b"byte unused\n");
     }
-    program_output::put_text(out, b, b"bytes unused\n")
+    sheet_output::put_text(out, b, b"bytes unused\n")
 }
 
 // Steps of arrays and matrices, after the type.
@@ -106,11 +106,11 @@ fn put_named(
     j: u32,
     width: usize,
 ) -> usize {
-    let a = program_output::put_text(out, at, b"  ");
+    let a = sheet_output::put_text(out, at, b"  ");
     let b = sheet_types::put_member_name(out, a, text, names, types, i, j, false);
     let used = sheet_types::name_length(text, names, types, i, j);
     let c = sheet_output::put_blanks(out, b, sheet_output::missing(used, width));
-    program_output::put_text(out, c, b"  ")
+    sheet_output::put_text(out, c, b"  ")
 }
 
 // The offset, the size and the alignment.
@@ -119,7 +119,7 @@ fn put_measures(out: &mut Buffer, at: usize, rows: &[u32], ty: u32, offset: u32)
     let alignment = sheet_verdicts::row_word(rows, ty, 1) as u64;
     let a = sheet_output::put_right(out, at, WIDE + 2, offset as u64);
     let b = sheet_output::put_right(out, a, WIDE, size);
-    let c = program_output::put_text(out, b, b"  ");
+    let c = sheet_output::put_text(out, b, b"  ");
     sheet_output::put_right(out, c, NARROW, alignment)
 }
 
@@ -141,5 +141,5 @@ pub fn put_member(
     end = put_named(out, end, text, names, types, i, j, width);
     end = sheet_types::put_type(out, end, text, names, types, ty, false);
     end = put_steps(out, end, types, ty);
-    program_output::put_byte(out, end, b'\n')
+    sheet_output::put_byte(out, end, b'\n')
 }

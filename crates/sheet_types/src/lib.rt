@@ -12,7 +12,7 @@ fn put_scalar(out: &mut Buffer, at: usize, kind: u32, width: u32) -> usize {
         0 => sheet_output::put_with(out, at, b"i", bits, b""),
         1 => sheet_output::put_with(out, at, b"u", bits, b""),
         2 => sheet_output::put_with(out, at, b"f", bits, b""),
-        _ => program_output::put_text(out, at, b"bool"),
+        _ => sheet_output::put_text(out, at, b"bool"),
     }
 }
 
@@ -35,7 +35,7 @@ fn put_matrix(out: &mut Buffer, at: usize, w: Words, page: bool) -> usize {
 }
 
 fn put_atomic(out: &mut Buffer, at: usize, w: Words, page: bool) -> usize {
-    let a = program_output::put_text(out, at, b"atomic");
+    let a = sheet_output::put_text(out, at, b"atomic");
     put_argument(out, a, w.a, w.b, page)
 }
 
@@ -47,7 +47,7 @@ fn put_leaf(out: &mut Buffer, at: usize, w: Words, page: bool) -> usize {
         1 => put_vector(out, at, w, page),
         2 => put_matrix(out, at, w, page),
         4 => put_atomic(out, at, w, page),
-        7 => program_output::put_text(out, at, b".."),
+        7 => sheet_output::put_text(out, at, b".."),
         _ => sheet_output::put_with(out, at, b"kind ", kind as u64, b""),
     }
 }
@@ -68,7 +68,7 @@ fn is_printable(name: &[u8]) -> bool {
 // ` of ` and the name of a file, where it can be printed.
 pub fn put_file(out: &mut Buffer, at: usize, name: &[u8], page: bool) -> usize {
     if is_printable(name) {
-        let end = program_output::put_text(out, at, b" of ");
+        let end = sheet_output::put_text(out, at, b" of ");
         return sheet_output::put_name(out, end, name, page);
     }
     at
@@ -154,7 +154,7 @@ pub fn innermost(types: &[u32], ty: u32) -> u32 {
 }
 
 fn put_array(out: &mut Buffer, at: usize, page: bool) -> usize {
-    let end = program_output::put_text(out, at, b"array");
+    let end = sheet_output::put_text(out, at, b"array");
     sheet_output::put_mark(out, end, b'<', page)
 }
 

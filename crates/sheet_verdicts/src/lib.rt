@@ -36,7 +36,7 @@ pub fn put_measures(out: &mut Buffer, at: usize, rows: &[u32], i: u32) -> usize 
     let alignment = row_word(rows, i, 1) as u64;
     let mut end = sheet_output::put_with(out, at, b"size ", size, b"");
     if !is_sized(rows, i) {
-        end = program_output::put_text(out, end, b" with one element");
+        end = sheet_output::put_text(out, end, b" with one element");
     }
     sheet_output::put_with(out, end, b", alignment ", alignment, b"")
 }
@@ -55,9 +55,9 @@ fn put_member(
 ) -> usize {
     let mut end = sheet_output::put_with(out, at, b"member ", j as u64, b" (");
     end = sheet_types::put_member_name(out, end, text, names, types, ty, j, page);
-    end = program_output::put_byte(out, end, b')');
+    end = sheet_output::put_byte(out, end, b')');
     if ty != i {
-        end = program_output::put_text(out, end, b" of ");
+        end = sheet_output::put_text(out, end, b" of ");
         end = sheet_types::put_struct_name(out, end, text, names, ty, page);
     }
     end
@@ -110,9 +110,9 @@ fn put_other(out: &mut Buffer, at: usize, code: u32, value: u64, bound: u64) -> 
         return sheet_output::put_with(out, end, b" be at ", bound, b" or later");
     }
     if code == 5 {
-        return program_output::put_text(out, at, b" is runtime-sized");
+        return sheet_output::put_text(out, at, b" is runtime-sized");
     }
-    program_output::put_text(out, at, b" is not host-shareable")
+    sheet_output::put_text(out, at, b" is not host-shareable")
 }
 
 // What is wrong: a stride, a size or an offset, or something else.
@@ -167,7 +167,7 @@ pub fn put_verdict(
         return put_reason(out, at, text, names, types, rows, i, word, page);
     }
     if !is_shareable(rows, i) {
-        return program_output::put_text(out, at, b"no, the struct is not host-shareable");
+        return sheet_output::put_text(out, at, b"no, the struct is not host-shareable");
     }
     let alignment = row_word(rows, i, std::num::wrapping_add_u32(word, 1)) as u64;
     sheet_output::put_with(out, at, b"ok, ", alignment, b"")
@@ -233,11 +233,11 @@ fn put_mask(out: &mut Buffer, at: usize, mask: u64) -> usize {
 
 // Slots that are touched, and those of them that are covered only in part.
 pub fn put_slots(out: &mut Buffer, at: usize, touched: u64, partly: u64) -> usize {
-    let end = program_output::put_text(out, at, b"slots");
+    let end = sheet_output::put_text(out, at, b"slots");
     let last = put_mask(out, end, touched);
     if partly == 0 {
         return last;
     }
-    let next = program_output::put_text(out, last, b"; only a part of");
+    let next = sheet_output::put_text(out, last, b"; only a part of");
     put_mask(out, next, partly)
 }

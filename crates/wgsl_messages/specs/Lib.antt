@@ -1,1 +1,3 @@
 pub mod Position
+pub mod Message
+pub mod Says

@@ -4,9 +4,13 @@ use wgsl_grammar::Refusal;
 use wgsl_tokens::Gap;
 use wgsl_tokens::Lexed;
 ghost use mathlib.Core.Path.{_≡_};
-ghost use Prim.Native.Nat.{min};
 ghost use lib.ListN.{length};
+ghost use mathlib.Core.List.{List};
+ghost use Prim.Native.Nat.{ℕ, min};
+ghost use Rattle.program_output.specs.Bytes.{Puts};
 ghost use Rattle.wgsl_messages.specs.Position.{breaksLine, positionOf};
+ghost use Rattle.wgsl_messages.specs.Message.{tokenText, foundText, sentence, markText, reasonText, positionText, brokenText};
+ghost use Rattle.wgsl_messages.specs.Says.{Says};
 
 // Both count from 1, columns in bytes.
 pub struct Position {
@@ -51,16 +55,10 @@ pub fn line_and_column(text: &[u8], at: usize) -> Position
     Position { line, column }
 }
 
-// The byte at which a refusal stands: the first of its token, or the one at which a comment before it is no text of WGSL.
-pub fn place(text: &[u8], refusal: Refusal) -> usize {
-    match wgsl_tokens::token_start(text, refusal.at) {
-        Gap::At(start) => start,
-        Gap::Broken(byte) => byte,
-    }
-}
-
 // A token in its own bytes.
-fn put_token(out: &mut Buffer, at: usize, text: &[u8], start: usize, end: usize) -> usize {
+fn put_token(out: &mut Buffer, at: usize, text: &[u8], start: usize, end: usize) -> usize
+    ensures { λ r. ⌜ Puts (now (out .entry)) at (tokenText (now (text .entry)) start end) (now (out .exit)) r ⌝ }
+{
     if end < start {
         return at;
     }
@@ -72,9 +70,11 @@ fn put_token(out: &mut Buffer, at: usize, text: &[u8], start: usize, end: usize)
     program_output::put_text(out, b, b"`: ")
 }
 
-// The token that starts at a place.
-fn put_found(out: &mut Buffer, at: usize, text: &[u8], start: usize) -> usize {
-    match wgsl_tokens::next_token(text, start) {
+// The token that was found at a place.
+fn put_found(out: &mut Buffer, at: usize, text: &[u8], start: usize, token: Lexed) -> usize
+    ensures { λ r. ⌜ Puts (now (out .entry)) at (foundText (now (text .entry)) start token) (now (out .exit)) r ⌝ }
+{
+    match token {
         Lexed::Word { start: _, end } => put_token(out, at, text, start, end),
         Lexed::Number { value: _, end } => put_token(out, at, text, start, end),
         Lexed::Large(end) => put_token(out, at, text, start, end),
@@ -92,7 +92,9 @@ const NO_ASCII: u32 = 126;
 const NO_COMMA: u32 = 127;
 
 // Lines of one text, numbered by their reasons: the three above, then those of wgsl_grammar in their order.
-fn put_sentence(out: &mut Buffer, at: usize, why: u32) -> usize {
+fn put_sentence(out: &mut Buffer, at: usize, why: u32) -> usize
+    ensures { λ r. ⌜ Puts (now (out .entry)) at (sentence why) (now (out .exit)) r ⌝ }
+{
     program_output::put_line_of(
         out,
         at,
@@ -123,7 +125,9 @@ there is no room for one more member record
 }
 
 // A mark that was expected.
-fn put_mark(out: &mut Buffer, at: usize, mark: u8) -> usize {
+fn put_mark(out: &mut Buffer, at: usize, mark: u8) -> usize
+    ensures { λ r. ⌜ Puts (now (out .entry)) at (markText mark) (now (out .exit)) r ⌝ }
+{
     if mark == b',' {
         return put_sentence(out, at, NO_COMMA);
     }
@@ -133,14 +137,18 @@ fn put_mark(out: &mut Buffer, at: usize, mark: u8) -> usize {
 }
 
 // What was wrong: a number below 128 is the mark that was expected.
-fn put_reason(out: &mut Buffer, at: usize, why: u32) -> usize {
+fn put_reason(out: &mut Buffer, at: usize, why: u32) -> usize
+    ensures { λ r. ⌜ Puts (now (out .entry)) at (reasonText why) (now (out .exit)) r ⌝ }
+{
     if why < wgsl_grammar::NAME {
         return put_mark(out, at, why as u8);
     }
     put_sentence(out, at, why)
 }
 
-fn put_position(out: &mut Buffer, at: usize, text: &[u8], byte: usize) -> usize {
+fn put_position(out: &mut Buffer, at: usize, text: &[u8], byte: usize) -> usize
+    ensures { λ r. ⌜ Puts (now (out .entry)) at (positionText (now (text .entry)) byte) (now (out .exit)) r ⌝ }
+{
     let p = line_and_column(text, byte);
     let a = program_output::put_named(out, at, b"line", p.line as u64);
     let b = program_output::put_named(out, a, b", column", p.column as u64);
@@ -148,7 +156,9 @@ fn put_position(out: &mut Buffer, at: usize, text: &[u8], byte: usize) -> usize 
 }
 
 // A line about a comment that is no text of WGSL.
-fn put_broken(out: &mut Buffer, at: usize, text: &[u8], byte: usize) -> usize {
+fn put_broken(out: &mut Buffer, at: usize, text: &[u8], byte: usize) -> usize
+    ensures { λ r. ⌜ Puts (now (out .entry)) at (brokenText (now (text .entry)) byte) (now (out .exit)) r ⌝ }
+{
     let end = put_position(out, at, text, byte);
     if byte < text.len() {
         return put_sentence(out, end, NO_ASCII);
@@ -157,12 +167,15 @@ fn put_broken(out: &mut Buffer, at: usize, text: &[u8], byte: usize) -> usize {
 }
 
 // A line about a refusal: its place, what stands there, and what is wrong.
-pub fn put_message(out: &mut Buffer, at: usize, text: &[u8], refusal: Refusal) -> usize {
+pub fn put_message(out: &mut Buffer, at: usize, text: &[u8], refusal: Refusal) -> usize
+    ensures { λ r. ⌜ ((message : List ℕ) × Says (now (text .entry)) (refusal .at) (refusal .why) message × Puts (now (out .entry)) at message (now (out .exit)) r) ⌝ }
+{
     match wgsl_tokens::token_start(text, refusal.at) {
         Gap::Broken(byte) => put_broken(out, at, text, byte),
         Gap::At(start) => {
+            let token = wgsl_tokens::next_token(text, start);
             let a = put_position(out, at, text, start);
-            let b = put_found(out, a, text, start);
+            let b = put_found(out, a, text, start, token);
             put_reason(out, b, refusal.why)
         }
     }

@@ -1,8 +1,9 @@
 // What is said of texts that are refused. `stdout` is written by hand: the number by 02, the place by counting.
+use wgsl_grammar::Refusal;
 use wgsl_read::TextAt;
 
 fn refuse(text: &[u8]) {
-    let mut out = [0u8; 65536];
+    let mut out = [0u8; 1114112];
     let end = wgsl_lines::put_answer(&mut out, 0, text);
     program_output::write_out(&out, end);
 }
@@ -50,18 +51,21 @@ fn lines() {
     refuse(b"// \xc3\xa9\n");
 }
 
+// What is said of a refusal.
+fn say(text: &[u8], refusal: Refusal) {
+    let mut out = [0u8; 1114112];
+    let end = wgsl_messages::put_message(&mut out, 0, text, refusal);
+    program_output::write_out(&out, end);
+}
+
 // With room for so many words.
 fn refuse_short(text: &[u8], types: &mut [u32], members: &mut [u32]) {
-    let mut out = [0u8; 65536];
     match wgsl_read::read_at(text, types, members) {
         TextAt::Records {
             types: _,
             members: _,
         } => {}
-        TextAt::Refused(r) => {
-            let end = wgsl_messages::put_message(&mut out, 0, text, r);
-            program_output::write_out(&out, end);
-        }
+        TextAt::Refused(refusal) => say(text, refusal),
     }
 }
 

@@ -9,7 +9,8 @@ use lib.Dec.{eqb}
 use lib.ListN.{length, getD, drop, drop-of-length-le, List·getD-eq-default}
 use borrow.Author.Tests.{eqb-true, eq-eqb, ne-eqb}
 use Rattle.wgsl_tokens.specs.Tokens.{Token, bad, Mode, code, line, block, stopped, isBlank, endsLine, isAscii, opensLine, opensBlock, closesBlock, codeStep, blockStep, stepOf, tokens, from}
-use Rattle.wgsl_tokens.specs.Serving.{IsBad, GapAt, startsGap}
+use Rattle.wgsl_tokens.specs.Lexed.{IsBad, startsGap}
+use Rattle.wgsl_tokens.specs.Serving.{GapAt}
 use Rattle.wgsl_tokens.specs.declared.Gap.{Gap}
 use Rattle.wgsl_tokens.specs.declared.Gap.the-variants.{At, Broken}
 use Rattle.wgsl_tokens.proofs.TokenLaws.{inside, both, neither, head-next, drop-two, code-skip, block-skip, tokens-at}

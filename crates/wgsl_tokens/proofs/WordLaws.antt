@@ -15,7 +15,7 @@ use Rattle.program_words.specs.Words.{runOf, part}
 use Rattle.program_words.specs.Number.{isDigit, numberOf}
 use Rattle.program_words.specs.declared.Number as words-number
 use Rattle.wgsl_tokens.specs.Tokens.{numberToken, Token, word, mark, bad, Mode, code, stopped, isBlank, startsWord, inWord, isMark, opensLine, opensBlock, head, wordOf, digitsOf, codeStep, stepOf, tokens, from}
-use Rattle.wgsl_tokens.specs.Serving.{IsBad, startsGap, TokenAt}
+use Rattle.wgsl_tokens.specs.Lexed.{IsBad, startsGap, TokenAt}
 use Rattle.wgsl_tokens.specs.declared.Lexed.{Lexed}
 use Rattle.wgsl_tokens.specs.declared.Lexed.the-variants.{Word, Number, Large, Mark, Bad, End}
 use Rattle.wgsl_tokens.proofs.TokenLaws.{neither, head-next, code-skip, tokens-at}

@@ -1,2 +1,3 @@
 pub mod Tokens
+pub mod Lexed
 pub mod Serving

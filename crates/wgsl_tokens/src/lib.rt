@@ -7,7 +7,8 @@ ghost use lib.ListN.{length, getD, drop};
 ghost use Rattle.program_words.specs.Words.{runOf};
 ghost use Rattle.program_words.specs.Number.{isDigit};
 ghost use Rattle.wgsl_tokens.specs.Tokens.{code, isBlank, endsLine, isAscii, startsWord, inWord, isMark, opensLine, opensBlock, closesBlock, line, block};
-ghost use Rattle.wgsl_tokens.specs.Serving.{isIn, GapAt, BlockAt, startsGap, StartAt, TokenAt};
+ghost use Rattle.wgsl_tokens.specs.Lexed.{startsGap, StartAt, TokenAt};
+ghost use Rattle.wgsl_tokens.specs.Serving.{isIn, GapAt, BlockAt};
 
 // The next token, and where the text goes on after it.
 pub enum Lexed {

@@ -1,0 +1,25 @@
+-- `program_commands::add_type` meets its contract, with room or without. Assumes nothing.
+use borrow.Author.Needs.{needs}
+use mathlib.Core.Path.{refl}
+use borrow.Author.Tests.{lt-ltb, le-ltb}
+use Rattle.program_commands.specs.Commands.{typeAdded, withType}
+use Rattle.program_commands.proofs.add_type.Statement.{statement}
+use Rattle.program_commands.proofs.add_type.Tie as tie
+
+returns : tie.Need-returns
+unfolding typeAdded withType
+returns c = let e = lt-ltb 6138 _ (c .if1 .taken) in (rw e refl, rw e refl)
+
+returns-2 : tie.Need-returns-2
+unfolding typeAdded withType
+returns-2 c = let e = le-ltb 6138 _ (c .before .before .if1 .left) in (rw e refl, rw e (c .store .ensures))
+
+pub add-type-spec : {M : Type 1} → statement M
+add-type-spec =
+    tie.close
+    (tie.spec
+    (λ c. search needs)
+    returns
+    (λ c κs. search needs)
+    (λ c. search needs)
+    returns-2)

@@ -1,0 +1,24 @@
+-- `program_output::put_outcome` meets its contract, answer by answer. Assumes nothing.
+use borrow.Author.Needs.{needs}
+use Rattle.program_output.proofs.PutLaws.{puts-both}
+use Rattle.program_output.proofs.put_outcome.Statement.{statement}
+use Rattle.program_output.proofs.put_outcome.Tie as tie
+
+returns : tie.Need-returns
+returns c = rw (c .before .before .before .before .before .enum-told .given .1) (puts-both (c .before .before .put-text .ensures) (c .put-rows .ensures))
+
+returns-2 : tie.Need-returns-2
+returns-2 c = rw (c .before .before .before .outcome .given .1) (c .put-refusal .ensures)
+
+pub put-outcome-spec : {M : Type 1} → statement M
+put-outcome-spec =
+    tie.close
+    (tie.spec
+    (λ c. search needs)
+    (λ c. search needs)
+    (λ c κs. search needs)
+    (λ c κs. search needs)
+    (λ c. search needs)
+    (λ c κs. search needs)
+    returns
+    returns-2)
