@@ -37,7 +37,9 @@ fn row(name: &str, arena: &Arena, state: &str, times: [f64; 4]) {
     let rows = ROW_WORDS * types;
     let bytes = 4 * (arena.types.len() + arena.members.len() + rows);
     print!("| {name} | {types} | {members} | {bytes} | {state} |");
-    times.map(|time| print!(" {:.1} |", time / 1000.0));
+    for time in times {
+        print!(" {:.1} |", time / 1000.0);
+    }
     println!();
 }
 
