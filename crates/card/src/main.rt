@@ -1,4 +1,6 @@
 // The card program: checks a fixed arena by the older uniform rule and prints a line for each type, its number and then its row. It reads nothing.
+#![tactic(auto)]
+
 use valid_type_info::UniformRule;
 
 const STDOUT: i32 = 1;

@@ -3,7 +3,7 @@
 use mathlib.Core.Path.{◌≡◌, refl}
 use mathlib.Core.List.{List}
 use mathlib.Core.Bool.{false}
-use Prim.Native.Nat.{ℕ, ◌≤◌, ◌<◌}
+use Prim.Native.Nat.{ℕ, ◌<◌}
 use borrow.Author.Tests.{le-leb, lt-leb}
 use Rattle.ir_records.specs.Fields.{capabilities_known}
 use Rattle.valid_arena.specs.Arena.{arena_answer, arena_words}

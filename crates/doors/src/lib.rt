@@ -1,4 +1,6 @@
-// The static library: the public calls with C's calling convention. A slice is a pointer and a length.
+// The public calls as numbers and lent words, which doors_c exports with C's calling convention.
+#![tactic(auto)]
+
 ghost use Rattle.std.specs.Prelude.{◌≡◌, ◌*◌, eqb, length};
 ghost use Rattle.ir_records.specs.Result.{pick};
 ghost use Rattle.ir_records.specs.Record.{type_word, member_words};
@@ -7,7 +9,7 @@ ghost use Rattle.valid_rule_word.specs.RuleWord.{rule_of, capabilities_by};
 ghost use Rattle.valid_arena.specs.Arena.{arena_answer, arena_words};
 ghost use Rattle.immediates_ranges.specs.Slots.{range_slots, part_answer, contains, difference, union};
 ghost use Rattle.immediates_slots.specs.Immediates.{slots_answer};
-ghost use Rattle.immediates_pass.specs.Pass.{begin, outcome_of, SetRange, Choose, Dispatch};
+ghost use Rattle.immediates_pass.specs.Pass.{begin, SetRange, Choose, Dispatch};
 ghost use Rattle.place_lookup.specs.Place.{lookup_answer};
 ghost use Rattle.place_short.specs.Short.{short_lookup, short_words};
 ghost use Rattle.place_runs.specs.Places.{places_answer, places_scratch, places_words};
@@ -17,18 +19,10 @@ ghost use Rattle.spirv_read.specs.Read.{read_into, section_of, types_after, memb
 ghost use Rattle.wgsl_read.specs.Text.{text_of, answer_of, types_left, members_left};
 ghost use Rattle.order_call.specs.Call.{ordered};
 ghost use Rattle.order_words.specs.Words.{order_outcome, with_found};
-ghost use Rattle.doors_words.specs.Words.{place_outcome, totals_outcome, plain_outcome, part_start, part_length, with_answer, with_two, with_place};
-ghost use Rattle.doors_words.specs.Words.{with_totals, with_section, with_text, with_numbers, with_masks, with_pass, with_tried, tried_in, pass_rows, with_one};
-ghost use Rattle.doors_words.specs.Words.{section_outcome, text_outcome};
+ghost use Rattle.doors_words.specs.Words.{slots_outcome, place_outcome, totals_outcome, plain_outcome, byte_of, leaf_of, carried_of, wasted_of, part_start, part_length, with_answer, with_two, with_numbers, with_masks, with_pass, with_tried, tried_in, pass_rows, with_one, section_outcome, types_read, members_read, text_outcome, text_types, text_members};
 
 // Sizes and alignments of an arena, in the first two words of the lent rows.
-#[unsafe(no_mangle)]
-pub extern "C" fn wuldazin_layout(
-    types: &[u32],
-    members: &[u32],
-    rows: &mut [u32],
-    answer: &mut [u32],
-)
+pub fn wuldazin_layout(types: &[u32], members: &[u32], rows: &mut [u32], answer: &mut [u32])
     ensures rows_after { rows.new ≡ layout_words types.now members.now rows.old }
     ensures answer_after { answer.new ≡ with_answer answer.old (layout_answer types.now members.now rows.old) }
 {
@@ -37,8 +31,7 @@ pub extern "C" fn wuldazin_layout(
 }
 
 // The arena check.
-#[unsafe(no_mangle)]
-pub extern "C" fn wuldazin_check(
+pub fn wuldazin_check(
     types: &[u32],
     members: &[u32],
     capabilities: u32,
@@ -46,11 +39,8 @@ pub extern "C" fn wuldazin_check(
     rows: &mut [u32],
     answer: &mut [u32],
 )
-    ensures rows_after { rows.new
-        ≡ arena_words (rule_of rule) (capabilities_by rule capabilities) types.now members.now rows.old }
-    ensures answer_after { answer.new
-        ≡ with_answer answer.old
-        (arena_answer (capabilities_by rule capabilities) types.now members.now rows.old) }
+    ensures rows_after { rows.new ≡ arena_words (rule_of rule) (capabilities_by rule capabilities) types.now members.now rows.old }
+    ensures answer_after { answer.new ≡ with_answer answer.old (arena_answer (capabilities_by rule capabilities) types.now members.now rows.old) }
 {
     let known = valid_rule_word::capabilities_by(rule, capabilities);
     let by = valid_rule_word::rule_of(rule);
@@ -59,8 +49,7 @@ pub extern "C" fn wuldazin_check(
 }
 
 // Judging: the same answer and words as the arena check, in one pass over rows that may hold anything.
-#[unsafe(no_mangle)]
-pub extern "C" fn wuldazin_judge(
+pub fn wuldazin_judge(
     types: &[u32],
     members: &[u32],
     capabilities: u32,
@@ -68,11 +57,8 @@ pub extern "C" fn wuldazin_judge(
     rows: &mut [u32],
     answer: &mut [u32],
 )
-    ensures rows_after { rows.new
-        ≡ arena_words (rule_of rule) (capabilities_by rule capabilities) types.now members.now rows.old }
-    ensures answer_after { answer.new
-        ≡ with_answer answer.old
-        (arena_answer (capabilities_by rule capabilities) types.now members.now rows.old) }
+    ensures rows_after { rows.new ≡ arena_words (rule_of rule) (capabilities_by rule capabilities) types.now members.now rows.old }
+    ensures answer_after { answer.new ≡ with_answer answer.old (arena_answer (capabilities_by rule capabilities) types.now members.now rows.old) }
 {
     let known = valid_rule_word::capabilities_by(rule, capabilities);
     let by = valid_rule_word::rule_of(rule);
@@ -81,10 +67,9 @@ pub extern "C" fn wuldazin_judge(
 }
 
 // The slots of a range given as two numbers: those touched, and those covered only in part.
-#[unsafe(no_mangle)]
-pub extern "C" fn wuldazin_range(offset: u32, size: u32, mask: &mut [u64], answer: &mut [u32])
+pub fn wuldazin_range(offset: u32, size: u32, mask: &mut [u64], answer: &mut [u32])
     ensures mask_after { mask.new ≡ with_masks mask.old (part_answer (range_slots offset size)) }
-    ensures answer_after { answer.new ≡ with_answer answer.old (outcome_of (part_answer (range_slots offset size))) }
+    ensures answer_after { answer.new ≡ with_answer answer.old (slots_outcome (part_answer (range_slots offset size))) }
 {
     let found = immediates_ranges::range(offset, size);
     doors_words::put_masks(mask, found);
@@ -92,8 +77,7 @@ pub extern "C" fn wuldazin_range(offset: u32, size: u32, mask: &mut [u64], answe
 }
 
 // The slots of a type of an arena from an offset on: those touched, and those that a part covers only in part.
-#[unsafe(no_mangle)]
-pub extern "C" fn wuldazin_slots(
+pub fn wuldazin_slots(
     types: &[u32],
     members: &[u32],
     capabilities: u32,
@@ -104,14 +88,9 @@ pub extern "C" fn wuldazin_slots(
     mask: &mut [u64],
     answer: &mut [u32],
 )
-    ensures rows_after { rows.new
-        ≡ arena_words (rule_of rule) (capabilities_by rule capabilities) types.now members.now rows.old }
-    ensures mask_after { mask.new
-        ≡ with_masks mask.old
-        (slots_answer (capabilities_by rule capabilities) types.now members.now rows.old ty offset) }
-    ensures answer_after { answer.new
-        ≡ with_answer answer.old
-        (outcome_of (slots_answer (capabilities_by rule capabilities) types.now members.now rows.old ty offset)) }
+    ensures rows_after { rows.new ≡ arena_words (rule_of rule) (capabilities_by rule capabilities) types.now members.now rows.old }
+    ensures mask_after { mask.new ≡ with_masks mask.old (slots_answer (capabilities_by rule capabilities) types.now members.now rows.old ty offset) }
+    ensures answer_after { answer.new ≡ with_answer answer.old (slots_outcome (slots_answer (capabilities_by rule capabilities) types.now members.now rows.old ty offset)) }
 {
     let known = valid_rule_word::capabilities_by(rule, capabilities);
     let by = valid_rule_word::rule_of(rule);
@@ -121,32 +100,28 @@ pub extern "C" fn wuldazin_slots(
 }
 
 // Whether every slot of other is one of this.
-#[unsafe(no_mangle)]
-pub extern "C" fn wuldazin_contains(this: u64, other: u64) -> bool
+pub fn wuldazin_contains(this: u64, other: u64) -> bool
     ensures { result ≡ contains this other }
 {
     immediates_ranges::contains_all(this, other)
 }
 
 // The slots of this that are not in other.
-#[unsafe(no_mangle)]
-pub extern "C" fn wuldazin_difference(this: u64, other: u64) -> u64
+pub fn wuldazin_difference(this: u64, other: u64) -> u64
     ensures { result ≡ difference this other }
 {
     immediates_ranges::difference_of(this, other)
 }
 
 // The slots of either.
-#[unsafe(no_mangle)]
-pub extern "C" fn wuldazin_union(this: u64, other: u64) -> u64
+pub fn wuldazin_union(this: u64, other: u64) -> u64
     ensures { result ≡ union this other }
 {
     immediates_ranges::union_of(this, other)
 }
 
 // The byte place and the type of the leaf that steps lead to.
-#[unsafe(no_mangle)]
-pub extern "C" fn wuldazin_place(
+pub fn wuldazin_place(
     types: &[u32],
     members: &[u32],
     capabilities: u32,
@@ -157,16 +132,9 @@ pub extern "C" fn wuldazin_place(
     place: &mut [u64],
     answer: &mut [u32],
 )
-    ensures rows_after { rows.new
-        ≡ arena_words (rule_of rule) (capabilities_by rule capabilities) types.now members.now rows.old }
-    ensures place_after { place.new
-        ≡ with_place place.old
-        (lookup_answer (capabilities_by rule capabilities) types.now members.now rows.old start steps.now) }
-    ensures answer_after { answer.new
-        ≡ with_answer answer.old
-        (place_outcome
-        (lookup_answer (capabilities_by rule capabilities) types.now members.now rows.old start
-        steps.now)) }
+    ensures rows_after { rows.new ≡ arena_words (rule_of rule) (capabilities_by rule capabilities) types.now members.now rows.old }
+    ensures place_after { place.new ≡ with_two place.old (byte_of (lookup_answer (capabilities_by rule capabilities) types.now members.now rows.old start steps.now)) (leaf_of (lookup_answer (capabilities_by rule capabilities) types.now members.now rows.old start steps.now)) }
+    ensures answer_after { answer.new ≡ with_answer answer.old (place_outcome (lookup_answer (capabilities_by rule capabilities) types.now members.now rows.old start steps.now)) }
 {
     let known = valid_rule_word::capabilities_by(rule, capabilities);
     let by = valid_rule_word::rule_of(rule);
@@ -180,8 +148,7 @@ pub extern "C" fn wuldazin_place(
 }
 
 // The same by three words for each type.
-#[unsafe(no_mangle)]
-pub extern "C" fn wuldazin_place_short(
+pub fn wuldazin_place_short(
     types: &[u32],
     members: &[u32],
     capabilities: u32,
@@ -192,12 +159,8 @@ pub extern "C" fn wuldazin_place_short(
     answer: &mut [u32],
 )
     ensures scratch_after { scratch.new ≡ short_words capabilities types.now members.now scratch.old }
-    ensures place_after { place.new
-        ≡ with_place place.old
-        (short_lookup capabilities types.now members.now scratch.old start steps.now) }
-    ensures answer_after { answer.new
-        ≡ with_answer answer.old
-        (place_outcome (short_lookup capabilities types.now members.now scratch.old start steps.now)) }
+    ensures place_after { place.new ≡ with_two place.old (byte_of (short_lookup capabilities types.now members.now scratch.old start steps.now)) (leaf_of (short_lookup capabilities types.now members.now scratch.old start steps.now)) }
+    ensures answer_after { answer.new ≡ with_answer answer.old (place_outcome (short_lookup capabilities types.now members.now scratch.old start steps.now)) }
 {
     let found = place_short::lookup(types, members, capabilities, scratch, start, steps);
     doors_words::put_two(
@@ -209,8 +172,7 @@ pub extern "C" fn wuldazin_place_short(
 }
 
 // The places of many runs of steps, two words for each in `found`.
-#[unsafe(no_mangle)]
-pub extern "C" fn wuldazin_places(
+pub fn wuldazin_places(
     types: &[u32],
     members: &[u32],
     capabilities: u32,
@@ -219,21 +181,16 @@ pub extern "C" fn wuldazin_places(
     found: &mut [u64],
     answer: &mut [u32],
 )
-    ensures scratch_after { scratch.new
-        ≡ places_scratch capabilities types.now members.now scratch.old runs.now found.old }
-    ensures found_after { found.new
-        ≡ places_words capabilities types.now members.now scratch.old runs.now found.old }
-    ensures answer_after { answer.new
-        ≡ with_answer answer.old
-        (places_answer capabilities types.now members.now scratch.old runs.now found.old) }
+    ensures scratch_after { scratch.new ≡ places_scratch capabilities types.now members.now scratch.old runs.now found.old }
+    ensures found_after { found.new ≡ places_words capabilities types.now members.now scratch.old runs.now found.old }
+    ensures answer_after { answer.new ≡ with_answer answer.old (places_answer capabilities types.now members.now scratch.old runs.now found.old) }
 {
     let outcome = place_runs::places(types, members, capabilities, scratch, runs, found);
     doors_words::put_answer(answer, outcome);
 }
 
 // The bytes carried and the bytes wasted of each host-shareable struct, two words a type, and the totals over all.
-#[unsafe(no_mangle)]
-pub extern "C" fn wuldazin_report(
+pub fn wuldazin_report(
     types: &[u32],
     members: &[u32],
     capabilities: u32,
@@ -243,18 +200,10 @@ pub extern "C" fn wuldazin_report(
     totals: &mut [u64],
     answer: &mut [u32],
 )
-    ensures rows_after { rows.new
-        ≡ report_rows (rule_of rule) (capabilities_by rule capabilities) types.now members.now rows.old
-        report.old }
-    ensures report_after { report.new
-        ≡ report_words (capabilities_by rule capabilities) types.now members.now rows.old report.old }
-    ensures totals_after { totals.new
-        ≡ with_totals totals.old
-        (report_answer (capabilities_by rule capabilities) types.now members.now rows.old report.old) }
-    ensures answer_after { answer.new
-        ≡ with_answer answer.old
-        (totals_outcome
-        (report_answer (capabilities_by rule capabilities) types.now members.now rows.old report.old)) }
+    ensures rows_after { rows.new ≡ report_rows (rule_of rule) (capabilities_by rule capabilities) types.now members.now rows.old report.old }
+    ensures report_after { report.new ≡ report_words (capabilities_by rule capabilities) types.now members.now rows.old report.old }
+    ensures totals_after { totals.new ≡ with_two totals.old (carried_of (report_answer (capabilities_by rule capabilities) types.now members.now rows.old report.old)) (wasted_of (report_answer (capabilities_by rule capabilities) types.now members.now rows.old report.old)) }
+    ensures answer_after { answer.new ≡ with_answer answer.old (totals_outcome (report_answer (capabilities_by rule capabilities) types.now members.now rows.old report.old)) }
 {
     let known = valid_rule_word::capabilities_by(rule, capabilities);
     let by = valid_rule_word::rule_of(rule);
@@ -268,16 +217,14 @@ pub extern "C" fn wuldazin_report(
 }
 
 // A pass with no slot set and no pipeline.
-#[unsafe(no_mangle)]
-pub extern "C" fn wuldazin_pass_start(pass: &mut [u64])
+pub fn wuldazin_pass_start(pass: &mut [u64])
     ensures { pass.new ≡ with_pass pass.old begin }
 {
     doors_words::put_pass(pass, immediates_pass::start());
 }
 
 // Sets a byte range of immediates.
-#[unsafe(no_mangle)]
-pub extern "C" fn wuldazin_pass_set(pass: &mut [u64], offset: u32, size: u32, answer: &mut [u32])
+pub fn wuldazin_pass_set(pass: &mut [u64], offset: u32, size: u32, answer: &mut [u32])
     ensures pass_after { pass.new ≡ with_tried pass.old (tried_in pass.old (SetRange offset size)) }
     ensures answer_after { answer.new ≡ with_answer answer.old (tried_in pass.old (SetRange offset size)).outcome }
 {
@@ -292,8 +239,7 @@ pub extern "C" fn wuldazin_pass_set(pass: &mut [u64], offset: u32, size: u32, an
 }
 
 // Chooses a pipeline by its immediate type.
-#[unsafe(no_mangle)]
-pub extern "C" fn wuldazin_pass_choose(
+pub fn wuldazin_pass_choose(
     types: &[u32],
     members: &[u32],
     capabilities: u32,
@@ -303,15 +249,9 @@ pub extern "C" fn wuldazin_pass_choose(
     pass: &mut [u64],
     answer: &mut [u32],
 )
-    ensures rows_after { rows.new
-        ≡ pass_rows pass.old (rule_of rule) (capabilities_by rule capabilities) types.now members.now rows.old }
-    ensures pass_after { pass.new
-        ≡ with_tried pass.old
-        (tried_in pass.old (Choose (capabilities_by rule capabilities) types.now members.now rows.old ty)) }
-    ensures answer_after { answer.new
-        ≡ with_answer answer.old
-        (tried_in pass.old
-        (Choose (capabilities_by rule capabilities) types.now members.now rows.old ty)).outcome }
+    ensures rows_after { rows.new ≡ pass_rows pass.old (rule_of rule) (capabilities_by rule capabilities) types.now members.now rows.old }
+    ensures pass_after { pass.new ≡ with_tried pass.old (tried_in pass.old (Choose (capabilities_by rule capabilities) types.now members.now rows.old ty)) }
+    ensures answer_after { answer.new ≡ with_answer answer.old (tried_in pass.old (Choose (capabilities_by rule capabilities) types.now members.now rows.old ty)).outcome }
 {
     if pass.len() < 3 {
         doors_words::put_answer(answer, doors_words::short_pass());
@@ -334,8 +274,7 @@ pub extern "C" fn wuldazin_pass_choose(
 }
 
 // Whether the pass may be dispatched, and the slots that it misses.
-#[unsafe(no_mangle)]
-pub extern "C" fn wuldazin_pass_dispatch(pass: &[u64], missing: &mut [u64], answer: &mut [u32])
+pub fn wuldazin_pass_dispatch(pass: &[u64], missing: &mut [u64], answer: &mut [u32])
     ensures missing_after { missing.new ≡ with_one missing.old (tried_in pass.now Dispatch).missing }
     ensures answer_after { answer.new ≡ with_answer answer.old (tried_in pass.now Dispatch).outcome }
 {
@@ -351,8 +290,7 @@ pub extern "C" fn wuldazin_pass_dispatch(pass: &[u64], missing: &mut [u64], answ
 }
 
 // Size, alignment and column step of a shape at a width.
-#[unsafe(no_mangle)]
-pub extern "C" fn wuldazin_plain(shape: u32, width: u32, numbers: &mut [u32], answer: &mut [u32])
+pub fn wuldazin_plain(shape: u32, width: u32, numbers: &mut [u32], answer: &mut [u32])
     ensures numbers_after { numbers.new ≡ with_numbers numbers.old (plain_answer shape width) }
     ensures answer_after { answer.new ≡ with_answer answer.old (plain_outcome (plain_answer shape width)) }
 {
@@ -362,11 +300,8 @@ pub extern "C" fn wuldazin_plain(shape: u32, width: u32, numbers: &mut [u32], an
 }
 
 // The part of the member table that the rows of struct ty are: its first word and how many words it has.
-#[unsafe(no_mangle)]
-pub extern "C" fn wuldazin_members(types: &[u32], members: &[u32], ty: u32, part: &mut [u64])
-    ensures { part.new
-        ≡ with_two part.old (part_start types.now members.now ty)
-        (part_length types.now members.now ty) }
+pub fn wuldazin_members(types: &[u32], members: &[u32], ty: u32, part: &mut [u64])
+    ensures { part.new ≡ with_two part.old (part_start types.now members.now ty) (part_length types.now members.now ty) }
 {
     let rows = ir_records::struct_members(types, members, ty);
     let count = rows.len();
@@ -383,8 +318,7 @@ fn part_start(types: &[u32], ty: u32, count: usize) -> u64
 }
 
 // The type section of a SPIR-V module, into lent type and member records; how many of each.
-#[unsafe(no_mangle)]
-pub extern "C" fn wuldazin_read_spirv(
+pub fn wuldazin_read_spirv(
     words: &[u32],
     types: &mut [u32],
     members: &mut [u32],
@@ -393,10 +327,8 @@ pub extern "C" fn wuldazin_read_spirv(
 )
     ensures types_after { types.new ≡ types_after (read_into words.now types.old members.old) types.old }
     ensures members_after { members.new ≡ members_after (read_into words.now types.old members.old) members.old }
-    ensures counts_after { counts.new
-        ≡ with_section counts.old (section_of (read_into words.now types.old members.old)) }
-    ensures answer_after { answer.new
-        ≡ with_answer answer.old (section_outcome (section_of (read_into words.now types.old members.old))) }
+    ensures counts_after { counts.new ≡ with_two counts.old (types_read (section_of (read_into words.now types.old members.old))) (members_read (section_of (read_into words.now types.old members.old))) }
+    ensures answer_after { answer.new ≡ with_answer answer.old (section_outcome (section_of (read_into words.now types.old members.old))) }
 {
     let section = spirv_reader::read_module(words, types, members);
     doors_words::put_counts(
@@ -408,23 +340,17 @@ pub extern "C" fn wuldazin_read_spirv(
 }
 
 // The records of a WGSL text, and how many there are of each.
-#[unsafe(no_mangle)]
-pub extern "C" fn wuldazin_read_wgsl(
+pub fn wuldazin_read_wgsl(
     text: &[u8],
     types: &mut [u32],
     members: &mut [u32],
     counts: &mut [u32],
     answer: &mut [u32],
 )
-    ensures types_after { types.new
-        ≡ types_left (text_of (length types.old) (length members.old) text.now) types.old }
-    ensures members_after { members.new
-        ≡ members_left (text_of (length types.old) (length members.old) text.now) members.old }
-    ensures counts_after { counts.new
-        ≡ with_text counts.old (answer_of (text_of (length types.old) (length members.old) text.now)) }
-    ensures answer_after { answer.new
-        ≡ with_answer answer.old
-        (text_outcome (answer_of (text_of (length types.old) (length members.old) text.now))) }
+    ensures types_after { types.new ≡ types_left (text_of (length types.old) (length members.old) text.now) types.old }
+    ensures members_after { members.new ≡ members_left (text_of (length types.old) (length members.old) text.now) members.old }
+    ensures counts_after { counts.new ≡ with_two counts.old (text_types (answer_of (text_of (length types.old) (length members.old) text.now))) (text_members (answer_of (text_of (length types.old) (length members.old) text.now))) }
+    ensures answer_after { answer.new ≡ with_answer answer.old (text_outcome (answer_of (text_of (length types.old) (length members.old) text.now))) }
 {
     let found = wgsl_read::read(text, types, members);
     doors_words::put_counts(
@@ -436,8 +362,7 @@ pub extern "C" fn wuldazin_read_wgsl(
 }
 
 // The first order of the wanted types that has at most the span, as a struct behind the records in use.
-#[unsafe(no_mangle)]
-pub extern "C" fn wuldazin_order(
+pub fn wuldazin_order(
     types: &mut [u32],
     n: u32,
     members: &mut [u32],
@@ -450,24 +375,11 @@ pub extern "C" fn wuldazin_order(
     found: &mut [u32],
     answer: &mut [u32],
 )
-    ensures types_after { types.new
-        ≡ (ordered (rule_of rule) (capabilities_by rule capabilities) types.old n members.old m rows.old wanted.now
-        span).types }
-    ensures members_after { members.new
-        ≡ (ordered (rule_of rule) (capabilities_by rule capabilities) types.old n members.old m rows.old wanted.now
-        span).members }
-    ensures rows_after { rows.new
-        ≡ (ordered (rule_of rule) (capabilities_by rule capabilities) types.old n members.old m rows.old wanted.now
-        span).rows }
-    ensures found_after { found.new
-        ≡ with_found found.old (length wanted.now)
-        (ordered (rule_of rule) (capabilities_by rule capabilities) types.old n members.old m rows.old
-        wanted.now span).answer }
-    ensures answer_after { answer.new
-        ≡ with_answer answer.old
-        (order_outcome
-        (ordered (rule_of rule) (capabilities_by rule capabilities) types.old n members.old m rows.old
-        wanted.now span).answer) }
+    ensures types_after { types.new ≡ (ordered (rule_of rule) (capabilities_by rule capabilities) types.old n members.old m rows.old wanted.now span).types }
+    ensures members_after { members.new ≡ (ordered (rule_of rule) (capabilities_by rule capabilities) types.old n members.old m rows.old wanted.now span).members }
+    ensures rows_after { rows.new ≡ (ordered (rule_of rule) (capabilities_by rule capabilities) types.old n members.old m rows.old wanted.now span).rows }
+    ensures found_after { found.new ≡ with_found found.old (length wanted.now) (ordered (rule_of rule) (capabilities_by rule capabilities) types.old n members.old m rows.old wanted.now span).answer }
+    ensures answer_after { answer.new ≡ with_answer answer.old (order_outcome (ordered (rule_of rule) (capabilities_by rule capabilities) types.old n members.old m rows.old wanted.now span).answer) }
 {
     doors_order::order_into(
         types,

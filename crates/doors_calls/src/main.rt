@@ -1,5 +1,7 @@
 // Calls each function of the static library and prints answers and lent buffers.
 // `stdout` is written by hand from the sentences of 01, or of embed/wuldazin.h where it says so, that stand beside the tables.
+#![tactic(auto)]
+
 mod masks;
 mod parts;
 mod reports;

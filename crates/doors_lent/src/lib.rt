@@ -1,5 +1,7 @@
 // What the programs doors_calls and doors_refusals share: calls of the static library with lent buffers, and the lines that they print.
 // The calls, by the older uniform rule. Each word of a lent buffer is 9 before its call, and all of them are printed after it, those past the call's own too.
+#![tactic(auto)]
+
 const STDOUT: i32 = 1;
 
 // A line begins with a name.

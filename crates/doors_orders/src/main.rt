@@ -1,6 +1,7 @@
 // The call for an order through the static library: answers, tables and lent buffers. `stdout` is written by hand from E11 of 02 and the
 // sentences of embed/wuldazin.h. The free words of the tables and each word of a lent buffer are 9 before a call, and all of them are printed
 // after it.
+#![tactic(auto)]
 
 // E = f32 and V = vec3 of f32, with room for two types more.
 const PAIR: [u32; 24] = [

@@ -2,6 +2,7 @@
 // embed/wuldazin.h: a pass is "the slots set so far, the slots that the chosen pipeline's type needs, and whether a pipeline is chosen, 0
 // or not", "An accepted step writes all three, 1 for a pipeline; a refused one writes none. On a shorter buffer every step is refused with
 // number 1, before everything else." Each pass here is the first words of a longer buffer, which is printed whole.
+#![tactic(auto)]
 
 // M1's struct with a span of 15: M6, which is 19.
 const M6: [u32; 18] = [0, 2, 4, 0, 0, 0, 1, 3, 2, 4, 0, 0, 8, 0, 2, 15, 0, 0];

@@ -3,6 +3,7 @@
 // words, acceptance fills them." embed/wuldazin.h: the three words are size, alignment and flags; a run is "its start, how many steps it has, and
 // the steps"; "two words for each run, .. both 2^64 - 1 where there is no place"; number 1 leaves every word. Each buffer is printed whole.
 // M1 of 01: E, V, S{V at 0, E at 12} span 16; sizes 4, 12, 16, alignments 4, 16, 16, flags 255, 255, 247.
+#![tactic(auto)]
 
 // M1's struct with a span of 15: M6, which is 19, member 1.
 const M6: [u32; 18] = [0, 2, 4, 0, 0, 0, 1, 3, 2, 4, 0, 0, 8, 0, 2, 15, 0, 0];

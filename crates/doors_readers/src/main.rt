@@ -3,6 +3,7 @@
 // words, how many types and how many members; zeros on a refusal", "the words after them as they were", "all words of types and members are
 // 0", "An answer, .. counts, .. buffer that is too short for its words is left as it was. Words after its own are left in every buffer." Each word
 // of a lent buffer is 9 before its call.
+#![tactic(auto)]
 
 // M1's struct: Offsets 0 and 12, then f32, vec3<f32> and the struct of both.
 const MODULE: [u32; 26] = [

@@ -2,6 +2,7 @@
 // `stdout` is written by hand from the sentences beside the calls.
 // E8 of 02: "A caller chooses the older or the newer rule for each check." embed/wuldazin.h: the rule is the word after the capability word, 0 or 1;
 // another word is number 1, and touches no row, no report and no pass. Each call is made with 0, with 1 and with a word above.
+#![tactic(auto)]
 
 // M9: E, S{E} span 4, S{that at 0, E at 4} span 16. By the older rule S{E} is Ok 16 and the struct "code 4, bound 16"; by the newer their uniform
 // verdicts are their storage verdicts, Ok 4.

@@ -2,6 +2,7 @@
 // embed/wuldazin.h: "counts: two words, how many type records and how many member records there are; zeros on a refusal, left as they were
 // where there are fewer than two. The records stand at the start of the tables, and the words behind them are left. .. a refusal zeroes every
 // word of both tables." Buffers that are lent in part are printed whole.
+#![tactic(auto)]
 
 // M1 of 01 as text. The f32 of the vector is a type written, so there are four types, and two members.
 const M1: [u8; 33] = *b"struct S { v: vec3<f32>, e: f32 }";

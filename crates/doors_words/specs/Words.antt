@@ -24,10 +24,14 @@ use Rattle.place_report.specs.declared.ReportAnswer.TheVariants as report
 use Rattle.wgsl_read.specs.declared.TextAnswer.{TextAnswer}
 use Rattle.wgsl_read.specs.declared.TextAnswer.TheVariants as text
 
--- ---- 01's number and values for each answer; of slots it is immediates_pass: Pass `outcome_of`
+-- ---- 01's number and values for each answer
 abbrev pub answer_words : Outcome → List ℕ
 answer_words Accepted = 0 ∷ 0 ∷ 0 ∷ 0 ∷ []
 answer_words (Refused number ty member detail) = number ∷ ty ∷ member ∷ detail ∷ []
+
+abbrev pub slots_outcome : SlotsAnswer → Outcome
+slots_outcome (slots.Slots touched partly) = Accepted
+slots_outcome (slots.Refused number ty member detail) = Refused number ty member detail
 
 abbrev pub place_outcome : PlaceAnswer → Outcome
 place_outcome (place.Found byte leaf) = Accepted
@@ -111,19 +115,6 @@ with_answer words outcome = pick (leb 4 (length words)) (answer_words outcome ++
 
 unfoldable pub with_two : List ℕ → (a b : ℕ) → List ℕ
 with_two words a b = pick (leb 2 (length words)) (a ∷ b ∷ drop 2 words) words
-
--- the two words of a place, of totals, of a section read and of a text read
-abbrev pub with_place : List ℕ → PlaceAnswer → List ℕ
-with_place words found = with_two words (byte_of found) (leaf_of found)
-
-abbrev pub with_totals : List ℕ → ReportAnswer → List ℕ
-with_totals words found = with_two words (carried_of found) (wasted_of found)
-
-abbrev pub with_section : List ℕ → Section → List ℕ
-with_section words found = with_two words (types_read found) (members_read found)
-
-abbrev pub with_text : List ℕ → TextAnswer → List ℕ
-with_text words found = with_two words (text_types found) (text_members found)
 
 unfoldable pub with_numbers : List ℕ → PlainAnswer → List ℕ
 with_numbers words found = pick (leb 3 (length words)) (numbers_of found ++ drop 3 words) words

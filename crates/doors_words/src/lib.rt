@@ -1,10 +1,9 @@
 // Answers of the calls as words in buffers that are lent: the outcome in four words, and what stands beside it.
+#![tactic(auto)]
+
 ghost use Rattle.std.specs.Prelude.{◌≡◌, ◌∷◌, ◌≤◌, length, drop};
 ghost use Rattle.ir_records.specs.declared.Outcome.TheVariants.{Refused};
-ghost use Rattle.immediates_pass.specs.Pass.{outcome_of};
-ghost use Rattle.doors_words.specs.Words.{place_outcome, totals_outcome, plain_outcome, touched_of, partly_of, byte_of, leaf_of, carried_of, wasted_of};
-ghost use Rattle.doors_words.specs.Words.{with_answer, with_two, with_numbers, with_masks, pass_of, chosen_word, with_pass, with_tried, with_one};
-ghost use Rattle.doors_words.specs.Words.{section_outcome, types_read, members_read, text_outcome, text_types, text_members};
+ghost use Rattle.doors_words.specs.Words.{slots_outcome, place_outcome, totals_outcome, plain_outcome, touched_of, partly_of, byte_of, leaf_of, carried_of, wasted_of, with_answer, with_two, with_numbers, with_masks, pass_of, chosen_word, with_pass, with_tried, with_one, section_outcome, types_read, members_read, text_outcome, text_types, text_members};
 
 use immediates_pass::{Pass, Tried};
 use immediates_ranges::SlotsAnswer;
@@ -54,7 +53,7 @@ pub fn put_two(words: &mut [u64], a: u64, b: u64)
 }
 
 pub fn slots_outcome(found: SlotsAnswer) -> Outcome
-    ensures { result ≡ outcome_of found }
+    ensures { result ≡ slots_outcome found }
 {
     match found {
         SlotsAnswer::Slots {

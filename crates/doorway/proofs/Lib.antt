@@ -1,2 +1,1 @@
 mod CoreLaws
-mod Apart

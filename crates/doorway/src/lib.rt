@@ -1,4 +1,6 @@
 // Members as a lent run of member records, taken apart for the word core. The uniform rule is a word, 0 the older and 1 the newer; another word is number 1.
+#![tactic(auto)]
+
 ghost use Rattle.std.specs.Prelude.{◌≡◌, ◌*◌, ◌≤◌, take};
 ghost use Rattle.ir_records.specs.Record.{member_words};
 ghost use Rattle.valid_arena.specs.Arena.{arena_answer, arena_words};
@@ -23,8 +25,7 @@ fn check_words(
 ) -> Outcome
     requires { n ≤ 4097 }
     ensures value { result ≡ arena_answer (capabilities_by rule capabilities) types.now (take (n * member_words) words) rows.old }
-    ensures rows_after { rows.new
-        ≡ arena_words (rule_of rule) (capabilities_by rule capabilities) types.now (take (n * member_words) words) rows.old }
+    ensures rows_after { rows.new ≡ arena_words (rule_of rule) (capabilities_by rule capabilities) types.now (take (n * member_words) words) rows.old }
 {
     let e = n * ir_records::MEMBER_WORDS;
     let by = valid_rule_word::rule_of(rule);
@@ -41,8 +42,7 @@ pub fn check_members(
     rows: &mut [u32],
 ) -> Outcome
     ensures value { result ≡ arena_answer (capabilities_by rule capabilities) types.now (flat members.now) rows.old }
-    ensures rows_after { rows.new
-        ≡ arena_words (rule_of rule) (capabilities_by rule capabilities) types.now (flat members.now) rows.old }
+    ensures rows_after { rows.new ≡ arena_words (rule_of rule) (capabilities_by rule capabilities) types.now (flat members.now) rows.old }
 {
     let n = ir_member_words::fit(members.len());
     let words = ir_member_words::words_of(members, n);
@@ -61,11 +61,8 @@ fn place_words(
     steps: &[u32],
 ) -> PlaceAnswer
     requires { n ≤ 4097 }
-    ensures value { result
-        ≡ lookup_answer (capabilities_by rule capabilities) types.now (take (n * member_words) words) rows.old start
-        steps.now }
-    ensures rows_after { rows.new
-        ≡ arena_words (rule_of rule) (capabilities_by rule capabilities) types.now (take (n * member_words) words) rows.old }
+    ensures value { result ≡ lookup_answer (capabilities_by rule capabilities) types.now (take (n * member_words) words) rows.old start steps.now }
+    ensures rows_after { rows.new ≡ arena_words (rule_of rule) (capabilities_by rule capabilities) types.now (take (n * member_words) words) rows.old }
 {
     let e = n * ir_records::MEMBER_WORDS;
     let by = valid_rule_word::rule_of(rule);
@@ -83,11 +80,8 @@ pub fn place_members(
     start: u32,
     steps: &[u32],
 ) -> PlaceAnswer
-    ensures value { result
-        ≡ lookup_answer (capabilities_by rule capabilities) types.now (flat members.now) rows.old start
-        steps.now }
-    ensures rows_after { rows.new
-        ≡ arena_words (rule_of rule) (capabilities_by rule capabilities) types.now (flat members.now) rows.old }
+    ensures value { result ≡ lookup_answer (capabilities_by rule capabilities) types.now (flat members.now) rows.old start steps.now }
+    ensures rows_after { rows.new ≡ arena_words (rule_of rule) (capabilities_by rule capabilities) types.now (flat members.now) rows.old }
 {
     let n = ir_member_words::fit(members.len());
     let words = ir_member_words::words_of(members, n);
@@ -107,8 +101,7 @@ fn slots_words(
 ) -> SlotsAnswer
     requires { n ≤ 4097 }
     ensures value { result ≡ slots_answer (capabilities_by rule capabilities) types.now (take (n * member_words) words) rows.old ty offset }
-    ensures rows_after { rows.new
-        ≡ arena_words (rule_of rule) (capabilities_by rule capabilities) types.now (take (n * member_words) words) rows.old }
+    ensures rows_after { rows.new ≡ arena_words (rule_of rule) (capabilities_by rule capabilities) types.now (take (n * member_words) words) rows.old }
 {
     let e = n * ir_records::MEMBER_WORDS;
     let by = valid_rule_word::rule_of(rule);
@@ -127,8 +120,7 @@ pub fn slots_members(
     offset: u32,
 ) -> SlotsAnswer
     ensures value { result ≡ slots_answer (capabilities_by rule capabilities) types.now (flat members.now) rows.old ty offset }
-    ensures rows_after { rows.new
-        ≡ arena_words (rule_of rule) (capabilities_by rule capabilities) types.now (flat members.now) rows.old }
+    ensures rows_after { rows.new ≡ arena_words (rule_of rule) (capabilities_by rule capabilities) types.now (flat members.now) rows.old }
 {
     let n = ir_member_words::fit(members.len());
     let words = ir_member_words::words_of(members, n);

@@ -1,17 +1,22 @@
 // The program `from_spirv`: reads a SPIR-V module from standard input, or from each file that an argument names, and writes a line for each
 // type and member that `inspect` takes, or the refusal.
+#![tactic(auto)]
+
 ghost use Rattle.std.specs.Prelude.{◌≡◌, ◌≤◌, length};
+ghost use Rattle.io.specs.Counts.{IsPrefixLen};
 ghost use Rattle.program_output.specs.Bytes.{Puts};
 ghost use Rattle.from_spirv.specs.Serving.{HeldWithin};
 ghost use Rattle.from_spirv.specs.Lines.{module_lines};
 
 use program_output::Buffer;
 use spirv_read::Section;
+use std::io::Read;
+use std::rt::{Env, Files};
 
 const STDOUT: i32 = 1;
 
 // How the input ended: so many words, no whole number of words, or more than are held.
-#[derive(Drop)]
+#[derive(Clone, Copy)]
 enum Held {
     Words(usize),
     Odd,
@@ -57,23 +62,37 @@ fn with_bytes(words: &mut [u32], held: usize, bytes: &[u8]) -> Held
     Held::Words(now)
 }
 
-// One read, after the words that are held.
-fn read_more(fd: i32, words: &mut [u32], held: usize) -> Held
+// Reads until the buffer is full, the input ends or a read fails, and says how many bytes stand at the start of the buffer.
+fn read_full<S: Read>(source: &mut S, buffer: &mut [u8]) -> usize
+    ensures { IsPrefixLen result buffer.new }
+{
+    let mut held: usize = 0;
+    while held < buffer.len() {
+        match source.read(&mut buffer[held..]) {
+            Ok(0) | Err(_) => return held,
+            Ok(more) => held += more,
+        }
+    }
+    held
+}
+
+// What one full buffer of the input adds to the words that are held.
+fn read_more<S: Read>(source: &mut S, words: &mut [u32], held: usize) -> Held
     requires { held ≤ length words.old }
     ensures { HeldWithin held (length words.old) result }
 {
     let mut buffer = io::large_buffer();
-    let got = io::read_full(fd, &mut buffer);
+    let got = read_full(source, &mut buffer);
     with_bytes(words, held, &buffer[..got])
 }
 
 // All words of the input.
-fn read_all(fd: i32, words: &mut [u32]) -> Held
+fn read_all<S: Read>(source: &mut S, words: &mut [u32]) -> Held
     ensures { HeldWithin 0 (length words.old) result }
 {
     let mut held: usize = 0;
     loop {
-        match read_more(fd, words, held) {
+        match read_more(source, words, held) {
             Held::Words(now) => {
                 if now <= held {
                     return Held::Words(held);
@@ -114,46 +133,42 @@ fn no_words() -> [u32; 1048576]
     [0; 1048576]
 }
 
-fn read_and_answer(fd: i32) {
+fn read_and_answer<S: Read>(source: &mut S) {
     let mut words = no_words();
-    let held = read_all(fd, &mut words);
+    let held = read_all(source, &mut words);
     answer_held(&words, held);
 }
 
 // The name of a file as a comment.
-fn put_name(i: usize) {
+fn put_name<R: Env>(rt: &R, i: usize) {
     let mut name = io::buffer();
-    let length = os::arg(i, &mut name);
+    let length = program_files::argument(rt, i, &mut name);
     io::write_all(STDOUT, b"# ");
     io::write_all(STDOUT, &name[..length]);
     io::write_all(STDOUT, b"\n");
 }
 
 // The file that argument i names; of several files each after a comment with its name.
-fn read_file(i: usize, several: bool) {
+fn read_file<R: Env + Files>(rt: &R, i: usize, several: bool) {
     if several {
-        put_name(i);
+        put_name(rt, i);
     }
-    let fd = program_files::named(i);
-    if fd < 0 {
-        return;
-    }
-    read_and_answer(fd);
-}
-
-fn read_files(n: usize) {
-    let mut i: usize = 1;
-    while i < n {
-        read_file(i, 2 < n);
-        i += 1;
+    if let Some(mut file) = program_files::named(rt, i) {
+        read_and_answer(&mut file);
     }
 }
 
-fn main() {
-    let n = os::arg_count();
+fn read_files<R: Env + Files>(rt: &R, n: usize) {
+    for i in 1..n {
+        read_file(rt, i, 2 < n);
+    }
+}
+
+fn main(rt: HostRuntime) {
+    let n = program_files::argument_count(&rt);
     if n < 2 {
-        read_and_answer(0);
+        read_and_answer(&mut rt.reader());
     } else {
-        read_files(n);
+        read_files(&rt, n);
     }
 }

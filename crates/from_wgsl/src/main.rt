@@ -1,5 +1,7 @@
 // The program `from_wgsl`: reads WGSL text from standard input, or from the file that its argument names, and writes a line for each type and
 // member that `inspect` takes, or the refusal with its place.
+#![tactic(auto)]
+
 ghost use Rattle.std.specs.Prelude.{◌≡◌, length};
 
 use program_files::Held;
@@ -34,12 +36,11 @@ fn no_bytes() -> [u8; 1048577]
     [0; 1048577]
 }
 
-fn main() {
-    let fd = program_files::opened();
-    if fd < 0 {
+fn main(rt: HostRuntime) {
+    let Some(mut source) = program_files::opened(&rt) else {
         return;
-    }
+    };
     let mut bytes = no_bytes();
-    let held = program_files::read_all(fd, &mut bytes);
+    let held = program_files::read_all(&mut source, &mut bytes);
     answer_held(&bytes, held);
 }

@@ -1,4 +1,6 @@
 // The parts of structs that a slot walk keeps: four words for each type and each remainder of its offset by 4.
+#![tactic(auto)]
+
 ghost use Rattle.std.specs.Prelude.{◌≡◌, ◌+◌, ◌*◌, ◌≤◌, ◌<◌, length, set};
 ghost use Rattle.immediates_kept.specs.Kept.{is_kept, kept_part, with_kept};
 

@@ -5,19 +5,17 @@ use mathlib.Core.Bool.{Bool, true, false}
 use Prim.Native.Nat.{ℕ, ◌+◌, ◌-◌, ◌*◌, ◌≤◌, ◌<◌, min}
 use native.Mathlib.Decide.{dec_le, ℕ_discrete}
 use native.Mathlib.Omega.{arith}
-use lib.Dec.{eqb, leb}
-use borrow.Author.Tests.{le-leb, lt-leb, eq-eqb, ne_eqb}
+use lib.Dec.{leb}
+use borrow.Author.Tests.{le-leb, lt-leb, ne_eqb}
 use Rattle.ir_records.specs.Result.{pick}
 use Rattle.ir_records.proofs.ResultLaws.{pick_alike}
 use Rattle.proc_alignment.specs.Alignment.{most}
 use Rattle.immediates_ranges.specs.declared.Slots.{Slots}
 use Rattle.immediates_ranges.specs.declared.Slots.TheVariants as slots
-use Rattle.immediates_ranges.specs.Slots.{mask_of, range_slots, union, join}
-use Rattle.immediates_ranges.specs.Bytes.{slot_count, slot_bytes, covers}
-use Rattle.immediates_ranges.specs.Partly.{covers_partly}
+use Rattle.immediates_ranges.specs.Slots.{slot_count, slot_bytes, covers, covers_partly, mask_of, range_slots, union, join}
 use Rattle.immediates_part.specs.declared.Part.{Part}
 use Rattle.immediates_part.specs.declared.Part.TheVariants.{Within, Past}
-use Rattle.immediates_part.specs.Part.{slots_in, with_room, nothing_at, range_room, range_part, join_parts, raised, moved}
+use Rattle.immediates_part.specs.Part.{slots_in, with_room, nothing_at, range_room, range_part, join_parts, moved}
 use Rattle.immediates_part.proofs.RaisedLaws.{raised_union, raised_nothing, raised_touched, raised_partly}
 
 -- a part that is refused refuses both

@@ -1,9 +1,9 @@
 -- Laws of raised masks: their bits, their unions, and the masks of a part that stands further on.
 -- Assumes nothing.
 use mathlib.Core.Path.{◌≡◌, refl, sym, ap, ◌∙◌}
-use mathlib.Core.Bool.{Bool, true, false, ◌&&◌, ◌||◌, not}
+use mathlib.Core.Bool.{Bool, true, false, ◌&&◌, ◌||◌}
 use Prim.Native.Nat.{ℕ, suc, ◌+◌, ◌-◌, ◌*◌, ◌/◌, ◌%◌, ◌^◌, ◌≤◌, ◌<◌}
-use native.Mathlib.Nat.{mod-lt, zero-mul, mul_assoc, mul-div_cancel, pow-suc, mod-eq_of_lt, zero-lt-suc, mul-mod_left}
+use native.Mathlib.Nat.{mod-lt, zero-mul, mul_assoc, pow-suc, mul-mod_left}
 use native.Mathlib.Decide.{dec_le}
 use native.Mathlib.Numerals.{add-one}
 use native.Mathlib.Omega.{arith}
@@ -12,9 +12,7 @@ use lib.Pow.{pow_pos, pow-add, field, mod-mod-pow, shl-shr, shr-shr}
 use borrow.Author.Tests.{le-leb, lt-leb}
 use Rattle.ir_records.proofs.ResultLaws.{same_test}
 use Rattle.valid_flags.specs.Flags.{bit}
-use Rattle.immediates_ranges.specs.Slots.{mask_of, union}
-use Rattle.immediates_ranges.specs.Bytes.{slot_count, in_part, covers}
-use Rattle.immediates_ranges.specs.Partly.{covers_all, covers_partly}
+use Rattle.immediates_ranges.specs.Slots.{slot_count, in_part, covers, covers_all, covers_partly, mask_of, union}
 use Rattle.immediates_ranges.proofs.MaskLaws.{mask_same, bit_mask, number_mask}
 use Rattle.immediates_ranges.proofs.RangeLaws.{covers_before}
 use Rattle.immediates_ranges.proofs.SlotBits.{union_slot}

@@ -6,8 +6,7 @@ use Rattle.ir_records.specs.Result.{pick}
 use Rattle.proc_alignment.specs.Alignment.{most}
 use Rattle.immediates_ranges.specs.declared.Slots.{Slots}
 use Rattle.immediates_ranges.specs.declared.Slots.TheVariants as slots
-use Rattle.immediates_ranges.specs.Slots.{range_slots, union}
-use Rattle.immediates_ranges.specs.Bytes.{slot_count, slot_bytes}
+use Rattle.immediates_ranges.specs.Slots.{slot_count, slot_bytes, range_slots, union}
 use Rattle.immediates_part.specs.declared.Part.{Part}
 use Rattle.immediates_part.specs.declared.Part.TheVariants.{Within, Past}
 

@@ -1,10 +1,12 @@
 // A part with its room: its slots, and how many bytes further on it may stand before it is refused.
+#![tactic(auto)]
+
 ghost use Rattle.std.specs.Prelude.{◌≡◌, min};
 ghost use Rattle.immediates_part.specs.Part.{slots_in, nothing_at, range_room, range_part, join_parts, raised, moved};
 
 use immediates_ranges::Slots;
 
-#[derive(Drop)]
+#[derive(Clone, Copy)]
 pub enum Part {
     Within {
         touched: u64,

@@ -5,12 +5,10 @@ use mathlib.Core.Bool.{true, false}
 use mathlib.Core.List.{[], ◌∷◌}
 use Rattle.ir_records.specs.declared.Outcome.TheVariants as outcome
 use Rattle.immediates_ranges.specs.declared.SlotsAnswer.TheVariants as answer
-use Rattle.immediates_ranges.specs.Slots.{mask_of, range_slots, contains_below}
-use Rattle.immediates_ranges.specs.Bytes.{covers}
-use Rattle.immediates_ranges.specs.Partly.{covers_all}
+use Rattle.immediates_ranges.specs.Slots.{covers, covers_all, mask_of, range_slots, contains_below}
 use Rattle.immediates_pass.specs.declared.Pass.{Pass}
 use Rattle.immediates_pass.specs.declared.Tried.{Tried}
-use Rattle.immediates_pass.specs.Pass.{begin, range_answer, SetRange, Dispatch, tried}
+use Rattle.immediates_pass.specs.Pass.{range_answer, SetRange, Dispatch, tried}
 use Rattle.immediates_pass.specs.History.{after}
 
 -- an empty range at a multiple of 4, and at none; 25; 37 before 25; the last slot; a size that is no multiple of 4

@@ -1,7 +1,7 @@
 -- A dispatch passes exactly when a pipeline is chosen and each slot that the last one's type needs was set by an earlier accepted step.
 -- Assumes nothing.
-use mathlib.Core.Path.{◌≡◌, refl, sym, ap, ◌∙◌}
-use mathlib.Core.Bool.{Bool, true, false, ◌&&◌, ◌||◌, not}
+use mathlib.Core.Path.{◌≡◌, refl}
+use mathlib.Core.Bool.{Bool, true, false, ◌&&◌, not}
 use mathlib.Core.List.{List, [], ◌∷◌}
 use mathlib.Core.Logic.{⊎_elim}
 use Prim.Native.Nat.{ℕ, ◌%◌, ◌<◌}
@@ -14,8 +14,7 @@ use Rattle.immediates_ranges.specs.declared.Slots.{Slots}
 use Rattle.immediates_ranges.specs.declared.Slots.TheVariants.{Mask, Past}
 use Rattle.immediates_ranges.specs.declared.SlotsAnswer.{SlotsAnswer}
 use Rattle.immediates_ranges.specs.declared.SlotsAnswer.TheVariants as answer
-use Rattle.immediates_ranges.specs.Slots.{range_slots, part_answer, contains, difference, union}
-use Rattle.immediates_ranges.specs.Bytes.{slot_count, covers}
+use Rattle.immediates_ranges.specs.Slots.{slot_count, covers, range_slots, part_answer, contains}
 use Rattle.immediates_ranges.proofs.RangeLaws.{or_left, or_right}
 use Rattle.immediates_ranges.proofs.SlotBits.{union_slot, difference_slot, contains_slots, slots_contains, zero_bit, range_slot}
 use Rattle.immediates_pass.specs.declared.Pass.{Pass}

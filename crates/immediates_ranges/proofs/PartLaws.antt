@@ -1,7 +1,7 @@
 -- The second mask of a range: a part covers a slot only in part just where one of its borders lies inside the slot.
 -- Assumes nothing.
 use mathlib.Core.Path.{◌≡◌, refl, sym, ◌∙◌}
-use mathlib.Core.Bool.{Bool, true, false, ◌&&◌, ◌||◌, not, and-false}
+use mathlib.Core.Bool.{true, false, ◌&&◌, ◌||◌, not, and-false}
 use Prim.Native.Nat.{ℕ, suc, ◌+◌, ◌*◌, ◌/◌, ◌%◌, ◌^◌, ◌<◌, ◌≤◌}
 use native.Mathlib.Nat.{pow-suc, one-mul, mod-eq_of_lt}
 use native.Mathlib.Decide.{dec_le, ℕ_discrete}
@@ -12,9 +12,7 @@ use lib.Pow.{pow-lt}
 use borrow.Author.Tests.{ne_eqb, eq-eqb}
 use Rattle.ir_records.proofs.ResultLaws.{T_true}
 use Rattle.valid_flags.specs.Flags.{bit}
-use Rattle.immediates_ranges.specs.Slots.{mask_of}
-use Rattle.immediates_ranges.specs.Bytes.{slot_count, slot_bytes, in_part, covers}
-use Rattle.immediates_ranges.specs.Partly.{covers_all, covers_partly}
+use Rattle.immediates_ranges.specs.Slots.{slot_count, slot_bytes, in_part, covers_all, covers_partly, mask_of}
 use Rattle.immediates_ranges.specs.Serving.{cuts}
 use Rattle.immediates_ranges.proofs.MaskLaws.{mask_same, mask_lt, bit_mask, union_word}
 use Rattle.immediates_ranges.proofs.RangeLaws.{in-part, before_part, past_part, run_mask, covers_before, covers_after, covers_within}

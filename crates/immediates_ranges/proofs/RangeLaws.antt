@@ -11,8 +11,7 @@ use lib.Pow.{pow_pos, pow-add, pow-sub-lt, ones_split, high_ones, ones_lt, high,
 use lib.Bits.{bit_and, and_mask}
 use Rattle.ir_records.proofs.ResultLaws.{T_true}
 use borrow.Author.Tests.{lt-ltb, le-ltb, le-leb, lt-leb}
-use Rattle.immediates_ranges.specs.Slots.{mask_of}
-use Rattle.immediates_ranges.specs.Bytes.{in_part, covers}
+use Rattle.immediates_ranges.specs.Slots.{in_part, covers, mask_of}
 
 -- ---- masks of runs of slots
 -- one slot more

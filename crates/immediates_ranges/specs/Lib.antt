@@ -1,4 +1,2 @@
-pub mod Bytes
-pub mod Partly
 pub mod Slots
 pub mod Serving

@@ -1,15 +1,49 @@
 -- 01, 'The slot word' (`ImmediateSlots` of naga's valid/immediates.rs), and 02, E2: bit k of a mask is slot k, bytes 4k to 4k+3. A part has
 -- two masks: the slots that it touches, and those that it covers only in part.
 -- Assumes nothing.
-use Rattle.std.specs.Prelude.{Bool, true, ◌&&◌, ◌||◌, not, ℕ, zero, suc, ◌+◌, ◌^◌, eqb, leb}
+use Rattle.std.specs.Prelude.{Bool, true, false, ◌&&◌, ◌||◌, not, ℕ, zero, suc, ◌+◌, ◌*◌, ◌^◌, eqb, leb, ltb}
 use Rattle.ir_records.specs.Result.{pick}
 use Rattle.valid_flags.specs.Flags.{bit}
-use Rattle.immediates_ranges.specs.Bytes.{slot_count, slot_bytes, covers}
-use Rattle.immediates_ranges.specs.Partly.{covers_partly}
 use Rattle.immediates_ranges.specs.declared.Slots.{Slots}
 use Rattle.immediates_ranges.specs.declared.Slots.TheVariants.{Mask, Past}
 use Rattle.immediates_ranges.specs.declared.SlotsAnswer.{SlotsAnswer}
 use Rattle.immediates_ranges.specs.declared.SlotsAnswer.TheVariants as answer
+
+-- how many slots there are
+abbrev pub slot_count : ℕ
+slot_count = 64
+
+-- the bytes that the slots have
+abbrev pub slot_bytes : ℕ
+slot_bytes = 256
+
+-- byte b is one of the part's
+abbrev pub in_part : (offset size b : ℕ) → Bool
+in_part offset size b = leb offset b && ltb b (offset + size)
+
+-- the part covers one of bytes 4k to 4k+3
+unfoldable pub covers : (offset size k : ℕ) → Bool
+covers offset size k =
+    in_part offset size (4 * k) || in_part offset size (4 * k + 1) || in_part offset size (4 * k + 2) || in_part offset size (4 * k + 3)
+
+-- the part covers all of bytes 4k to 4k+3
+unfoldable pub covers_all : (offset size k : ℕ) → Bool
+covers_all offset size k =
+    in_part offset size (4 * k) && in_part offset size (4 * k + 1) && in_part offset size (4 * k + 2) && in_part offset size (4 * k + 3)
+
+-- the part covers slot k only in part: one of its bytes and not all
+abbrev pub covers_partly : (offset size k : ℕ) → Bool
+covers_partly offset size k = covers offset size k && not (covers_all offset size k)
+
+-- the test of the first mask, or of the second
+abbrev pub covers_by : (partly : Bool) → (offset size k : ℕ) → Bool
+covers_by false = covers
+covers_by true = covers_partly
+
+-- the first of two masks, or the second
+abbrev pub mask_by : (partly : Bool) → (first second : ℕ) → ℕ
+mask_by false first second = first
+mask_by true first second = second
 
 -- the mask in which slot k, below n, is set where the test holds
 unfoldable pub mask_of : (ℕ → Bool) → (n : ℕ) → ℕ

@@ -1,18 +1,19 @@
 // Slot masks: ImmediateSlots of naga's valid/immediates.rs without the walk of a type.
+#![tactic(auto)]
+
 ghost use Rattle.std.specs.Prelude.{◌≡◌, ◌≤◌};
-ghost use Rattle.immediates_ranges.specs.Slots.{mask_of, range_slots, contains, difference, union, join, part_answer};
-ghost use Rattle.immediates_ranges.specs.Bytes.{slot_count, slot_bytes};
+ghost use Rattle.immediates_ranges.specs.Slots.{slot_count, slot_bytes, mask_of, range_slots, contains, difference, union, join, part_answer};
 ghost use Rattle.immediates_ranges.specs.Serving.{cuts};
 
 // The slots that a part touches, and those that it covers only in part.
 // Past: number 25, a nonempty part ends past byte 256 or an offset sum leaves 32 bits.
-#[derive(Drop)]
+#[derive(Clone, Copy)]
 pub enum Slots {
     Mask { touched: u64, partly: u64 },
     Past,
 }
 
-#[derive(Drop)]
+#[derive(Clone, Copy)]
 pub enum SlotsAnswer {
     Slots {
         touched: u64,

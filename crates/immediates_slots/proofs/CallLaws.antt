@@ -31,11 +31,11 @@ use Rattle.valid_arena.proofs.WordLaws.{word_left}
 use Rattle.immediates_ranges.specs.declared.Slots.{Slots}
 use Rattle.immediates_ranges.specs.declared.Slots.TheVariants.{Mask, Past}
 use Rattle.immediates_ranges.specs.declared.SlotsAnswer.TheVariants as answer
-use Rattle.immediates_ranges.specs.Slots.{part_answer}
-use Rattle.immediates_walk.specs.Walk.{slots_at}
+use Rattle.immediates_ranges.specs.Slots.{slot_count, mask_by, part_answer}
+use Rattle.immediates_walk.specs.Walk.{CoveredBy, slots_at}
 use Rattle.immediates_walk.proofs.MeasuredLaws.{accepted_parts, layout_measured, layout_size}
 use Rattle.immediates_walk.proofs.SlotLaws.{walk_slot}
-use Rattle.immediates_slots.specs.Immediates.{type_answer, slots_answer, MasksCovered}
+use Rattle.immediates_slots.specs.Immediates.{type_answer, slots_answer}
 
 -- an outcome behind a test that is accepted
 behind : (b : Bool) (o : Outcome) → pick b o (Refused 1 0 0 0) ≡ Accepted → o ≡ Accepted
@@ -117,8 +117,7 @@ pub answer_mask : (c : ℕ) (ts ms rows : List ℕ) (ty offset m p : ℕ) → sl
 unfolding slots_answer
 answer_mask c ts ms rows ty offset m p e = type_mask ts ms ty offset (arena_answer c ts ms rows) m p e
 
--- the masks that the call answers are set where a non-struct part of the type covers a slot, each by its own test
-pub call_slot : MasksCovered
-call_slot c ts ms rows ty offset first second e =
-    let walked = answer_mask c ts ms rows ty offset first second e in
-    (walk_slot (decoded ts ms) false ty offset first second walked, walk_slot (decoded ts ms) true ty offset first second walked)
+-- slot k of a mask that the call answers is set exactly where a non-struct part of the type covers it, by the mask's own test
+pub call_slot : (partly : Bool) (c : ℕ) (ts ms rows : List ℕ) (ty offset m p : ℕ) → slots_answer c ts ms rows ty offset ≡ answer.Slots m p → (k : ℕ) → k < slot_count
+    → (T (bit (mask_by partly m p) k) → CoveredBy partly (decoded ts ms) ty offset k) × (CoveredBy partly (decoded ts ms) ty offset k → T (bit (mask_by partly m p) k))
+call_slot partly c ts ms rows ty offset m p e k h = walk_slot (decoded ts ms) partly k h ty offset m p (answer_mask c ts ms rows ty offset m p e)

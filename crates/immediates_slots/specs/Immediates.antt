@@ -1,6 +1,6 @@
 -- 01, 'The slot word': what the call for the slots of a type answers, by the arena check (valid_arena: Arena) and the walk (immediates_walk: Walk).
 -- Assumes nothing.
-use Rattle.std.specs.Prelude.{◌≡◌, true, false, List, ℕ, ltb}
+use Rattle.std.specs.Prelude.{List, ℕ, ltb}
 use Rattle.ir_records.specs.Result.{pick}
 use Rattle.ir_records.specs.Record.{decoded, type_count}
 use Rattle.ir_records.specs.declared.Outcome.{Outcome}
@@ -9,7 +9,7 @@ use Rattle.valid_arena.specs.Arena.{arena_answer}
 use Rattle.immediates_ranges.specs.declared.SlotsAnswer.{SlotsAnswer}
 use Rattle.immediates_ranges.specs.declared.SlotsAnswer.TheVariants as answer
 use Rattle.immediates_ranges.specs.Slots.{part_answer}
-use Rattle.immediates_walk.specs.Walk.{SetWhereCovered, slots_at}
+use Rattle.immediates_walk.specs.Walk.{slots_at}
 
 -- the call: the arena's refusal is passed on; 26 for a type outside the arena; then 25. Both carry zeros only
 abbrev pub type_answer : (ts ms : List ℕ) (ty offset : ℕ) → Outcome → SlotsAnswer
@@ -20,10 +20,3 @@ type_answer ts ms ty offset (outcome.Refused number t member detail) = answer.Re
 -- the arena is judged first
 unfoldable pub slots_answer : (c : ℕ) (ts ms rows : List ℕ) (ty offset : ℕ) → SlotsAnswer
 slots_answer c ts ms rows ty offset = type_answer ts ms ty offset (arena_answer c ts ms rows)
-
--- 01's sentence of the call: the slots of the first mask are those that a non-struct part of the type covers; of the second, by 02's E2, those that
--- one covers only in part
-abbrev pub MasksCovered : Type 0
-MasksCovered =
-    (c : ℕ) (ts ms rows : List ℕ) (ty offset first second : ℕ) → slots_answer c ts ms rows ty offset ≡ answer.Slots first second
-    → SetWhereCovered false (decoded ts ms) ty offset first × SetWhereCovered true (decoded ts ms) ty offset second

@@ -1,4 +1,6 @@
 // The slots of a type of an arena: the arena check, then from_type of naga's valid/immediates.rs.
+#![tactic(auto)]
+
 ghost use Rattle.std.specs.Prelude.{◌≡◌};
 ghost use Rattle.valid_arena.specs.Arena.{arena_words};
 ghost use Rattle.immediates_slots.specs.Immediates.{slots_answer};

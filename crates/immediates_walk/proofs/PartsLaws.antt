@@ -24,10 +24,10 @@ use Rattle.valid_type_flags.specs.TypeFlags.{is_struct}
 use Rattle.valid_type_flags.proofs.KindLaws.{struct_by_kind}
 use Rattle.immediates_ranges.specs.declared.Slots.{Slots}
 use Rattle.immediates_ranges.specs.declared.Slots.TheVariants as slots
-use Rattle.immediates_ranges.specs.Slots.{join, range_slots}
+use Rattle.immediates_ranges.specs.Slots.{join}
 use Rattle.immediates_part.specs.declared.Part.{Part}
-use Rattle.immediates_part.specs.declared.Part.TheVariants.{Within, Past}
-use Rattle.immediates_part.specs.Part.{slots_in, nothing_at, range_part, join_parts, moved}
+use Rattle.immediates_part.specs.declared.Part.TheVariants.{Past}
+use Rattle.immediates_part.specs.Part.{slots_in, range_part, join_parts, moved}
 use Rattle.immediates_part.proofs.PartLaws.{join_past, join_slots, range-slots, nothing_slots, range_beyond, nothing_beyond, moved_join, moved_nothing, moved_range}
 use Rattle.immediates_walk.specs.Walk.{no_slots, slots_step, slots_of, slots_at, members_slots}
 use Rattle.immediates_walk.specs.Parts.{members_part, part_of, no_part, part_step, part_at}

@@ -22,10 +22,8 @@ use Rattle.proc_type_methods.specs.TypeMethods.{size_of}
 use Rattle.valid_type_flags.specs.TypeFlags.{is_struct}
 use Rattle.immediates_ranges.specs.declared.Slots.{Slots}
 use Rattle.immediates_ranges.specs.declared.Slots.TheVariants.{Mask, Past}
-use Rattle.immediates_ranges.specs.Slots.{range_slots, union, join}
-use Rattle.immediates_ranges.specs.Bytes.{slot_count}
-use Rattle.immediates_ranges.specs.Partly.{mask_by}
-use Rattle.immediates_walk.specs.Walk.{CoveredBy, by_whole, by_member, SetWhereCovered, no_slots, slots_step, slots_of, slots_at, members_slots}
+use Rattle.immediates_ranges.specs.Slots.{slot_count, mask_by, range_slots, union, join}
+use Rattle.immediates_walk.specs.Walk.{CoveredBy, by_whole, by_member, no_slots, slots_step, slots_of, slots_at, members_slots}
 use Rattle.immediates_ranges.proofs.RangeLaws.{or_left, or_right}
 use Rattle.immediates_ranges.proofs.SlotBits.{union_slot, empty_bit, mask_inj, partly_inj, range_slot}
 use Rattle.immediates_walk.proofs.WalkLaws.{earlier_slots, later_slots, slots_by_record}
@@ -190,6 +188,7 @@ module _ (types : ℕ → Decoded) where
         let before = earlier_mask ty (member_type (types ty).members j) (offset + member_offset (types ty).members j) every.m every.p every.own in
         every.slot (set c every.m every.p before.1)
 
-  -- slot k of a mask of a walk is set exactly where a non-struct part covers it, by the mask's own test
-  pub walk_slot : (partly : Bool) (ty offset m p : ℕ) → slots_at types ty offset ≡ Mask m p → SetWhereCovered partly types ty offset (mask_by partly m p)
-  walk_slot partly ty offset m p e k h = (covered partly k h (suc ty) ty offset m p (omega arith) e, λ c. set partly k h c m p e)
+    -- slot k of a mask of a walk is set exactly where a non-struct part covers it, by the mask's own test
+    pub walk_slot : (ty offset m p : ℕ) → slots_at types ty offset ≡ Mask m p
+        → (T (bit (mask_by partly m p) k) → CoveredBy partly types ty offset k) × (CoveredBy partly types ty offset k → T (bit (mask_by partly m p) k))
+    walk_slot ty offset m p e = (covered (suc ty) ty offset m p (omega arith) e, λ c. set c m p e)

@@ -4,6 +4,8 @@
 // Bound: the members of each struct are gone over at most four times, once for each remainder, since later visits find it
 // kept; the struct that is asked for stands in no other that is walked, so its members are gone over once. An arena of 1,024
 // types and 4,096 member rows takes 17 million member steps at the most.
+#![tactic(auto)]
+
 ghost use Rattle.std.specs.Prelude.{◌≡◌, List, ℕ, ◌+◌, ◌*◌, ◌≤◌, ◌<◌, length};
 ghost use Rattle.ir_records.specs.Record.{decoded, type_word, struct_kind, struct_members, member_type, member_offset};
 ghost use Rattle.ir_records.specs.Table.{table};
@@ -16,7 +18,7 @@ use immediates_part::Part;
 use immediates_ranges::Slots;
 
 // How many members of a struct have been taken, and their part.
-#[derive(Drop)]
+#[derive(Clone, Copy)]
 pub struct Taken {
     pub taken: u32,
     pub part: Part,

@@ -1,4 +1,6 @@
 // Answers its arguments, or the commands on standard input.
-fn main() {
-    program_command_line::run();
+#![tactic(auto)]
+
+fn main(rt: HostRuntime) {
+    program_command_line::run(&rt);
 }

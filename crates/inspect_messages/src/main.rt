@@ -1,16 +1,15 @@
 // What `inspect` says of its arguments, which are in `args`, and of the lines at which it stops.
+#![tactic(auto)]
+
 use program_commands::Session;
 
 fn stop_at(s: Session, line: &[u8]) {
     let mut arena = [0u32; 22528];
-    let mut rows = [0u32; 14336];
     let mut numbers = [0u32; 1025];
     let mut out = [0u8; 1114112];
     let read = program_lines::read_line(line, &mut numbers);
-    let answered = program_answers::answer(read, &numbers, s, &mut arena, &mut rows, 0, &mut out);
-    let session = answered.session;
-    let end = program_commands::put_end(session, answered.waiting, &mut out);
-    program_output::write_out(&out, end);
+    let stopped = program_commands::change(read, s, &mut arena);
+    program_commands::flushed(stopped, &mut out);
 }
 
 fn stop(line: &[u8]) {
@@ -71,8 +70,8 @@ fn full() {
     stop_at(s, b"member 0 0");
 }
 
-fn main() {
-    program_command_line::run();
+fn main(rt: HostRuntime) {
+    program_command_line::run(&rt);
     bytes();
     words();
     usage();

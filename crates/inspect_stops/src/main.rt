@@ -1,4 +1,6 @@
 // The session at a line that is longer than it may be: the line is not cut, and nothing after it is answered.
-fn main() {
-    program_session::run();
+#![tactic(auto)]
+
+fn main(rt: HostRuntime) {
+    program_session::run(&rt);
 }

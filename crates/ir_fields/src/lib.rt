@@ -1,4 +1,6 @@
 // Refusals 2 and 3: the sets that the fields of a type record lie in.
+#![tactic(auto)]
+
 ghost use Rattle.std.specs.Prelude.{◌≡◌, ◌&&◌, ℕ, ◌+◌, ◌*◌, ◌/◌, ◌≤◌, ◌<◌};
 ghost use Rattle.ir_records.specs.Record.{scalar_kind, vector_kind, matrix_kind, cooperative_matrix_kind, pointer_kind, value_pointer_kind, array_kind, struct_kind, image_kind, sampler_kind, acceleration_structure_kind, binding_array_kind};
 ghost use Rattle.ir_records.specs.Fields.{fields_ok, base_within, fields_at, record_at};

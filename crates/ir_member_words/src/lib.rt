@@ -1,11 +1,13 @@
 // Member records, and the words that they stand for.
+#![tactic(auto)]
+
 ghost use Rattle.std.specs.Prelude.{◌≡◌, ◌*◌, ◌≤◌, leb, length, take};
 ghost use Rattle.ir_records.specs.Result.{pick};
 ghost use Rattle.ir_records.specs.Record.{member_words};
 ghost use Rattle.ir_member_words.specs.Flat.{flat};
 
 // StructMember of naga's ir/mod.rs: a type, an offset, and the location and the blend source of its binding, each plus one, 0 for none.
-#[derive(Drop)]
+#[derive(Clone, Copy)]
 pub struct Member {
     pub ty: u32,
     pub offset: u32,

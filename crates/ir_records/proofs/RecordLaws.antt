@@ -1,19 +1,18 @@
 -- The member rows of a struct by cases; what number 2 leaves of a record: the bounds of its fields.
 -- Assumes nothing.
 use mathlib.Core.Path.{◌≡◌, refl, ap, ◌∙◌}
-use mathlib.Core.Bool.{Bool, true, false, ◌&&◌, ◌||◌}
+use mathlib.Core.Bool.{Bool, true, false, ◌&&◌}
 use mathlib.Core.List.{List, []}
 use Prim.Native.Nat.{ℕ, zero, suc, ◌+◌, ◌-◌, ◌*◌, ◌/◌, ◌%◌, ◌≤◌, ◌<◌}
 use native.Mathlib.Nat.{not-suc-le-zero}
 use native.Mathlib.Omega.{arith}
 use lib.Dec.{T, leb, ltb, eqb, leb→le, eqb→eq}
-use lib.ListN.{length, take, drop}
-use borrow.Author.Tests.{lt-ltb, le-leb, eq-eqb, ne_eqb}
-use Rattle.ir_records.specs.Result.{Result, ok, pick, require}
-use Rattle.ir_records.specs.Record.{type_words, type_word, type_count, member_count, member_words, struct_kind, struct_members, inner_of, type_inner}
-use Rattle.ir_records.specs.BlendSource.{member_location, member_source, located_to, sources_located}
-use Rattle.ir_records.specs.Fields.{most_types, most_members, row_words, tables_fit, scalar_ok, vector_size_ok, cooperative_size_ok, fields_ok, base_within, fields_at, record_at}
-use Rattle.ir_records.specs.Serving.{InnerBounds, Sourceless}
+use lib.ListN.{take, drop}
+use borrow.Author.Tests.{lt-ltb, le-leb, ne_eqb}
+use Rattle.ir_records.specs.Result.{ok, pick, require}
+use Rattle.ir_records.specs.Record.{type_words, type_word, type_count, member_count, member_words, member_location, member_source, Sourceless, struct_kind, struct_members, inner_of, type_inner}
+use Rattle.ir_records.specs.Fields.{most_types, most_members, row_words, tables_fit, scalar_ok, vector_size_ok, cooperative_size_ok, fields_ok, base_within, located_to, sources_located, fields_at, record_at}
+use Rattle.ir_records.specs.Serving.{InnerBounds}
 use Rattle.ir_records.specs.declared.TypeInner.{TypeInner}
 use Rattle.ir_records.proofs.ResultLaws.{required, true_T, and_left, and_right}
 

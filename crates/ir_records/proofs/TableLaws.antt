@@ -1,17 +1,16 @@
 -- Laws of tables made type by type, and of the first refusal.
 -- Assumes nothing.
 use mathlib.Core.Path.{◌≡◌, refl, sym, ◌∙◌, ap, subst, fun_ext}
-use mathlib.Core.Bool.{Bool, true, false}
-use mathlib.Core.List.{List, [], ◌++◌}
+use mathlib.Core.List.{List, ◌++◌}
 use Prim.Native.Nat.{ℕ, zero, suc, ◌+◌, ◌*◌, ◌≤◌, ◌<◌}
 use native.Mathlib.Nat.{not-suc-le-zero, zero-mul, suc-mul, mul-le-mul_right}
 use native.Mathlib.Decide.{ℕ_discrete, le_ind}
 use native.Mathlib.Omega.{arith}
-use lib.Dec.{T, eqb}
+use lib.Dec.{eqb}
 use lib.ListN.{length, get_or, length-append, get_or-append}
 use lib.Seq.{get_or-append-add}
 use borrow.Author.Tests.{eq-eqb, ne_eqb}
-use Rattle.ir_records.specs.Result.{Result, err, ok, pick, value_or}
+use Rattle.ir_records.specs.Result.{Result, err, ok, pick}
 use Rattle.ir_records.specs.Table.{table, result_at, value_at, outcome_at, also, first_refusal, flat}
 use Rattle.ir_records.specs.declared.Outcome.{Outcome}
 use Rattle.ir_records.specs.declared.Outcome.TheVariants.{Accepted, Refused}

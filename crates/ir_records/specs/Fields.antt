@@ -1,9 +1,8 @@
 -- 01, 'The refusal', numbers 1, 2 and 3: the lengths of the tables, and the sets that the fields of a record lie in.
 -- Assumes nothing.
-use Rattle.std.specs.Prelude.{Bool, not, false, ◌&&◌, ◌||◌, List, ℕ, ◌+◌, ◌*◌, ◌/◌, ◌%◌, eqb, leb, ltb, length}
+use Rattle.std.specs.Prelude.{Bool, not, true, false, ◌&&◌, ◌||◌, List, ℕ, zero, suc, ◌+◌, ◌*◌, ◌/◌, ◌%◌, eqb, leb, ltb, length}
 use Rattle.ir_records.specs.Result.{Result, ok, pick, require}
-use Rattle.ir_records.specs.Record.{type_words, type_count, type_word, member_words, member_count, struct_members, scalar_kind, vector_kind, matrix_kind, cooperative_matrix_kind, atomic_kind, pointer_kind, value_pointer_kind, array_kind, struct_kind, image_kind, sampler_kind, acceleration_structure_kind, ray_query_kind, binding_array_kind}
-use Rattle.ir_records.specs.BlendSource.{sources_located}
+use Rattle.ir_records.specs.Record.{type_words, type_count, type_word, member_words, member_count, member_location, member_source, struct_members, scalar_kind, vector_kind, matrix_kind, cooperative_matrix_kind, atomic_kind, pointer_kind, value_pointer_kind, array_kind, struct_kind, image_kind, sampler_kind, acceleration_structure_kind, ray_query_kind, binding_array_kind}
 
 -- ---- number 1
 abbrev pub most_types : ℕ
@@ -29,9 +28,27 @@ all_capabilities = 16383
 abbrev pub capabilities_known : ℕ → Bool
 capabilities_known c = leb c all_capabilities
 
--- ---- number 2: the sets. Scalar kinds 0 to 5, spaces 0 to 9, dims and classes 0 to 3, roles 0 to 2; width 0 to 255
+-- ---- number 2: the sets, by name
+abbrev pub most_scalar_kind : ℕ
+most_scalar_kind = 5
+
+abbrev pub most_width : ℕ
+most_width = 255
+
+abbrev pub most_space : ℕ
+most_space = 9
+
+abbrev pub most_dim : ℕ
+most_dim = 3
+
+abbrev pub most_class : ℕ
+most_class = 3
+
+abbrev pub most_role : ℕ
+most_role = 2
+
 abbrev pub scalar_ok : (kind width : ℕ) → Bool
-scalar_ok kind width = leb kind 5 && leb width 255
+scalar_ok kind width = leb kind most_scalar_kind && leb width most_width
 
 abbrev pub vector_size_ok : ℕ → Bool
 vector_size_ok n = leb 2 n && leb n 4
@@ -40,7 +57,7 @@ abbrev pub cooperative_size_ok : ℕ → Bool
 cooperative_size_ok n = eqb n 8 || eqb n 16
 
 abbrev pub space_ok : ℕ → Bool
-space_ok space = leb space 9
+space_ok space = leb space most_space
 
 -- form 0 is constant, count at least 1; form 1 is dynamic, count 0
 abbrev pub array_size_ok : (form count : ℕ) → Bool
@@ -59,13 +76,13 @@ fields_ok rows kind a b c d e =
     pick (eqb kind scalar_kind) (scalar_ok a b && eqb c 0 && eqb d 0 && eqb e 0)
     (pick (eqb kind vector_kind) (vector_size_ok a && scalar_ok b c && eqb d 0 && eqb e 0)
     (pick (eqb kind matrix_kind) (vector_size_ok a && vector_size_ok b && scalar_ok c d && eqb e 0)
-    (pick (eqb kind cooperative_matrix_kind) (cooperative_size_ok a && cooperative_size_ok b && scalar_ok c d && leb e 2)
+    (pick (eqb kind cooperative_matrix_kind) (cooperative_size_ok a && cooperative_size_ok b && scalar_ok c d && leb e most_role)
     (pick (eqb kind atomic_kind) (scalar_ok a b && eqb c 0 && eqb d 0 && eqb e 0)
     (pick (eqb kind pointer_kind) (space_ok b && eqb c 0 && eqb d 0 && eqb e 0)
     (pick (eqb kind value_pointer_kind) (scalar_ok a b && space_ok c && eqb d 0 && eqb e 0)
     (pick (eqb kind array_kind) (array_size_ok b c && eqb e 0)
     (pick (eqb kind struct_kind) (members_within rows a b && eqb d 0 && eqb e 0)
-    (pick (eqb kind image_kind) (leb a 3 && flag_ok b && leb c 3 && eqb d 0 && eqb e 0)
+    (pick (eqb kind image_kind) (leb a most_dim && flag_ok b && leb c most_class && eqb d 0 && eqb e 0)
     (pick (eqb kind sampler_kind) (eqb a 0 && eqb b 0 && eqb c 0 && eqb d 0 && eqb e 0)
     (pick (eqb kind acceleration_structure_kind) (flag_ok a && eqb b 0 && eqb c 0 && eqb d 0 && eqb e 0)
     (pick (eqb kind ray_query_kind) (flag_ok a && eqb b 0 && eqb c 0 && eqb d 0 && eqb e 0)
@@ -75,6 +92,15 @@ fields_ok rows kind a b c d e =
 -- ---- number 3: the base of a pointer or a binding array is a type of the arena
 abbrev pub base_within : (types kind base : ℕ) → Bool
 base_within types kind base = not (eqb kind pointer_kind || eqb kind binding_array_kind) || ltb base types
+
+-- ---- number 2 of a struct's own rows: a blend source requires a location
+-- among the first j rows of a part
+unfoldable pub located_to : (part : List ℕ) → ℕ → Bool
+located_to part zero = true
+located_to part (suc j) = pick (ltb 0 (member_source part j) && eqb (member_location part j) 0) false (located_to part j)
+
+abbrev pub sources_located : (part : List ℕ) → Bool
+sources_located part = located_to part (member_count part)
 
 -- ---- numbers 2 and 3 of record i, 2 first
 -- by its fields

@@ -1,6 +1,6 @@
 -- 01, 'The type record' and 'The member record': the records in the caller's flat tables of words, and what each one says.
 -- Assumes nothing.
-use Rattle.std.specs.Prelude.{Bool, ◌&&◌, List, [], ℕ, ◌+◌, ◌*◌, ◌/◌, eqb, leb, ltb, length, get_or, take, drop}
+use Rattle.std.specs.Prelude.{Bool, ◌&&◌, List, [], ◌≡◌, ℕ, ◌+◌, ◌*◌, ◌/◌, ◌<◌, eqb, leb, ltb, length, get_or, take, drop}
 use Rattle.ir_records.specs.Result.{pick}
 use Rattle.ir_records.specs.declared.Words.{Words}
 use Rattle.ir_records.specs.declared.Leaf.{Leaf}
@@ -79,6 +79,17 @@ member_type part j = get_or part (j * member_words) 0
 
 abbrev pub member_offset : List ℕ → ℕ → ℕ
 member_offset part j = get_or part (j * member_words + 1) 0
+
+-- plus one, 0 for none
+abbrev pub member_location : List ℕ → ℕ → ℕ
+member_location part j = get_or part (j * member_words + 2) 0
+
+abbrev pub member_source : List ℕ → ℕ → ℕ
+member_source part j = get_or part (j * member_words + 3) 0
+
+-- none of the first n rows has a blend source
+abbrev pub Sourceless : (part : List ℕ) → ℕ → Type 0
+Sourceless part n = (j : ℕ) → j < n → member_source part j ≡ 0
 
 -- ---- what a record says, by its kind and the five words after it.
 -- Plain: data that is neither array nor struct (01's leaf). Other: what is no data.

@@ -1,9 +1,8 @@
 -- Serves the contracts of functions inside the library: it adds nothing to what the other files say, and a reader may skip it.
 -- Assumes nothing.
-use Rattle.std.specs.Prelude.{List, ◌≡◌, ℕ, ◌≤◌, ◌<◌, T}
+use Rattle.std.specs.Prelude.{List, ℕ, ◌≤◌, T}
 use Rattle.ir_records.specs.declared.Words.{Words}
 use Rattle.ir_records.specs.Record.{type_word}
-use Rattle.ir_records.specs.BlendSource.{member_source}
 use Rattle.ir_records.specs.declared.Leaf.{Leaf}
 use Rattle.ir_records.specs.declared.Leaf.TheVariants.{Scalar, Vector, Matrix, CooperativeMatrix, Atomic, RayQuery}
 use Rattle.ir_records.specs.declared.TypeInner.{TypeInner}
@@ -37,7 +36,3 @@ InnerBounds (Array base count stride) = Unit {0}
 InnerBounds (RuntimeArray base stride) = Unit {0}
 InnerBounds (Struct count span) = Unit {0}
 InnerBounds (Other o) = Unit {0}
-
--- none of the first n rows has a blend source
-abbrev pub Sourceless : (part : List ℕ) → ℕ → Type 0
-Sourceless part n = (j : ℕ) → j < n → member_source part j ≡ 0

@@ -1,12 +1,13 @@
 // The type and member records of naga's ir/mod.rs, as words in the caller's tables, and refusal 1.
+#![tactic(auto)]
+
 ghost use Rattle.std.specs.Prelude.{◌≡◌, ◌&&◌, ℕ, ◌+◌, ◌*◌, ◌/◌, ◌≤◌, ◌<◌, length, get_or, take, drop};
-ghost use Rattle.ir_records.specs.Record.{type_word, type_count, member_words, member_count, member_type, member_offset, inner_of, type_inner, struct_members};
-ghost use Rattle.ir_records.specs.BlendSource.{member_location, member_source, sources_located};
+ghost use Rattle.ir_records.specs.Record.{type_word, type_count, member_words, member_count, member_type, member_offset, member_location, member_source, inner_of, type_inner, struct_members};
 ghost use Rattle.ir_records.specs.Serving.{record_words};
-ghost use Rattle.ir_records.specs.Fields.{tables_fit, capabilities_known};
+ghost use Rattle.ir_records.specs.Fields.{tables_fit, capabilities_known, sources_located};
 
 // Data that is neither array nor struct: 01's leaves.
-#[derive(Drop)]
+#[derive(Clone, Copy)]
 pub enum Leaf {
     Scalar(u32, u32),
     Vector(u32, u32, u32),
@@ -17,7 +18,7 @@ pub enum Leaf {
 }
 
 // What is no data.
-#[derive(Drop)]
+#[derive(Clone, Copy)]
 pub enum NonData {
     Pointer(u32, u32),
     ValuePointer(u32, u32, u32),
@@ -28,7 +29,7 @@ pub enum NonData {
 }
 
 // What a type record says. The member rows of a struct are asked for by struct_members.
-#[derive(Drop)]
+#[derive(Clone, Copy)]
 pub enum TypeInner {
     Plain(Leaf),
     Array { base: u32, count: u32, stride: u32 },
@@ -38,7 +39,7 @@ pub enum TypeInner {
 }
 
 // The kind of a record and the five words after it.
-#[derive(Drop)]
+#[derive(Clone, Copy)]
 pub struct Words {
     pub kind: u32,
     pub a: u32,
@@ -49,7 +50,7 @@ pub struct Words {
 }
 
 // The answer of an arena call: number, type, member and detail of the first refusal.
-#[derive(Drop)]
+#[derive(Clone, Copy)]
 pub enum Outcome {
     Accepted,
     Refused {

@@ -1,4 +1,6 @@
 // The lent result rows: fourteen words a type.
+#![tactic(auto)]
+
 ghost use Rattle.std.specs.Prelude.{◌≡◌, ◌+◌, ◌*◌, ◌≤◌, ◌<◌, length};
 ghost use Rattle.ir_rows.specs.Rows.{row_word, layout_row, cleared};
 ghost use Rattle.ir_rows.specs.Serving.{with_row};

@@ -1,16 +1,16 @@
 -- What the code of the call needs: bounds from the room, positive alignments from the arena check, offsets and span within 32 bits from the order found.
 -- Assumes nothing.
-use mathlib.Core.Path.{◌≡◌, refl, sym, ap, ◌∙◌}
+use mathlib.Core.Path.{◌≡◌, refl, ap}
 use mathlib.Core.Bool.{Bool, true, false, ◌&&◌}
 use mathlib.Core.List.{List}
-use Prim.Native.Nat.{ℕ, ◌+◌, ◌*◌, ◌/◌, ◌≤◌, ◌<◌}
+use Prim.Native.Nat.{ℕ, ◌+◌, ◌*◌, ◌≤◌, ◌<◌}
 use native.Mathlib.Nat.{le_trans}
 use native.Mathlib.Omega.{arith}
 use lib.Dec.{leb}
 use lib.ListN.{length, get_or, take}
 use lib.Seq.{length-take-le}
 use borrow.Author.Tests.{leb-true, eq-eqb, ne_eqb}
-use Rattle.ir_records.specs.Record.{decoded, type_count, type_words}
+use Rattle.ir_records.specs.Record.{type_count, type_words}
 use Rattle.ir_records.specs.Fields.{most_types, most_members, row_words}
 use Rattle.ir_records.specs.declared.Outcome.TheVariants.{Accepted}
 use Rattle.ir_rows.specs.Rows.{row_word}
@@ -20,7 +20,7 @@ use Rattle.valid_type_info.specs.declared.UniformRule.{UniformRule}
 use Rattle.valid_arena.specs.Arena.{arena_answer, arena_words}
 use Rattle.valid_arena.proofs.WordLaws.{row_left}
 use Rattle.valid_arena.proofs.ArenaLaws.{arena_alignment_power}
-use Rattle.valid_type_info.specs.Serving.{rows_in}
+use Rattle.valid_type_info.specs.TypeInfo.{rows_in}
 use Rattle.valid_type_info.specs.declared.Row.{Row}
 use Rattle.place_lookup.proofs.LookupLaws.{answer_accepted}
 use Rattle.order_numbers.specs.declared.Found.{Found}

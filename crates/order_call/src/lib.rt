@@ -1,5 +1,7 @@
 // An order that fits: of one to seven types of an arena, the first order as members of a struct that has at most a wanted span; the struct stands
 // behind the types and member rows in use.
+#![tactic(auto)]
+
 ghost use Rattle.std.specs.Prelude.{◌≡◌, ℕ, ◌+◌, ◌*◌, ◌≤◌, ◌<◌, length};
 ghost use Rattle.ir_rows.specs.Rows.{row_word};
 ghost use Rattle.proc_alignment.specs.Alignment.{most};
@@ -14,7 +16,7 @@ use order_numbers::Found;
 use valid_type_info::UniformRule;
 
 // The struct's type number, its span and the order, whose places order_numbers::member_at tells; or a refusal.
-#[derive(Drop)]
+#[derive(Clone, Copy)]
 pub enum OrderAnswer {
     Found {
         ty: u32,
@@ -100,14 +102,10 @@ fn with_order(
     requires wanted_in_bounds { (m + length wanted.now) * 4 ≤ length members.old }
     requires by_index { (j : ℕ) → j < length wanted.now → offset_of rows.old wanted.now (member_at (length wanted.now) order) j ≤ most }
     requires span_value { span ≡ span_of rows.old wanted.now (length wanted.now) (member_at (length wanted.now) order) }
-    ensures value { result
-        ≡ (with_order rule capabilities types.old n members.old m rows.old wanted.now (found.At order)).answer }
-    ensures types_after { types.new
-        ≡ (with_order rule capabilities types.old n members.old m rows.old wanted.now (found.At order)).types }
-    ensures members_after { members.new
-        ≡ (with_order rule capabilities types.old n members.old m rows.old wanted.now (found.At order)).members }
-    ensures rows_after { rows.new
-        ≡ (with_order rule capabilities types.old n members.old m rows.old wanted.now (found.At order)).rows }
+    ensures value { result ≡ (with_order rule capabilities types.old n members.old m rows.old wanted.now (found.At order)).answer }
+    ensures types_after { types.new ≡ (with_order rule capabilities types.old n members.old m rows.old wanted.now (found.At order)).types }
+    ensures members_after { members.new ≡ (with_order rule capabilities types.old n members.old m rows.old wanted.now (found.At order)).members }
+    ensures rows_after { rows.new ≡ (with_order rule capabilities types.old n members.old m rows.old wanted.now (found.At order)).rows }
 {
     let k = wanted.len() as u32;
     let outcome = order_check::tried(
@@ -144,12 +142,9 @@ fn choose(
     requires wanted_in_bounds { (m + length wanted.now) * 4 ≤ length members.old }
     requires by_index { (t : ℕ) → t < n → 1 ≤ row_word rows.old t 1 }
     ensures value { result ≡ (chosen rule capabilities types.old n members.old m rows.old wanted.now span).answer }
-    ensures types_after { types.new
-        ≡ (chosen rule capabilities types.old n members.old m rows.old wanted.now span).types }
-    ensures members_after { members.new
-        ≡ (chosen rule capabilities types.old n members.old m rows.old wanted.now span).members }
-    ensures rows_after { rows.new
-        ≡ (chosen rule capabilities types.old n members.old m rows.old wanted.now span).rows }
+    ensures types_after { types.new ≡ (chosen rule capabilities types.old n members.old m rows.old wanted.now span).types }
+    ensures members_after { members.new ≡ (chosen rule capabilities types.old n members.old m rows.old wanted.now span).members }
+    ensures rows_after { rows.new ≡ (chosen rule capabilities types.old n members.old m rows.old wanted.now span).rows }
 {
     if wanted.len() == 0 {
         return refused(16);
@@ -193,12 +188,9 @@ pub fn order(
     span: u32,
 ) -> OrderAnswer
     ensures value { result ≡ (ordered rule capabilities types.old n members.old m rows.old wanted.now span).answer }
-    ensures types_after { types.new
-        ≡ (ordered rule capabilities types.old n members.old m rows.old wanted.now span).types }
-    ensures members_after { members.new
-        ≡ (ordered rule capabilities types.old n members.old m rows.old wanted.now span).members }
-    ensures rows_after { rows.new
-        ≡ (ordered rule capabilities types.old n members.old m rows.old wanted.now span).rows }
+    ensures types_after { types.new ≡ (ordered rule capabilities types.old n members.old m rows.old wanted.now span).types }
+    ensures members_after { members.new ≡ (ordered rule capabilities types.old n members.old m rows.old wanted.now span).members }
+    ensures rows_after { rows.new ≡ (ordered rule capabilities types.old n members.old m rows.old wanted.now span).rows }
 {
     if !has_room(types.len(), members.len(), rows.len(), n, m, wanted.len()) {
         return refused(1);

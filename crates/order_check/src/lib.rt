@@ -1,4 +1,6 @@
 // The arena with the struct of an order behind it, checked: on a refusal the words of both tables are put back.
+#![tactic(auto)]
+
 ghost use Rattle.std.specs.Prelude.{◌≡◌, ℕ, ◌+◌, ◌*◌, ◌≤◌, ◌<◌, length, take};
 ghost use Rattle.ir_rows.specs.Rows.{with_part};
 ghost use Rattle.proc_alignment.specs.Alignment.{most};
@@ -48,16 +50,10 @@ pub fn tried(
     requires k_bound_2 { m + k ≤ 4096 }
     requires k_in_bounds { (m + k) * 4 ≤ length members.old }
     requires by_index { (j : ℕ) → j < k → offset_of rows.old wanted.now (member_at k order) j ≤ most }
-    ensures value { result
-        ≡ arena_answer capabilities (types_with types.old n (struct_record m k span))
-        (members_with members.old m (member_rows rows.old wanted.now k (member_at k order))) rows.old }
+    ensures value { result ≡ arena_answer capabilities (types_with types.old n (struct_record m k span)) (members_with members.old m (member_rows rows.old wanted.now k (member_at k order))) rows.old }
     ensures types_after { types.new ≡ if_accepted result (with_part 6 types.old (n * 6) (struct_record m k span)) types.old }
-    ensures members_after { members.new
-        ≡ if_accepted result (with_part (k * 4) members.old (m * 4) (member_rows rows.old wanted.now k (member_at k order)))
-        members.old }
-    ensures rows_after { rows.new
-        ≡ arena_words rule capabilities (types_with types.old n (struct_record m k span))
-        (members_with members.old m (member_rows rows.old wanted.now k (member_at k order))) rows.old }
+    ensures members_after { members.new ≡ if_accepted result (with_part (k * 4) members.old (m * 4) (member_rows rows.old wanted.now k (member_at k order))) members.old }
+    ensures rows_after { rows.new ≡ arena_words rule capabilities (types_with types.old n (struct_record m k span)) (members_with members.old m (member_rows rows.old wanted.now k (member_at k order))) rows.old }
 {
     let t = (n as usize) * ir_records::TYPE_WORDS;
     let u = (m as usize) * ir_records::MEMBER_WORDS;

@@ -7,7 +7,6 @@ use native.Mathlib.Decide.{ℕ_discrete, dec_le}
 use native.Mathlib.Omega.{arith}
 use native.Mathlib.Numerals.{add-one}
 use Rattle.ir_records.specs.Result.{pick}
-use Rattle.order_numbers.specs.declared.Found.{Found}
 use Rattle.order_numbers.specs.declared.Found.TheVariants.{At, Nothing}
 use Rattle.order_numbers.specs.Search.{first_from}
 

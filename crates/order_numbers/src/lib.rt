@@ -1,11 +1,13 @@
 // Orders of up to seven members, carried as numbers: the digits to base 7 are the member numbers, the first place's the highest. So of two orders
 // the first by member numbers is the lesser.
+#![tactic(auto)]
+
 ghost use Rattle.std.specs.Prelude.{◌≡◌, ◌+◌, ◌^◌, ◌≤◌, ◌<◌};
 ghost use Rattle.order_numbers.specs.Search.{first_from};
 ghost use Rattle.order_numbers.specs.Order.{member_at, bad_place, stays_last, after_place, next_try};
 
 // What a search answers.
-#[derive(Drop)]
+#[derive(Clone, Copy)]
 pub enum Found {
     At(u32),
     Nothing,

@@ -1,15 +1,15 @@
 -- Laws of placement: orders that hold the same members measure the same, and no offset is past the span where alignments are positive.
 -- Assumes nothing.
-use mathlib.Core.Path.{◌≡◌, refl, sym, ap, ◌∙◌}
+use mathlib.Core.Path.{◌≡◌, refl, ap}
 use mathlib.Core.List.{List}
-use Prim.Native.Nat.{ℕ, zero, suc, ◌+◌, ◌≤◌, ◌<◌, max}
+use Prim.Native.Nat.{ℕ, zero, suc, ◌≤◌, ◌<◌}
 use native.Mathlib.Nat.{le_refl, le_trans}
 use native.Mathlib.Decide.{ℕ_discrete}
 use native.Mathlib.Omega.{arith}
-use Rattle.proc_alignment.specs.RoundUp.{round_up}
+use Rattle.proc_alignment.specs.Alignment.{round_up}
 use Rattle.proc_alignment.proofs.RoundLaws.{round_up_next}
 use Rattle.order_numbers.specs.Order.{Same}
-use Rattle.order_placement.specs.Placement.{size_of, align_of, end_after, offset_of, align_of_struct, span_of}
+use Rattle.order_placement.specs.Placement.{align_of, end_after, offset_of, align_of_struct, span_of}
 
 module _ (rows wanted : List ℕ) where
   -- ---- the same members

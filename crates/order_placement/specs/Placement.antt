@@ -3,7 +3,7 @@
 -- Assumes nothing.
 use Rattle.std.specs.Prelude.{List, ℕ, zero, suc, ◌+◌, max, get_or}
 use Rattle.ir_rows.specs.Rows.{row_word}
-use Rattle.proc_alignment.specs.RoundUp.{round_up}
+use Rattle.proc_alignment.specs.Alignment.{round_up}
 
 module _ (rows wanted : List ℕ) where
   -- the layout of the given type m

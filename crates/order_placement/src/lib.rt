@@ -1,4 +1,6 @@
 // The WGSL placement of members in an order, by the layout's sizes and alignments. Sums are wider than 32 bits, so that none wraps.
+#![tactic(auto)]
+
 ghost use Rattle.std.specs.Prelude.{◌≡◌, ◌≤◌, ◌<◌};
 ghost use Rattle.order_numbers.specs.Order.{member_at};
 ghost use Rattle.order_placement.specs.Placement.{size_of, align_of, end_after, offset_of, align_of_struct, span_of};

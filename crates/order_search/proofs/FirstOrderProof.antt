@@ -1,20 +1,17 @@
 -- The theorem: the first order that fits.
 -- Assumes nothing.
-use mathlib.Core.Path.{◌≡◌, refl, sym, ap, ◌∙◌}
+use mathlib.Core.Path.{◌≡◌, sym, ap, ◌∙◌}
 use mathlib.Core.Bool.{true, false}
 use mathlib.Core.List.{List}
-use mathlib.Core.Logic.{◌⊎◌, inl, inr}
-use Prim.Native.Nat.{ℕ, ◌+◌, ◌^◌, ◌≤◌, ◌<◌}
-use native.Mathlib.Nat.{le_trans}
+use mathlib.Core.Logic.{inl, inr}
+use Prim.Native.Nat.{ℕ, ◌^◌, ◌≤◌, ◌<◌}
 use native.Mathlib.Decide.{ℕ_discrete, dec_le}
 use native.Mathlib.Omega.{arith}
-use Rattle.order_numbers.specs.declared.Found.TheVariants.{At, Nothing}
-use Rattle.order_numbers.specs.Order.{Order, StaysLast, Same, Before, AtOrBefore, member_at}
+use Rattle.order_numbers.specs.Order.{Same, AtOrBefore, member_at}
 use Rattle.order_numbers.proofs.SearchLaws.{first_least, first_none}
 use Rattle.order_numbers.proofs.NumberLaws.{number_of, number_below, number_digit, number_before}
-use Rattle.order_placement.specs.Placement.{span_of}
 use Rattle.order_placement.proofs.PlacementLaws.{span_same}
-use Rattle.order_search.specs.Fitting.{fits, number_fits, first_order}
+use Rattle.order_search.specs.Fitting.{number_fits, first_order}
 use Rattle.order_search.specs.FirstOrder.{Fits, FirstOrder}
 use Rattle.order_search.proofs.FittingLaws.{fits_is, is_fits}
 

@@ -1,4 +1,6 @@
 // The first order of up to seven members, by member numbers, whose placement has at most a wanted span.
+#![tactic(auto)]
+
 ghost use Rattle.std.specs.Prelude.{◌≡◌, ◌&&◌, ◌≤◌, eqb, leb};
 ghost use Rattle.order_numbers.specs.Order.{member_at, stays_last};
 ghost use Rattle.order_placement.specs.Placement.{span_of};
@@ -18,8 +20,7 @@ fn order_fits(
 ) -> bool
     requires le_n { 1 ≤ n }
     requires n_bound { n ≤ 7 }
-    ensures { result
-        ≡ (eqb next order && stays_last n last (member_at n order) && leb (span_of rows.now wanted.now n (member_at n order)) span) }
+    ensures { result ≡ (eqb next order && stays_last n last (member_at n order) && leb (span_of rows.now wanted.now n (member_at n order)) span) }
 {
     if next != order {
         return false;

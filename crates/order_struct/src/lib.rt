@@ -1,4 +1,6 @@
 // The struct of an order, written behind the records in use; and words that are kept and put back.
+#![tactic(auto)]
+
 ghost use Rattle.std.specs.Prelude.{◌≡◌, ℕ, ◌+◌, ◌*◌, ◌≤◌, ◌<◌, length};
 ghost use Rattle.std.proofs.Math.Seq.{paste};
 ghost use Rattle.ir_rows.specs.Rows.{with_part};
@@ -29,8 +31,7 @@ fn put_row(members: &mut [u32], m: u32, rows: &[u32], wanted: &[u32], k: u32, or
     requires k_bound_2 { m + k ≤ 4096 }
     requires k_in_bounds { (m + k) * 4 ≤ length members.old }
     requires j_bound { offset_of rows.now wanted.now (member_at k order) j ≤ most }
-    ensures { members.new
-        ≡ with_part 4 members.old ((m + j) * 4) (member_row rows.now wanted.now (member_at k order) j) }
+    ensures { members.new ≡ with_part 4 members.old ((m + j) * 4) (member_row rows.now wanted.now (member_at k order) j) }
 {
     let member = order_numbers::member_at(order, k, j);
     let ty = ir_records::word_at(wanted, member as usize);
@@ -44,8 +45,7 @@ fn put_rows(members: &mut [u32], m: u32, rows: &[u32], wanted: &[u32], k: u32, o
     requires k_bound_2 { m + k ≤ 4096 }
     requires k_in_bounds { (m + k) * 4 ≤ length members.old }
     requires by_index { (j : ℕ) → j < k → offset_of rows.now wanted.now (member_at k order) j ≤ most }
-    ensures { members.new
-        ≡ with_part (k * 4) members.old (m * 4) (member_rows rows.now wanted.now k (member_at k order)) }
+    ensures { members.new ≡ with_part (k * 4) members.old (m * 4) (member_rows rows.now wanted.now k (member_at k order)) }
 {
     let mut j: u32 = 0;
     while j < k {
@@ -72,8 +72,7 @@ pub fn put_struct(
     requires k_in_bounds { (m + k) * 4 ≤ length members.old }
     requires by_index { (j : ℕ) → j < k → offset_of rows.now wanted.now (member_at k order) j ≤ most }
     ensures types_after { types.new ≡ with_part 6 types.old (n * 6) (struct_record m k span) }
-    ensures members_after { members.new
-        ≡ with_part (k * 4) members.old (m * 4) (member_rows rows.now wanted.now k (member_at k order)) }
+    ensures members_after { members.new ≡ with_part (k * 4) members.old (m * 4) (member_rows rows.now wanted.now k (member_at k order)) }
 {
     let words = Words {
         kind: ir_records::STRUCT_KIND,

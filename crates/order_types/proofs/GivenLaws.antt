@@ -1,10 +1,9 @@
 -- Laws of the given types: where the first of a sort stands, and that none is outside the arena where nothing is refused.
 -- Assumes nothing.
-use mathlib.Core.Path.{◌≡◌, refl, sym, ap, ◌∙◌}
+use mathlib.Core.Path.{◌≡◌, refl}
 use mathlib.Core.Bool.{Bool, true, false, ◌||◌}
 use mathlib.Core.List.{List}
-use Prim.Native.Nat.{ℕ, ◌+◌, ◌-◌, ◌≤◌, ◌<◌}
-use native.Mathlib.Nat.{sub-zero}
+use Prim.Native.Nat.{ℕ, ◌-◌, ◌<◌}
 use native.Mathlib.Omega.{arith}
 use lib.Dec.{leb}
 use lib.ListN.{length, get_or}
@@ -12,7 +11,7 @@ use borrow.Author.Tests.{leb-false}
 use Rattle.ir_records.specs.Result.{pick}
 use Rattle.order_numbers.specs.declared.Found.{Found}
 use Rattle.order_numbers.specs.declared.Found.TheVariants.{At, Nothing}
-use Rattle.order_numbers.specs.Search.{first_from, is_found}
+use Rattle.order_numbers.specs.Search.{is_found}
 use Rattle.order_numbers.proofs.SearchLaws.{first_least, first_none}
 use Rattle.order_types.specs.Given.{outside, no_data, unsized_struct, runtime_array, sort_of, is_sort, first_of, is_second, number_of}
 

@@ -1,4 +1,6 @@
 // What is asked of the types given for an order: of the arena, data, no unsized struct, one runtime array at most.
+#![tactic(auto)]
+
 ghost use Rattle.std.specs.Prelude.{◌≡◌, ◌≤◌, length};
 ghost use Rattle.order_numbers.specs.Search.{is_found};
 ghost use Rattle.order_types.specs.Given.{sort_of, first_of, is_second, number_of, last_of};
@@ -67,9 +69,7 @@ fn is_found(found: Found) -> bool
 // Another runtime array after the first.
 fn is_second(types: &[u32], rows: &[u32], n: u32, wanted: &[u32]) -> bool
     requires { length wanted.now ≤ 7 }
-    ensures { result
-        ≡ is_second types.now rows.now n wanted.now
-        (first_of types.now rows.now n wanted.now 1 0) }
+    ensures { result ≡ is_second types.now rows.now n wanted.now (first_of types.now rows.now n wanted.now 1 0) }
 {
     match first_of(types, rows, n, wanted, RUNTIME_ARRAY, 0) {
         Found::At(j) => is_found(first_of(types, rows, n, wanted, RUNTIME_ARRAY, j + 1)),

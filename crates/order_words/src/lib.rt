@@ -1,4 +1,6 @@
 // The answer for an order as words.
+#![tactic(auto)]
+
 ghost use Rattle.std.specs.Prelude.{◌≡◌};
 ghost use Rattle.order_words.specs.Words.{order_outcome, place_word, found_words, with_found};
 

@@ -18,8 +18,7 @@ use Rattle.ir_records.specs.declared.TypeInner.{TypeInner}
 use Rattle.ir_records.specs.declared.TypeInner.TheVariants.{Plain, Array, RuntimeArray, Struct, Other}
 use Rattle.ir_records.proofs.ResultLaws.{T_true}
 use Rattle.ir_records.proofs.TableLaws.{table_value}
-use Rattle.proc_type_methods.specs.TypeMethods.{leaf_size}
-use Rattle.proc_type_methods.specs.Columns.{leaf_column_step}
+use Rattle.proc_type_methods.specs.TypeMethods.{leaf_size, leaf_column_step}
 use Rattle.valid_type_info.specs.declared.UniformRule.{UniformRule}
 use Rattle.valid_type_info.specs.Verdict.{least_for}
 use Rattle.valid_arena.specs.Arena.{row}

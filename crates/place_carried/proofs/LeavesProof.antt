@@ -7,8 +7,8 @@ use native.Mathlib.Omega.{arith}
 use Rattle.ir_records.specs.Record.{Decoded, decoded, type_count}
 use Rattle.proc_type_methods.specs.TypeMethods.{size_of}
 use Rattle.valid_arena.proofs.ArenaLaws.{accepted_types}
-use Rattle.place_descent.proofs.WalkLaws.{place_of_way, place_started}
-use Rattle.place_term3.proofs.Term3Proof.{way_to}
+use Rattle.place_descent.specs.Place.{step_in, leaf_in}
+use Rattle.place_descent.proofs.WalkLaws.{way, place_of_way, place_found, place_started}
 use Rattle.place_carried.specs.Carried.{in_leaf, carried, wasted}
 use Rattle.place_carried.specs.Leaves.{CarriedAndWasted}
 use Rattle.place_carried.proofs.CountLaws.{count_not}
@@ -28,16 +28,20 @@ carried_and_wasted =
           record {
             in_leaf =
                 record {
-                  leaf = record { steps = h.steps; byte = h.byte; ty = h.leaf; place = place_of_way ts ms t l h.way };
-                  has = (omega (arith, h.from), omega (arith, h.below));
+                  steps = h.steps;
+                  byte = h.byte;
+                  leaf = h.leaf;
+                  place = place_of_way ts ms t l h.way;
+                  from = omega (arith, h.from);
+                  below = omega (arith, h.below);
                 };
             firsts = h.firsts;
           };
       every_leaf = λ rule c ts ms a t k i.
-          let p = i.in_leaf.leaf in
+          let p = i.in_leaf in
+          let w = way (step_in (decoded ts ms)) (leaf_in (decoded ts ms)) p.steps t 0 p.byte p.leaf (place_found ts ms t p.steps p.byte p.leaf p.place) in
           rw sub-zero at
-          (has rule c (decoded ts ms) (type_count ts) (accepted_types c ts ms a) (way_to ts ms t p) (place_started ts ms t p.steps p.byte p.ty p.place)
-          i.firsts k i.in_leaf.has.0 i.in_leaf.has.1);
+          (has rule c (decoded ts ms) (type_count ts) (accepted_types c ts ms a) w (place_started ts ms t p.steps p.byte p.leaf p.place) i.firsts k p.from p.below);
       wide = λ rule c ts ms a t l e. strides_wide rule c (decoded ts ms) (type_count ts) (accepted_types c ts ms a) t l e;
       not_wide = λ rule c ts ms a t l e. strides_narrow rule c (decoded ts ms) (type_count ts) (accepted_types c ts ms a) t l e;
     }

@@ -17,8 +17,7 @@ use Rattle.ir_records.specs.declared.NonData.{NonData}
 use Rattle.ir_records.specs.declared.TypeInner.{TypeInner}
 use Rattle.ir_records.specs.declared.TypeInner.TheVariants.{Plain, Array, RuntimeArray, Struct, Other}
 use Rattle.ir_records.proofs.ResultLaws.{ok_inj}
-use Rattle.proc_type_methods.specs.TypeMethods.{leaf_size, size_of, try_size}
-use Rattle.proc_type_methods.specs.Columns.{leaf_column_step}
+use Rattle.proc_type_methods.specs.TypeMethods.{leaf_size, leaf_column_step, size_of, try_size}
 use Rattle.proc_type_layout.proofs.AcceptedParts.{layout_parts}
 use Rattle.proc_layouter.specs.Layouter.{no_layout, layout_step, layout}
 use Rattle.proc_layouter.proofs.LayoutAccepted.{accepted_step}

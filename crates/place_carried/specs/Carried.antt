@@ -8,8 +8,7 @@ use Rattle.ir_records.specs.Table.{value_at}
 use Rattle.ir_records.specs.declared.Leaf.{Leaf}
 use Rattle.ir_records.specs.declared.TypeInner.{TypeInner}
 use Rattle.ir_records.specs.declared.TypeInner.TheVariants.{Plain, Array, RuntimeArray, Struct, Other}
-use Rattle.proc_type_methods.specs.TypeMethods.{leaf_size, size_of}
-use Rattle.proc_type_methods.specs.Columns.{leaf_column_step}
+use Rattle.proc_type_methods.specs.TypeMethods.{leaf_size, leaf_column_step, size_of}
 use Rattle.place_steps.specs.Columns.{is_whole, column_count, leaf_length}
 use Rattle.place_carried.specs.Count.{count, some}
 

@@ -7,14 +7,13 @@ use Rattle.ir_records.specs.declared.Outcome.TheVariants.{Accepted}
 use Rattle.proc_type_methods.specs.TypeMethods.{size_of}
 use Rattle.valid_type_info.specs.declared.UniformRule.{UniformRule}
 use Rattle.valid_arena.specs.Arena.{arena}
-use Rattle.place_term3.specs.Term3.{row_in, leaf_measure, LeadsTo, FirstElements, StridesCover}
-use Rattle.place_term3.specs.Gaps.{InLeaf}
+use Rattle.place_term3.specs.Term3.{row_in, InLeaf, FirstElements, StridesCover}
 use Rattle.place_carried.specs.Carried.{in_leaf, carried, wasted, narrow}
 
 -- byte k of type t lies in a leaf, one of first elements: a runtime array counts as one element
 pub record InFirstLeaf (rule : UniformRule) (c : ℕ) (ts ms : List ℕ) (t k : ℕ) : Type 0 where
-  pub in_leaf : InLeaf (LeadsTo ts ms t) (leaf_measure rule c ts ms) k
-  pub firsts : FirstElements (decoded ts ms) t in_leaf.leaf.steps
+  pub in_leaf : InLeaf rule c ts ms t k
+  pub firsts : FirstElements (decoded ts ms) t in_leaf.steps
 
 pub record CarriedAndWasted : Type 0 where
   -- their sum equals the span

@@ -15,7 +15,7 @@ use Rattle.place_steps.specs.declared.Step.TheVariants.{To, Column, NoStep}
 use Rattle.place_descent.specs.declared.Place.TheVariants.{At, NoPlace}
 use Rattle.place_descent.specs.Place.{ended, follow, step_in, leaf_in, place_in, place_of}
 use Rattle.place_descent.specs.Serving.{Descends}
-use Rattle.place_descent.proofs.WalkLaws.{place-from}
+use Rattle.place_descent.proofs.WalkLaws.{place_from}
 
 -- where the loop stands after i steps: the rest of the steps from here lead where all of them lead from the start
 pub record Looking (ts ms : List ℕ) (start : ℕ) (steps : List ℕ) (i ty byte : ℕ) : Type 0 where
@@ -57,7 +57,7 @@ module _ {ts ms : List ℕ} {start : ℕ} {steps : List ℕ} {i ty byte : ℕ} (
 
   -- no step here: no place
   pub looking_ends : i < length steps → NoStep ≡ step_in (decoded ts ms) ty (get_or steps i 0) → NoPlace ≡ place_of ts ms start steps
-  looking_ends h e = (rw (← e) at (next h)) ∙ sym (place-from ts ms start l.started steps)
+  looking_ends h e = (rw (← e) at (next h)) ∙ sym (place_from ts ms start l.started steps)
 
   -- one step on
   pub looking_step : {to bytes : ℕ} → i < length steps → To to bytes ≡ step_in (decoded ts ms) ty (get_or steps i 0) → Looking ts ms start steps (i + 1) to (byte + bytes)
@@ -79,13 +79,13 @@ module _ {ts ms : List ℕ} {start : ℕ} {steps : List ℕ} {i ty byte : ℕ} (
   -- it is the place, where the steps end
   pub column_last : {bytes : ℕ} → i < length steps → length steps ≤ i + 1 → Column bytes ≡ step_in (decoded ts ms) ty (get_or steps i 0)
       → At (byte + bytes) ty ≡ place_of ts ms start steps
-  column_last h k e = (rw (← e, drop_of_length-le steps k) at (next h)) ∙ sym (place-from ts ms start l.started steps)
+  column_last h k e = (rw (← e, drop_of_length-le steps k) at (next h)) ∙ sym (place_from ts ms start l.started steps)
 
   -- and no place, where they go on
   pub column_passed : {bytes : ℕ} → i < length steps → i + 1 < length steps → Column bytes ≡ step_in (decoded ts ms) ty (get_or steps i 0)
       → NoPlace ≡ place_of ts ms start steps
-  column_passed h k e = (rw (← e, drop-cons steps (i + 1) 0 k) at (next h)) ∙ sym (place-from ts ms start l.started steps)
+  column_passed h k e = (rw (← e, drop-cons steps (i + 1) 0 k) at (next h)) ∙ sym (place_from ts ms start l.started steps)
 
   -- after the last step: the place, where the type is a leaf
   pub looking_done : length steps ≤ i → pick (leaf_in (decoded ts ms) ty) (At byte ty) NoPlace ≡ place_of ts ms start steps
-  looking_done h = (rw (drop_of_length-le steps h) at l.same) ∙ sym (place-from ts ms start l.started steps)
+  looking_done h = (rw (drop_of_length-le steps h) at l.same) ∙ sym (place_from ts ms start l.started steps)

@@ -20,7 +20,7 @@ use Rattle.place_steps.specs.declared.Step.{Step}
 use Rattle.place_steps.specs.declared.Step.TheVariants.{To, Column, NoStep}
 use Rattle.place_descent.specs.declared.Place.{Place}
 use Rattle.place_descent.specs.declared.Place.TheVariants.{At, NoPlace}
-use Rattle.proc_type_methods.specs.Columns.{leaf_column_step}
+use Rattle.proc_type_methods.specs.TypeMethods.{leaf_column_step}
 use Rattle.place_steps.specs.Columns.{is_whole, column_count}
 use Rattle.place_steps.specs.Steps.{is_leaf, step_of}
 use Rattle.place_descent.specs.Place.{ended, follow, walk, step_in, leaf_in, place_in, place_of}
@@ -95,14 +95,14 @@ unfolding place_of
 place_started ts ms t steps byte leaf e = ltb→lt t (type_count ts) (place_picked (ltb t (type_count ts)) (place_in (decoded ts ms) t 0 steps) byte leaf e).0
 
 -- from a type of the arena the place is the one in the decoded records
-pub place-from : (ts ms : List ℕ) (t : ℕ) → t < type_count ts → (steps : List ℕ) → place_of ts ms t steps ≡ place_in (decoded ts ms) t 0 steps
+pub place_from : (ts ms : List ℕ) (t : ℕ) → t < type_count ts → (steps : List ℕ) → place_of ts ms t steps ≡ place_in (decoded ts ms) t 0 steps
 unfolding place_of
-place-from ts ms t h steps = rw (lt-ltb t (type_count ts) h) refl
+place_from ts ms t h steps = rw (lt-ltb t (type_count ts) h) refl
 
 -- a way from a type of the arena is one of steps to a place
 pub place_of_way : (ts ms : List ℕ) (t : ℕ) → t < type_count ts → {steps : List ℕ} {byte leaf : ℕ} → Way (step_in (decoded ts ms)) (leaf_in (decoded ts ms)) t 0 steps byte leaf
     → place_of ts ms t steps ≡ At byte leaf
-place_of_way ts ms t h {steps = steps} w = place-from ts ms t h steps ∙ way_walk (step_in (decoded ts ms)) (leaf_in (decoded ts ms)) w
+place_of_way ts ms t h {steps = steps} w = place_from ts ms t h steps ∙ way_walk (step_in (decoded ts ms)) (leaf_in (decoded ts ms)) w
 
 -- ---- one step
 -- no step is no step to anywhere

@@ -1,4 +1,6 @@
 // The descent from a type along steps to the byte place of a leaf.
+#![tactic(auto)]
+
 ghost use Rattle.std.specs.Prelude.{◌≡◌};
 ghost use Rattle.ir_records.specs.Record.{type_count, type_inner, decoded};
 ghost use Rattle.ir_records.specs.Serving.{InnerBounds};
@@ -9,7 +11,7 @@ ghost use Rattle.place_descent.specs.Serving.{Descends};
 use place_steps::Step;
 
 // The byte place of a leaf and its type; of a column, the matrix's type.
-#[derive(Drop)]
+#[derive(Clone, Copy)]
 pub enum Place {
     At { byte: u64, leaf: u32 },
     NoPlace,

@@ -19,13 +19,12 @@ use Rattle.ir_records.specs.declared.TypeInner.TheVariants.{Plain, Array, Runtim
 use Rattle.ir_records.proofs.ResultLaws.{required, and_right}
 use Rattle.proc_alignment.specs.Alignment.{vector_alignment}
 use Rattle.proc_alignment.proofs.PowerLaws.{mul_within, vector_within}
-use Rattle.proc_type_methods.specs.TypeMethods.{most_size, try_size}
-use Rattle.proc_type_methods.specs.Columns.{leaf_column_step}
+use Rattle.proc_type_methods.specs.TypeMethods.{most_size, leaf_column_step, try_size}
 use Rattle.proc_layouter.specs.Layouter.{no_layout, layout_step, layout}
 use Rattle.proc_type_layout.proofs.AcceptedParts.{layout_parts}
 use Rattle.proc_layouter.proofs.LayoutAccepted.{accepted_step}
 use Rattle.valid_flags.specs.Flags.{bit, sized_bit}
-use Rattle.valid_flags.proofs.BitLaws.{bit_and}
+use Rattle.valid_flags.proofs.BitLaws.{bit-and}
 use Rattle.valid_type_info.specs.Verdict.{min_storage}
 use Rattle.valid_arena.specs.Arena.{row}
 use Rattle.valid_arena.proofs.AcceptedLaws.{AcceptedTypes, base_sized, runtime_array_row, struct_member}
@@ -119,7 +118,7 @@ module _ (c : ℕ) (types : ℕ → Decoded) (n : ℕ) (acc : AcceptedTypes c ty
       let m : stride ≤ 2147483647 = runtime_array_small t l base stride e in
       let w : s ≤ 4294967295 = omega (arith, g.0) in
       let p = mul_within s stride w m in
-      rw (← g.1, ← g.2) (inr (λ z. (bit_and (row min_storage c types base).flags 149 sized_bit (rw a.flags at z)).1, base_sized a, omega arith))
+      rw (← g.1, ← g.2) (inr (λ z. (bit-and (row min_storage c types base).flags 149 sized_bit (rw a.flags at z)).1, base_sized a, omega arith))
   added_of t l (Struct count span) e s ty bytes q =
       let g = struct_step count span (types t).members s ty bytes q in
       let m = (struct_member min_storage c types n acc t l count span e s g.0).fits in

@@ -1,4 +1,6 @@
 // The place lookup: from a type along steps to the byte place of a leaf.
+#![tactic(auto)]
+
 ghost use Rattle.std.specs.Prelude.{◌≡◌};
 ghost use Rattle.valid_arena.specs.Arena.{arena_words};
 ghost use Rattle.place_lookup.specs.Place.{place_answer, lookup_answer};
@@ -7,7 +9,7 @@ use ir_records::Outcome;
 use place_descent::Place;
 use valid_type_info::UniformRule;
 
-#[derive(Drop)]
+#[derive(Clone, Copy)]
 pub enum PlaceAnswer {
     Found {
         byte: u64,

@@ -13,7 +13,7 @@ use Rattle.ir_records.specs.declared.TypeInner.{TypeInner}
 use Rattle.ir_records.specs.declared.TypeInner.TheVariants.{Plain, Array, RuntimeArray, Struct, Other}
 use Rattle.proc_type_methods.specs.TypeMethods.{size_of}
 use Rattle.valid_flags.specs.Flags.{bit, host_shareable_bit}
-use Rattle.valid_flags.proofs.BitLaws.{bit_and}
+use Rattle.valid_flags.proofs.BitLaws.{bit-and}
 use Rattle.valid_type_info.specs.declared.UniformRule.{UniformRule}
 use Rattle.valid_type_info.specs.Verdict.{least_for}
 use Rattle.valid_arena.specs.Arena.{row}
@@ -74,7 +74,7 @@ module _ (rule : UniformRule) (c : ℕ) (types : ℕ → Decoded) (n : ℕ) (acc
         let a = array_row (least_for rule) c types n acc t l base count stride e in
         let b = a.0 in
         let s = size-of rule c types n acc base (omega arith) (types base).inner refl in
-        let h = (bit_and (row (least_for rule) c types base).flags 247 host_shareable_bit (rw a.1.flags at o)).0 in
+        let h = (bit-and (row (least_for rule) c types base).flags 247 host_shareable_bit (rw a.1.flags at o)).0 in
         rw (before base b h, sizes base b ∙ s)
         (array_bytes_is types t base count stride (narrow_array types t base count stride e b)
         (λ f. carried_array rule c types n acc t l (strides_wide rule c types n acc t l f) base count stride e))
@@ -82,7 +82,7 @@ module _ (rule : UniformRule) (c : ℕ) (types : ℕ → Decoded) (n : ℕ) (acc
         let a = runtime_array_row (least_for rule) c types n acc t l base stride e in
         let b = a.0 in
         let s = size-of rule c types n acc base (omega arith) (types base).inner refl in
-        let h = (bit_and (row (least_for rule) c types base).flags 149 host_shareable_bit (rw a.1.flags at o)).0 in
+        let h = (bit-and (row (least_for rule) c types base).flags 149 host_shareable_bit (rw a.1.flags at o)).0 in
         rw (before base b h, sizes base b ∙ s)
         (array_bytes_is types t base 1 stride (narrow_runtime_array types t base stride e b)
         (λ f. carried_runtime_array rule c types n acc t l (strides_wide rule c types n acc t l f) base stride e ∙ sym (one-mul (carried types base))))

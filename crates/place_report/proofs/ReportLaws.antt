@@ -32,8 +32,8 @@ use Rattle.place_report.specs.declared.LeafBytes.TheVariants.{Carried, Narrow}
 use Rattle.place_report.specs.declared.ReportAnswer.TheVariants as answer
 use Rattle.place_report.specs.Report.{report_width}
 use Rattle.place_report.specs.Serving.{is_narrow}
-use Rattle.place_report.specs.Serving.{RowsOf, narrow_struct, is_reported, counts_for, counts_pair, totals_for, answer_by, fill_answer, fill_words}
-use Rattle.place_report.specs.Report.{reported, narrow_at, report_outcome, carried_at, wasted_at, report_at, lengths_fit, answer_of, report_answer, report_rows, report_words}
+use Rattle.place_report.specs.Serving.{RowsOf, narrow_struct, is_reported, counts_for, counts_pair, totals_for, answer_by, words_by, fill_answer, fill_words}
+use Rattle.place_report.specs.Report.{reported, narrow_at, report_outcome, carried_at, wasted_at, report_at, lengths_fit, answer_of, report_answer, report_rows, report_after, report_words}
 use Rattle.place_report.proofs.PassLaws.{flags_word}
 use Rattle.place_report.proofs.FillLaws.{flat_alike}
 
@@ -144,6 +144,10 @@ module _ (rule : UniformRule) (c : ℕ) (ts ms rows report : List ℕ) (fits : l
     by_answer Accepted = refl
     by_answer (Refused number ty member detail) = refl
 
+    by_words : (o : Outcome) → words_by o (flat (report_at c (decoded ts ms)) (type_count ts)) (type_count ts) report ≡ report_after c ts ms o report
+    by_words Accepted = refl
+    by_words (Refused number ty member detail) = refl
+
     pub filled_same : (fill_answer ts ms made (type_count ts) ≡ report_answer c ts ms rows report)
         × (made ≡ report_rows rule c ts ms rows report)
         × (fill_words ts ms made (type_count ts) report ≡ report_words c ts ms rows report)
@@ -151,7 +155,7 @@ module _ (rule : UniformRule) (c : ℕ) (ts ms rows report : List ℕ) (fits : l
     filled_same = (
       rw (same-outcome, same_totals, fits) (by_answer (report_outcome c ts ms)),
       rw fits refl,
-      rw (same-outcome, same_flat, fits) refl,
+      rw (same-outcome, same_flat, fits) (by_words (report_outcome c ts ms)),
     )
 
 -- number 1

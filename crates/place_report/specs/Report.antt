@@ -1,7 +1,7 @@
 -- 02, E1: the report over an arena. For each host-shareable struct the bytes carried and the bytes wasted, and totals over all of them.
 -- Number 27 comes after the arena's own refusals, with its type, and keeps the accepted rows. A shorter report is 1; other refusals zero it.
 -- Assumes nothing.
-use Rattle.std.specs.Prelude.{Bool, not, ◌&&◌, List, [], ◌∷◌, ℕ, ◌+◌, ◌*◌, ◌/◌, leb, length}
+use Rattle.std.specs.Prelude.{Bool, not, ◌&&◌, List, [], ◌∷◌, ◌++◌, ℕ, ◌+◌, ◌*◌, ◌/◌, leb, length, drop}
 use Rattle.ir_records.specs.Result.{Result, ok, pick, require}
 use Rattle.ir_records.specs.Record.{Decoded, decoded, type_count, type_words}
 use Rattle.ir_records.specs.Fields.{capabilities_known, tables_fit}
@@ -10,7 +10,7 @@ use Rattle.ir_records.specs.declared.Outcome.{Outcome}
 use Rattle.ir_records.specs.declared.Outcome.TheVariants as outcome
 use Rattle.valid_flags.specs.Flags.{bit, host_shareable_bit}
 use Rattle.valid_type_flags.specs.TypeFlags.{is_struct}
-use Rattle.proc_layouter.specs.LentRows.{lent_after}
+use Rattle.ir_rows.specs.Rows.{cleared}
 use Rattle.valid_type_info.specs.declared.UniformRule.{UniformRule}
 use Rattle.valid_arena.specs.Arena.{common, arena_outcome, arena_words}
 use Rattle.place_carried.specs.Count.{sum}
@@ -62,7 +62,10 @@ report_answer c ts ms rows report = pick (report_fits c ts ms rows report) (answ
 unfoldable pub report_rows : (rule : UniformRule) (c : ℕ) (ts ms rows report : List ℕ) → List ℕ
 report_rows rule c ts ms rows report = pick (report_fits c ts ms rows report) (arena_words rule c ts ms rows) rows
 
--- the report, by the rule for lent words
+-- the report
+abbrev pub report_after : (c : ℕ) (ts ms : List ℕ) → Outcome → (report : List ℕ) → List ℕ
+report_after c ts ms outcome.Accepted report = flat (report_at c (decoded ts ms)) (type_count ts) ++ drop (type_count ts * report_width) report
+report_after c ts ms (outcome.Refused number ty member detail) report = cleared report (type_count ts * report_width)
+
 unfoldable pub report_words : (c : ℕ) (ts ms rows report : List ℕ) → List ℕ
-report_words c ts ms rows report =
-    lent_after report_width (report_fits c ts ms rows report) (report_outcome c ts ms) (flat (report_at c (decoded ts ms)) (type_count ts)) (type_count ts) report
+report_words c ts ms rows report = pick (report_fits c ts ms rows report) (report_after c ts ms (report_outcome c ts ms) report) report

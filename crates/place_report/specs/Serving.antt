@@ -6,8 +6,7 @@ use Rattle.ir_records.specs.Record.{Decoded, member_type, type_inner, struct_mem
 use Rattle.ir_records.specs.declared.TypeInner.{TypeInner}
 use Rattle.ir_records.specs.declared.TypeInner.TheVariants.{Plain, Array, RuntimeArray, Struct, Other}
 use Rattle.valid_flags.specs.Flags.{bit, host_shareable_bit}
-use Rattle.ir_rows.specs.Rows.{row_word}
-use Rattle.proc_layouter.specs.LentRows.{filled_or_zero}
+use Rattle.ir_rows.specs.Rows.{row_word, cleared}
 use Rattle.place_carried.specs.Carried.{carried, narrow, wasted}
 use Rattle.place_carried.specs.Serving.{leaf_carried}
 use Rattle.place_report.specs.declared.LeafBytes.{LeafBytes}
@@ -111,7 +110,8 @@ narrow_struct ts ms rows k = require (not (is_struct (type_inner ts k) && is_nar
 
 -- the report after the first pass
 abbrev pub first_pass_words : Outcome → (ts ms rows : List ℕ) (n : ℕ) → (report : List ℕ) → List ℕ
-first_pass_words outcome ts ms rows n report = filled_or_zero report_width outcome (flat (entry_pair ts ms rows) n) n report
+first_pass_words Accepted ts ms rows n report = flat (entry_pair ts ms rows) n ++ drop (n * report_width) report
+first_pass_words (Refused number ty member detail) ts ms rows n report = cleared report (n * report_width)
 
 -- ---- the second pass
 abbrev pub is_reported : (ts rows : List ℕ) → ℕ → Bool
@@ -156,5 +156,9 @@ answer_by (Refused number ty member detail) totals = answer.Refused number ty me
 unfoldable pub fill_answer : (ts ms rows : List ℕ) → ℕ → ReportAnswer
 fill_answer ts ms rows n = answer_by (first_refusal (narrow_struct ts ms rows) n) (totals_for ts ms rows n)
 
+abbrev pub words_by : Outcome → (made : List ℕ) (n : ℕ) → (report : List ℕ) → List ℕ
+words_by Accepted made n report = made ++ drop (n * report_width) report
+words_by (Refused number ty member detail) made n report = cleared report (n * report_width)
+
 unfoldable pub fill_words : (ts ms rows : List ℕ) → ℕ → (report : List ℕ) → List ℕ
-fill_words ts ms rows n report = filled_or_zero report_width (first_refusal (narrow_struct ts ms rows) n) (flat (λ k. counts_pair (counts_for ts ms rows k)) n) n report
+fill_words ts ms rows n report = words_by (first_refusal (narrow_struct ts ms rows) n) (flat (λ k. counts_pair (counts_for ts ms rows k)) n) n report

@@ -1,5 +1,7 @@
 // The report over an arena: for each host-shareable struct the bytes that leaves carry and the bytes that are wasted. While it is made, the
 // bytes that leaves carry of every host-shareable type stand in the lent report, from the first type up, so that a shared struct is counted once.
+#![tactic(auto)]
+
 ghost use Rattle.std.specs.Prelude.{◌≡◌, ◌+◌, ◌*◌, ◌≤◌, length, get_or};
 ghost use Rattle.ir_records.specs.Record.{type_count, type_inner};
 ghost use Rattle.ir_records.specs.Table.{first_refusal};
@@ -15,21 +17,21 @@ use ir_records::{Leaf, Outcome, TypeInner};
 use valid_type_info::UniformRule;
 
 // The bytes of a type that leaves carry; or it is narrow: it reaches an array with a stride below its element's size.
-#[derive(Drop)]
+#[derive(Clone, Copy)]
 pub enum LeafBytes {
     Carried { bytes: u64 },
     Narrow,
 }
 
 // The bytes carried and the bytes wasted, of a struct or of all.
-#[derive(Drop)]
+#[derive(Clone, Copy)]
 pub struct Counts {
     pub carried: u64,
     pub wasted: u64,
 }
 
 // Totals over all host-shareable structs.
-#[derive(Drop)]
+#[derive(Clone, Copy)]
 pub enum ReportAnswer {
     Totals {
         carried: u64,

@@ -1,11 +1,10 @@
 -- Laws of many places in one call: each answer is the lookup's; number 1 by the lengths of the tables, of the queries and of the answers.
 -- Assumes nothing.
-use mathlib.Core.Path.{◌≡◌, refl, sym, ap, fun_ext, ◌∙◌}
+use mathlib.Core.Path.{◌≡◌, refl, ap, fun_ext, ◌∙◌}
 use mathlib.Core.Bool.{Bool, true, false, ◌&&◌}
 use mathlib.Core.List.{List, ◌++◌}
 use Prim.Native.Nat.{ℕ, ◌+◌, ◌*◌, ◌≤◌, ◌<◌}
 use native.Mathlib.Omega.{arith}
-use lib.Dec.{leb}
 use lib.ListN.{length, get_or, take, drop, get_or-append}
 use borrow.Author.Tests.{le-leb, lt-leb, eqb-true}
 use Rattle.ir_records.specs.Result.{pick}
@@ -29,7 +28,6 @@ use Rattle.place_short.specs.Short.{short_fits, short_answer, short_lookup, shor
 use Rattle.place_short_layout.specs.ShortRows.{short_width}
 use Rattle.place_short.proofs.OutcomeLaws.{short_accepted}
 use Rattle.place_short.proofs.SamePlacesProof.{same_places}
-use Rattle.place_runs.specs.declared.Runs.{Runs}
 use Rattle.place_runs.specs.declared.Runs.TheVariants.{Whole, Cut}
 use Rattle.place_runs.specs.Runs.{run_start, run_steps, run_at, run_count, runs_whole}
 use Rattle.place_runs.specs.Serving.{runs_of}

@@ -1,4 +1,6 @@
 // Many place lookups in one call, with one judging by three words for each type.
+#![tactic(auto)]
+
 ghost use Rattle.std.specs.Prelude.{◌≡◌, true, [], ◌∷◌, ◌++◌, ◌+◌, ◌*◌, ◌≤◌, length, drop};
 ghost use Rattle.ir_records.specs.Record.{type_count, decoded};
 ghost use Rattle.ir_records.specs.Table.{flat};
@@ -15,7 +17,7 @@ use ir_records::Outcome;
 use place_descent::Place;
 
 // How many runs the words are, or a run that is cut short.
-#[derive(Drop)]
+#[derive(Clone, Copy)]
 pub enum Runs {
     Whole(usize),
     Cut,
@@ -89,8 +91,7 @@ fn fill(
     requires descends { accepted ≡ true → Descends (decoded types.now members.now) (type_count types.now) }
     requires n_value { run_at queries.now n ≡ length queries.now }
     requires n_in_bounds { n * 2 ≤ length answers.old }
-    ensures { answers.new
-        ≡ flat (pair_at accepted types.now members.now queries.now) n ++ drop (n * 2) answers.old }
+    ensures { answers.new ≡ flat (pair_at accepted types.now members.now queries.now) n ++ drop (n * 2) answers.old }
 {
     let mut at: usize = 0;
     let mut j: usize = 0;
@@ -137,9 +138,7 @@ fn places_in(
     requires n_in_bounds { n * 2 ≤ length answers.old }
     ensures value { result ≡ short_answer capabilities types.now members.now scratch.old }
     ensures scratch_after { scratch.new ≡ short_words capabilities types.now members.now scratch.old }
-    ensures answers_after { answers.new
-        ≡ flat (answer_at capabilities types.now members.now scratch.old queries.now) n
-        ++ drop (n * 2) answers.old }
+    ensures answers_after { answers.new ≡ flat (answer_at capabilities types.now members.now scratch.old queries.now) n ++ drop (n * 2) answers.old }
 {
     let outcome = place_short::judge(types, members, capabilities, scratch);
     let accepted = is_accepted(outcome);
@@ -167,12 +166,9 @@ pub fn places(
     queries: &[u32],
     answers: &mut [u64],
 ) -> Outcome
-    ensures value { result
-        ≡ places_answer capabilities types.now members.now scratch.old queries.now answers.old }
-    ensures scratch_after { scratch.new
-        ≡ places_scratch capabilities types.now members.now scratch.old queries.now answers.old }
-    ensures answers_after { answers.new
-        ≡ places_words capabilities types.now members.now scratch.old queries.now answers.old }
+    ensures value { result ≡ places_answer capabilities types.now members.now scratch.old queries.now answers.old }
+    ensures scratch_after { scratch.new ≡ places_scratch capabilities types.now members.now scratch.old queries.now answers.old }
+    ensures answers_after { answers.new ≡ places_words capabilities types.now members.now scratch.old queries.now answers.old }
 {
     if !place_short::lengths_fit(capabilities, types.len(), members.len(), scratch.len()) {
         return refused();

@@ -1,6 +1,6 @@
 -- Judging type by type, against 2 and 3 of all records, then 4 to 7 of all types, and then what is judged of each.
 -- Assumes nothing.
-use mathlib.Core.Path.{◌≡◌, refl, sym, ap, ◌∙◌}
+use mathlib.Core.Path.{◌≡◌, refl, sym, ◌∙◌}
 use mathlib.Core.Bool.{Bool, true, false, ◌&&◌}
 use mathlib.Core.List.{List, ◌++◌}
 use Prim.Native.Nat.{ℕ, zero, suc, ◌*◌, ◌/◌, ◌≤◌}
@@ -18,8 +18,8 @@ use Rattle.ir_records.proofs.TableLaws.{also_accepted, outcome_accepted, all_ok,
 use Rattle.proc_layouter.specs.Layouter.{layout_at, layout_outcome}
 use Rattle.valid_arena.specs.Arena.{common_at, judge_outcome, arena_outcome, arena}
 use Rattle.place_short_layout.specs.ShortRows.{short_width}
-use Rattle.place_short.specs.Short.{lengths_fit, short_fits, short_answer}
-use Rattle.place_short.specs.Serving.{three_result, scratch_after}
+use Rattle.place_short.specs.Short.{lengths_fit, short_fits, short_answer, scratch_after}
+use Rattle.place_short.specs.Serving.{three_result}
 use Rattle.place_short.proofs.ShortLaws.{layout_then_row, three_refusal}
 
 pub not_accepted : {number ty member detail : ℕ} → Refused number ty member detail ≡ Accepted → ⊥

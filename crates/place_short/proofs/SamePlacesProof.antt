@@ -2,8 +2,8 @@
 -- Assumes nothing.
 use mathlib.Core.Path.{◌≡◌, refl, sym, ap, ◌∙◌}
 use mathlib.Core.Bool.{Bool, true, false, ◌&&◌}
-use mathlib.Core.List.{List, ◌++◌}
-use Prim.Native.Nat.{ℕ, zero, suc, ◌+◌, ◌*◌, ◌/◌, ◌%◌, ◌≤◌, ◌<◌}
+use mathlib.Core.List.{List}
+use Prim.Native.Nat.{ℕ, zero, suc, ◌+◌, ◌*◌, ◌%◌, ◌≤◌, ◌<◌}
 use native.Mathlib.Nat.{le_refl}
 use native.Mathlib.Omega.{arith}
 use lib.Dec.{eqb, leb}
@@ -19,18 +19,17 @@ use Rattle.ir_records.proofs.ResultLaws.{true_T, T_true, and_right}
 use Rattle.ir_records.proofs.RecordLaws.{tables_fitting}
 use Rattle.ir_records.proofs.TableLaws.{flat_length, flat_word}
 use Rattle.ir_rows.specs.Rows.{row_word, cleared}
-use Rattle.proc_layouter.specs.Serving.{rows_after}
+use Rattle.proc_layouter.specs.Layouter.{rows_after}
 use Rattle.valid_type_info.specs.declared.Row.{Row}
 use Rattle.valid_type_info.specs.declared.UniformRule.{UniformRule}
 use Rattle.valid_type_info.specs.TypeInfo.{words_of}
 use Rattle.valid_type_info.specs.Verdict.{least_for}
-use Rattle.valid_arena.specs.Arena.{common, row, row_at, arena_rows, arena_outcome, arena_fits, arena_answer, arena_words}
+use Rattle.valid_arena.specs.Arena.{row, row_at, arena_rows, arena_outcome, arena_fits, arena_answer, arena_words}
 use Rattle.valid_arena.proofs.CommonLaws.{row_common}
 use Rattle.valid_arena.proofs.JudgeRows.{row_length}
 use Rattle.place_lookup.specs.Place.{start_answer, lookup_answer}
 use Rattle.place_short_layout.specs.ShortRows.{short_width, short_word}
-use Rattle.place_short.specs.Short.{three_at, lengths_fit, short_fits, short_answer, short_lookup, short_words}
-use Rattle.place_short.specs.Serving.{scratch_after}
+use Rattle.place_short.specs.Short.{three_at, lengths_fit, short_fits, short_answer, short_lookup, scratch_after, short_words}
 use Rattle.place_short.specs.SamePlaces.{SamePlaces}
 use Rattle.place_short.proofs.ShortLaws.{three_wide}
 

@@ -4,11 +4,9 @@ use Rattle.std.specs.Prelude.{List, ℕ}
 use Rattle.ir_records.specs.Result.{Result, err, ok, and_then}
 use Rattle.ir_records.specs.Record.{type_inner, struct_members}
 use Rattle.ir_records.specs.Table.{flat}
-use Rattle.ir_records.specs.declared.Outcome.{Outcome}
 use Rattle.ir_rows.specs.Rows.{with_part}
 use Rattle.proc_type_alignment.specs.declared.TypeLayout.{TypeLayout}
 use Rattle.proc_type_layout.specs.TypeLayout.{layout_of}
-use Rattle.proc_layouter.specs.LentRows.{filled_or_zero}
 use Rattle.valid_types.specs.ValidateType.{flags_of}
 use Rattle.place_short_layout.specs.ShortRows.{short_width, three_words, short_layouts}
 use Rattle.place_short_flags.specs.ShortFlags.{short_sizes, short_flags}
@@ -35,7 +33,3 @@ laid_from ts ms words i = and_then (layout_from ts ms words i) (λ l. ok (three_
 abbrev pub written_after : Result (List ℕ) → (at : ℕ) → List ℕ → List ℕ
 written_after (ok three) at words = with_part short_width words at three
 written_after (err number member detail) at words = words
-
--- the scratch of n types, by the rule for lent words
-abbrev pub scratch_after : Outcome → (c : ℕ) (ts ms : List ℕ) (n : ℕ) → (lent : List ℕ) → List ℕ
-scratch_after outcome c ts ms n lent = filled_or_zero short_width outcome (flat (three_at c ts ms) n) n lent

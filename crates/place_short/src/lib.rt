@@ -1,4 +1,6 @@
 // The place lookup with a scratch of three words for each type: size, alignment and flags. No verdict is made.
+#![tactic(auto)]
+
 ghost use Rattle.std.specs.Prelude.{◌≡◌, true, ◌+◌, ◌*◌, ◌≤◌, length, take, drop};
 ghost use Rattle.ir_records.specs.Result.{ok};
 ghost use Rattle.ir_records.specs.Record.{type_count, decoded};
@@ -8,8 +10,8 @@ ghost use Rattle.ir_records.specs.declared.Outcome.TheVariants.{Accepted};
 ghost use Rattle.ir_rows.specs.Rows.{cleared};
 ghost use Rattle.proc_layouter.specs.Layouter.{layout_at};
 ghost use Rattle.valid_arena.specs.Arena.{arena_outcome};
-ghost use Rattle.place_short.specs.Short.{three_at, lengths_fit, short_fits, short_answer, short_lookup, short_words};
-ghost use Rattle.place_short.specs.Serving.{three_result, three_from, laid_from, written_after, scratch_after};
+ghost use Rattle.place_short.specs.Short.{three_at, lengths_fit, short_fits, short_answer, short_lookup, scratch_after, short_words};
+ghost use Rattle.place_short.specs.Serving.{three_result, three_from, laid_from, written_after};
 
 use ir_records::Outcome;
 use place_lookup::PlaceAnswer;
@@ -22,8 +24,7 @@ fn layout_at(types: &[u32], members: &[u32], words: &mut [u32], i: u32) -> Outco
     requires i_in_bounds { i * 3 + 3 ≤ length words.old }
     requires i_value { record_at types.now members.now i ≡ ok tt }
     ensures value { result ≡ outcome_at i (laid_from types.now members.now (take (i * 3) words.old) i) }
-    ensures words_after { words.new
-        ≡ written_after (laid_from types.now members.now (take (i * 3) words.old) i) (i * 3) words.old }
+    ensures words_after { words.new ≡ written_after (laid_from types.now members.now (take (i * 3) words.old) i) (i * 3) words.old }
 {
     let at = (i as usize) * SHORT_WORDS;
     let inner = ir_records::type_inner(types, i);
@@ -74,9 +75,7 @@ fn judge_at(capabilities: u32, types: &[u32], members: &[u32], words: &mut [u32]
     requires i_in_bounds_2 { i * 6 + 6 ≤ length types.now }
     requires i_value { record_at types.now members.now i ≡ ok tt }
     ensures value { result ≡ outcome_at i (three_from capabilities types.now members.now (take (i * 3) words.old) i) }
-    ensures words_after { words.new
-        ≡ written_after (three_from capabilities types.now members.now (take (i * 3) words.old) i) (i * 3)
-        words.old }
+    ensures words_after { words.new ≡ written_after (three_from capabilities types.now members.now (take (i * 3) words.old) i) (i * 3) words.old }
 {
     let at = (i as usize) * SHORT_WORDS;
     let inner = ir_records::type_inner(types, i);

@@ -2,8 +2,7 @@
 -- Assumes nothing.
 use Rattle.std.specs.Prelude.{Bool, false, List, ◌≡◌, ℕ}
 use Rattle.ir_records.specs.Result.{Result, err, ok, pick, require}
-use Rattle.ir_records.specs.Record.{member_count}
-use Rattle.ir_records.specs.Serving.{Sourceless}
+use Rattle.ir_records.specs.Record.{member_count, Sourceless}
 use Rattle.valid_flags.specs.Flags.{is_sized_data, array_flags, runtime_array_flags}
 use Rattle.place_short_flags.specs.declared.Taken.{Taken}
 use Rattle.place_short_flags.specs.declared.Taken.TheVariants as taken

@@ -1,7 +1,8 @@
 // The flags of one type, or its refusal, from three words for each type before it: validate_type of naga's valid/type.rs without its verdicts.
+#![tactic(auto)]
+
 ghost use Rattle.std.specs.Prelude.{◌≡◌, false, ℕ, ◌+◌, ◌*◌, ◌≤◌, ◌<◌, length};
-ghost use Rattle.ir_records.specs.Record.{member_words, member_count, member_type, member_offset, type_inner};
-ghost use Rattle.ir_records.specs.Serving.{Sourceless};
+ghost use Rattle.ir_records.specs.Record.{member_words, member_count, member_type, member_offset, type_inner, Sourceless};
 ghost use Rattle.ir_records.specs.declared.TypeInner.TheVariants.{Struct};
 ghost use Rattle.valid_flags.specs.Flags.{bit};
 ghost use Rattle.valid_width.specs.Width.{dual_source_blending};
@@ -22,7 +23,7 @@ use valid_type_flags::Flagged;
 use valid_type_info::Previous;
 
 // After all members of a struct, and whether one of them may have a blend source.
-#[derive(Drop)]
+#[derive(Clone, Copy)]
 pub enum Taken {
     Members { bounds: Bounds, sourced: bool },
     Refused { number: u32, member: u32 },
@@ -110,10 +111,7 @@ fn member_step(
     so_far: Bounds,
 ) -> Bounded
     requires { j * member_words + member_words ≤ length part.now }
-    ensures { bounded_result j result
-        ≡ member_bounds count span previous (type_inner types.now (member_type part.now j)) (member_offset part.now j) j
-        (short_sizes words.now (member_type part.now j)) (short_flags words.now (member_type part.now j))
-        so_far }
+    ensures { bounded_result j result ≡ member_bounds count span previous (type_inner types.now (member_type part.now j)) (member_offset part.now j) j (short_sizes words.now (member_type part.now j)) (short_flags words.now (member_type part.now j)) so_far }
 {
     let t = ir_records::own_type(part, j as usize);
     let offset = ir_records::own_offset(part, j as usize);
@@ -127,9 +125,7 @@ fn member_step(
 // The members of a struct, one after the other, by the rules that do not read blend sources.
 fn members_of(types: &[u32], words: &[u32], part: &[u32], count: u32, span: u32) -> Taken
     requires { length part.now ≡ count * member_words }
-    ensures result_value { taken_result result
-        ≡ bounds_after (type_inner types.now) (short_sizes words.now) (short_flags words.now) count span part.now
-        count }
+    ensures result_value { taken_result result ≡ bounds_after (type_inner types.now) (short_sizes words.now) (short_flags words.now) count span part.now count }
     ensures sources_known { SourcesKnown part.now result }
 {
     let mut bounds = Bounds {
@@ -200,9 +196,7 @@ fn blended_flags(
 ) -> Blend
     requires part_len { length part.now ≡ count * member_words }
     requires sourceless { sourced ≡ false → Sourceless part.now (member_count part.now) }
-    ensures { blend_answer result
-        ≡ blended_flags (bit capabilities dual_source_blending) (type_inner types.now) (short_flags words.now) part.now count
-        flags }
+    ensures { blend_answer result ≡ blended_flags (bit capabilities dual_source_blending) (type_inner types.now) (short_flags words.now) part.now count flags }
 {
     if !sourced {
         return Blend::Flags(flags);
@@ -224,9 +218,7 @@ fn struct_flags(
     span: u32,
 ) -> Flagged
     requires { length part.now ≡ count * member_words }
-    ensures { flagged_result result
-        ≡ flags_of capabilities (type_inner types.now) (short_sizes words.now) (short_flags words.now) (Struct count span)
-        part.now }
+    ensures { flagged_result result ≡ flags_of capabilities (type_inner types.now) (short_sizes words.now) (short_flags words.now) (Struct count span) part.now }
 {
     if count == 0 {
         return Flagged::Refused {
@@ -283,9 +275,7 @@ pub fn flags_of(
     part: &[u32],
 ) -> Flagged
     requires { (count span : ℕ) → inner ≡ Struct count span → length part.now ≡ count * member_words }
-    ensures { flagged_result result
-        ≡ flags_of capabilities (type_inner types.now) (short_sizes words.now) (short_flags words.now) inner
-        part.now }
+    ensures { flagged_result result ≡ flags_of capabilities (type_inner types.now) (short_sizes words.now) (short_flags words.now) inner part.now }
 {
     match inner {
         TypeInner::Plain(leaf) => leaf_flags(capabilities, leaf),

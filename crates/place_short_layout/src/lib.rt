@@ -1,5 +1,7 @@
 // Three words for each type, size, alignment and flags, in lent words; and the layout of one type from those of the types before it, as in
 // Layouter::update of naga's proc/layouter.rs, numbers 4 to 7.
+#![tactic(auto)]
+
 ghost use Rattle.std.specs.Prelude.{◌≡◌, ◌+◌, ◌*◌, ◌≤◌, ◌<◌, length};
 ghost use Rattle.ir_records.specs.Serving.{LeafBounds, InnerBounds};
 ghost use Rattle.ir_rows.specs.Rows.{with_part};

@@ -4,7 +4,7 @@ use Rattle.std.specs.Prelude.{Bool, true, false, ℕ, ◌*◌, ltb}
 use Rattle.ir_records.specs.Result.{pick}
 use Rattle.ir_records.specs.declared.Leaf.{Leaf}
 use Rattle.ir_records.specs.declared.Leaf.TheVariants.{Scalar, Vector, Matrix, CooperativeMatrix, Atomic, RayQuery}
-use Rattle.proc_type_methods.specs.Columns.{leaf_column_step}
+use Rattle.proc_type_methods.specs.TypeMethods.{leaf_column_step}
 use Rattle.place_steps.specs.declared.Step.{Step}
 use Rattle.place_steps.specs.declared.Step.TheVariants.{Column, NoStep}
 

@@ -1,15 +1,17 @@
 // One step of a place: from a type to an element, a member or a column.
+#![tactic(auto)]
+
 ghost use Rattle.std.specs.Prelude.{◌≡◌, ◌*◌};
 ghost use Rattle.ir_records.specs.Serving.{LeafBounds, InnerBounds};
 ghost use Rattle.place_steps.specs.declared.Step.TheVariants.{To};
-ghost use Rattle.proc_type_methods.specs.Columns.{leaf_column_step};
+ghost use Rattle.proc_type_methods.specs.TypeMethods.{leaf_column_step};
 ghost use Rattle.place_steps.specs.Columns.{is_whole, column_count, column_of};
 ghost use Rattle.place_steps.specs.Steps.{is_leaf, step_of};
 
 use ir_records::{Leaf, TypeInner};
 
 // What one step does: the next type and the bytes added; or the bytes to a column, where the steps end.
-#[derive(Drop)]
+#[derive(Clone, Copy)]
 pub enum Step {
     To { ty: u32, bytes: u64 },
     Column { bytes: u64 },

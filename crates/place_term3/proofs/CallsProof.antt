@@ -4,20 +4,16 @@ use mathlib.Core.Path.{◌≡◌, refl, sym, ap, subst}
 use mathlib.Core.List.{List}
 use Prim.Native.Nat.{ℕ, ◌+◌, ◌≤◌, ◌<◌}
 use native.Mathlib.Omega.{arith}
-use lib.Dec.{T}
-use lib.ListN.{get_elem?}
-use Rattle.ir_records.specs.Record.{Decoded, decoded, type_count}
+use Rattle.ir_records.specs.Record.{decoded, type_count}
 use Rattle.ir_records.specs.declared.Outcome.{Outcome}
 use Rattle.ir_records.specs.declared.Outcome.TheVariants.{Accepted, Refused}
 use Rattle.ir_records.specs.declared.TypeInner.{TypeInner}
 use Rattle.ir_records.specs.declared.TypeInner.TheVariants.{Plain, Array, RuntimeArray, Struct, Other}
 use Rattle.ir_rows.specs.Rows.{row_word}
-use Rattle.valid_type_info.specs.declared.Row.{Row}
 use Rattle.valid_type_info.specs.declared.UniformRule.{UniformRule}
-use Rattle.valid_type_info.specs.TypeInfo.{words_of}
-use Rattle.valid_type_info.specs.Serving.{rows_in}
+use Rattle.valid_type_info.specs.TypeInfo.{rows_in, words_of}
 use Rattle.valid_type_info.specs.Verdict.{least_for}
-use Rattle.valid_arena.specs.Arena.{row, arena, arena_answer, arena_words}
+use Rattle.valid_arena.specs.Arena.{arena_answer, arena_words}
 use Rattle.valid_arena.proofs.AcceptedLaws.{AcceptedTypes, array_row, runtime_array_row}
 use Rattle.valid_arena.proofs.ArenaLaws.{accepted_types}
 use Rattle.valid_arena.proofs.WordLaws.{word_left}
@@ -27,26 +23,22 @@ use Rattle.place_descent.specs.Place.{place_of}
 use Rattle.place_lookup.specs.declared.PlaceAnswer.TheVariants.{Found}
 use Rattle.place_lookup.specs.Place.{place_answer, start_answer, lookup_answer}
 use Rattle.place_lookup.proofs.LookupLaws.{answer_accepted}
-use Rattle.place_term3.specs.Term3.{row_in, length_in, leaf_measure, Leaf, LeadsTo, HostShareableData, stride_covers, StridesCover}
-use Rattle.place_term3.specs.Calls.{leaf_left, FoundWith, ShareableLeft, CallsSpare}
+use Rattle.place_term3.specs.Term3.{row_in, length_in, leaf_measure, HostShareableData, stride_covers, StridesCover}
+use Rattle.place_term3.specs.Calls.{leaf_left, CallsSpare}
 use Rattle.place_term3.proofs.StepLaws.{leaf_within}
 use Rattle.place_term3.proofs.ReachedLaws.{reached_within}
 use Rattle.place_term3.proofs.Term3Proof.{way_to, term3}
 
 -- a found place is the definition's
-place_found : (lent : List ℕ) (c : ℕ) (ts ms : List ℕ) (t : ℕ) (steps : List ℕ) (byte ty : ℕ) → FoundWith lent c ts ms t steps byte ty → LeadsTo ts ms t steps byte ty
+place_found : (c : ℕ) (ts ms rows : List ℕ) (t : ℕ) (steps : List ℕ) (byte leaf : ℕ) → lookup_answer c ts ms rows t steps ≡ Found byte leaf
+    → place_of ts ms t steps ≡ At byte leaf
 unfolding lookup_answer
-place_found lent c ts ms t steps byte ty e = go (arena_answer c ts ms lent) (place_of ts ms t steps) refl e
+place_found c ts ms rows t steps byte leaf e = go (arena_answer c ts ms rows) (place_of ts ms t steps) refl e
   where
-    go : (o : Outcome) (p : Place) → place_of ts ms t steps ≡ p → start_answer ts ms t steps o ≡ Found byte ty → p ≡ At byte ty
-    go Accepted (At b l) q r = let s : place_answer (At b l) ≡ Found byte ty = rw q at r in cc
-    go Accepted NoPlace q r = let s : place_answer NoPlace ≡ Found byte ty = rw q at r in let z : ◌≡◌ {A = ℕ} 0 1 = cc in absurd (omega arith)
+    go : (o : Outcome) (p : Place) → place_of ts ms t steps ≡ p → start_answer ts ms t steps o ≡ Found byte leaf → p ≡ At byte leaf
+    go Accepted (At b l) q r = let s : place_answer (At b l) ≡ Found byte leaf = rw q at r in cc
+    go Accepted NoPlace q r = let s : place_answer NoPlace ≡ Found byte leaf = rw q at r in let z : ◌≡◌ {A = ℕ} 0 1 = cc in absurd (omega arith)
     go (Refused number ty member detail) p q r = let z : ◌≡◌ {A = ℕ} 0 1 = cc in absurd (omega arith)
-
--- so what is found is a leaf
-abbrev leaf_found : (lent : List ℕ) (c : ℕ) (ts ms : List ℕ) (t : ℕ) → Leaf (FoundWith lent c ts ms t) → Leaf (LeadsTo ts ms t)
-leaf_found lent c ts ms t leaf =
-    record { steps = leaf.steps; byte = leaf.byte; ty = leaf.ty; place = place_found lent c ts ms t leaf.steps leaf.byte leaf.ty leaf.place }
 
 module _ (rule : UniformRule) (c : ℕ) (ts ms rows : List ℕ) (left : arena_answer c ts ms rows ≡ Accepted) where
   -- the types of the arena are accepted ones
@@ -82,19 +74,20 @@ module _ (rule : UniformRule) (c : ℕ) (ts ms rows : List ℕ) (left : arena_an
       go (Other o) e w = tt
 
   -- and a leaf is as long by the words as by its row
-  length_left : (t : ℕ) → t < type_count ts → (leaf : Leaf (LeadsTo ts ms t)) → leaf_measure rule c ts ms leaf.ty ≡ leaf_left ts ms (arena_words rule c ts ms rows) leaf.ty
-  length_left t h leaf =
-      let l = leaf_within rule c (decoded ts ms) (type_count ts) types-left (way_to ts ms t leaf) h in
-      ap (λ (x : ℕ). length_in (decoded ts ms leaf.ty).inner x) (sym (size_left leaf.ty l))
+  length_left : (t : ℕ) → t < type_count ts → (steps : List ℕ) (byte leaf : ℕ) → place_of ts ms t steps ≡ At byte leaf
+      → leaf_measure rule c ts ms leaf ≡ leaf_left ts ms (arena_words rule c ts ms rows) leaf
+  length_left t h steps byte leaf e =
+      let l = leaf_within rule c (decoded ts ms) (type_count ts) types-left (way_to ts ms t steps byte leaf e) h in
+      ap (λ (x : ℕ). length_in (decoded ts ms leaf).inner x) (sym (size_left leaf l))
 
 pub calls_spare : CallsSpare
-calls_spare rule c ts ms rows t s covers lent lent' one other ne k has buffer bytes =
+calls_spare rule c ts ms rows t s covers lent lent' steps steps' byte leaf byte' leaf' e e' ne buffer bytes k lo hi =
     let left = s.accepted in
     let h = s.within in
-    let p = leaf_found lent c ts ms t one in
-    let p' = leaf_found lent' c ts ms t other in
-    let m = length_left rule c ts ms rows left t h p in
-    let m' = length_left rule c ts ms rows left t h p' in
+    let p = place_found c ts ms lent t steps byte leaf e in
+    let p' = place_found c ts ms lent' t steps' byte' leaf' e' in
+    let m = length_left rule c ts ms rows left t h steps byte leaf p in
+    let m' = length_left rule c ts ms rows left t h steps' byte' leaf' p' in
     let flags = flags_left rule c ts ms rows left t h in
     let shareable : HostShareableData rule c ts ms t =
     record {
@@ -104,5 +97,5 @@ calls_spare rule c ts ms rows t s covers lent lent' one other ne k has buffer by
       host_shareable = rw flags at s.host_shareable;
     } in
     rw (← m)
-    (term3.others rule c ts ms t shareable (covers_left rule c ts ms rows left t h covers) p p' ne k
-    (has.0, subst (λ (x : ℕ). k < other.byte + x) (sym m') has.1) buffer bytes)
+    (term3.others rule c ts ms t shareable (covers_left rule c ts ms rows left t h covers) steps steps' byte leaf byte' leaf' p p' ne buffer bytes k lo
+    (subst (λ (x : ℕ). k < byte' + x) (sym m') hi))

@@ -14,8 +14,7 @@ use Rattle.ir_records.specs.declared.Leaf.TheVariants.{Scalar, Vector, Matrix, C
 use Rattle.ir_records.specs.declared.TypeInner.{TypeInner}
 use Rattle.ir_records.specs.declared.TypeInner.TheVariants.{Plain, Array, RuntimeArray, Struct, Other}
 use Rattle.proc_alignment.specs.Alignment.{vector_alignment}
-use Rattle.proc_type_methods.specs.TypeMethods.{column_step, leaf_size}
-use Rattle.proc_type_methods.specs.Columns.{leaf_column_step}
+use Rattle.proc_type_methods.specs.TypeMethods.{column_step, leaf_size, leaf_column_step}
 use Rattle.valid_types.specs.ValidateType.{leaf_verdict_alignment}
 use Rattle.place_steps.specs.Columns.{is_whole, column_count}
 use Rattle.place_steps.specs.Steps.{is_leaf}

@@ -8,9 +8,8 @@ use Prim.Native.Nat.{ℕ, zero, suc, ◌+◌, ◌≤◌, ◌<◌, ◌∣◌}
 use native.Mathlib.Nat.{le_refl}
 use native.Mathlib.Omega.{arith}
 use lib.ListN.{get_elem?}
-use Rattle.ir_records.specs.Record.{Decoded, decoded, inner_of, type_inner, struct_members}
-use Rattle.ir_records.specs.Fields.{tables_fit, fields_ok, record_at}
-use Rattle.ir_records.specs.BlendSource.{located_to}
+use Rattle.ir_records.specs.Record.{decoded, inner_of, type_inner, struct_members}
+use Rattle.ir_records.specs.Fields.{tables_fit, fields_ok, record_at, located_to}
 use Rattle.ir_records.specs.Table.{result_at, value_at}
 use Rattle.ir_records.specs.declared.Outcome.TheVariants.{Accepted}
 use Rattle.proc_type_methods.specs.TypeMethods.{try_size}
@@ -26,15 +25,14 @@ use Rattle.valid_member_bounds.specs.MemberBounds.{member_bounds}
 use Rattle.valid_blend.specs.Blend.{source_at, source_result, blended_after, other_location, struct_blend}
 use Rattle.valid_member_rules.specs.MemberRules.{uniform_after, storage_after, immediates_after}
 use Rattle.valid_types.specs.ValidateType.{flags_of, uniform_of, storage_of, immediates_of, row_of, judge, judge_common}
-use Rattle.valid_arena.specs.Arena.{row, judge_outcome, arena_outcome, arena}
+use Rattle.valid_arena.specs.Arena.{judge_outcome, arena_outcome, arena}
 use Rattle.valid_arena.proofs.ArenaLaws.{accepted_types}
 use Rattle.place_descent.specs.declared.Place.TheVariants.{At, NoPlace}
 use Rattle.place_steps.specs.Steps.{step_of}
 use Rattle.place_descent.specs.Place.{place_of}
-use Rattle.place_term3.specs.Term3.{row_in, leaf_measure, Leaf, LeadsTo, HostShareableData, Reached, itself, element, runtime_element, member, stride_covers, StridesCover, rewrite}
-use Rattle.place_term3.specs.Gaps.{InLeaf}
+use Rattle.place_term3.specs.Term3.{row_in, InLeaf, HostShareableData, stride_covers, StridesCover, rewrite}
 use Rattle.place_term3.proofs.ReachedLaws.{strides_cover}
-use Rattle.place_term3.proofs.Term3Proof.{term3, gaps}
+use Rattle.place_term3.proofs.Term3Proof.{term3}
 
 -- ---- the arena: 0 is f32, 1 is vec3<f32>, 2 is struct { vec3<f32> at 0, f32 at 12 }, 3 is array<2, 2>, 4 is array<f32>,
 -- 5 is struct { 3 at 0, 2 at 32, 4 at 48 }, 6 is mat3x3<f32>, 7 is struct { f32 at 0, 6 at 16 }
@@ -152,49 +150,36 @@ different e = let z : ◌≡◌ {A = ℕ} 0 1 = cc in omega arith
 pub different_columns : ◌≢◌ {A = List ℕ} (1 ∷ 1 ∷ []) (1 ∷ 2 ∷ [])
 different_columns e = let z : ◌≡◌ {A = ℕ} 1 2 = cc in omega arith
 
--- ---- their leaves
-abbrev pub float : Leaf (LeadsTo types members 5)
-float = record { steps = 0 ∷ 1 ∷ 1 ∷ []; byte = 28; ty = 0; place = in_array }
-
-abbrev pub vector : Leaf (LeadsTo types members 5)
-vector = record { steps = 1 ∷ 0 ∷ []; byte = 32; ty = 1; place = in_struct }
-
-abbrev pub second : Leaf (LeadsTo types members 7)
-second = record { steps = 1 ∷ 1 ∷ []; byte = 32; ty = 6; place = second_column }
-
-abbrev pub third : Leaf (LeadsTo types members 7)
-third = record { steps = 1 ∷ 2 ∷ []; byte = 48; ty = 6; place = third_column }
-
 -- ---- what term 3 says of them
 -- whatever is written to the f32, the twelve bytes of the vec3<f32> stay
 pub stays : (rule : UniformRule) (buffer bytes : List ℕ) (k : ℕ) → 32 ≤ k → k < 44 → get_elem? (rewrite buffer 28 4 bytes) k ≡ get_elem? buffer k
 unfolding type_inner inner_of
 stays rule buffer bytes k low high =
     rw (sizes rule).0 at
-    (term3.others rule 0 types members 5 (shareable rule) (covers rule) float vector different k (low, rw (sizes rule).1 high) buffer bytes)
+    (term3.others rule 0 types members 5 (shareable rule) (covers rule) (0 ∷ 1 ∷ 1 ∷ []) (1 ∷ 0 ∷ []) 28 0 32 1 in_array in_struct different buffer bytes k low (rw (sizes rule).1 high))
 
 -- the vec3<f32> lies within the struct's size, and at a multiple of its own storage alignment
 pub inside : (rule : UniformRule) → 32 + (row_in rule 0 types members 1).size ≤ (row_in rule 0 types members 5).size
 unfolding step_of type_inner inner_of struct_members
-inside rule = term3.within rule 0 types members 5 (shareable rule) (covers rule) vector (tt, (tt, tt))
+inside rule = term3.within rule 0 types members 5 (shareable rule) (covers rule) (1 ∷ 0 ∷ []) 32 1 in_struct (tt, (tt, tt))
 
 pub multiple : (rule : UniformRule) → alignment_in (row_in rule 0 types members 1).storage ∣ 32
-multiple rule = (term3.aligned rule 0 types members 5 (shareable rule) (rw (storage rule).0 tt) vector).1
+multiple rule = (term3.aligned rule 0 types members 5 (shareable rule) (rw (storage rule).0 tt) (1 ∷ 0 ∷ []) 32 1 in_struct).1
 
 -- a column has 12 bytes: whatever is written to those of the second, those of the third stay
 pub column_stays : (rule : UniformRule) (buffer bytes : List ℕ) (k : ℕ) → 48 ≤ k → k < 60 → get_elem? (rewrite buffer 32 12 bytes) k ≡ get_elem? buffer k
 unfolding type_inner inner_of
 column_stays rule buffer bytes k low high =
-    term3.others rule 0 types members 7 (shareable_7 rule) (covers_7 rule) second third different_columns k (low, high) buffer bytes
+    term3.others rule 0 types members 7 (shareable_7 rule) (covers_7 rule) (1 ∷ 1 ∷ []) (1 ∷ 2 ∷ []) 32 6 48 6 second_column third_column different_columns buffer bytes k low high
 
 -- the four bytes between the two are in no leaf of the struct
-pub gap : (rule : UniformRule) (k : ℕ) → 44 ≤ k → k < 48 → ¬ InLeaf (LeadsTo types members 7) (leaf_measure rule 0 types members) k
+pub gap : (rule : UniformRule) (k : ℕ) → 44 ≤ k → k < 48 → ¬ InLeaf rule 0 types members 7 k
 unfolding type_inner inner_of
 gap rule k low high =
-    (gaps rule 0 types members 7 k).1 (shareable_7 rule) (covers_7 rule)
-    (record { leaf = second; columns = 3; rows = 3; kind = 2; width = 4; matrix = refl; past = low; below = high })
+    (term3.gaps rule 0 types members 7 k).1 (shareable_7 rule) (covers_7 rule)
+    (record { steps = 1 ∷ 1 ∷ []; byte = 32; leaf = 6; place = second_column; columns = 3; rows = 3; kind = 2; width = 4; matrix = refl; past = low; below = high })
 
 -- so they stay too
 pub gap_stays : (rule : UniformRule) (buffer bytes : List ℕ) (k : ℕ) → 44 ≤ k → k < 48 → get_elem? (rewrite buffer 32 12 bytes) k ≡ get_elem? buffer k
 unfolding type_inner inner_of
-gap_stays rule buffer bytes k low high = (gaps rule 0 types members 7 k).0 (gap rule k low high) second buffer bytes
+gap_stays rule buffer bytes k low high = (term3.gaps rule 0 types members 7 k).0 (gap rule k low high) (1 ∷ 1 ∷ []) 32 6 second_column buffer bytes

@@ -5,10 +5,8 @@ use mathlib.Core.Path.{◌≡◌, refl, sym, ◌∙◌}
 use mathlib.Core.List.{List, [], ◌∷◌, ◌++◌}
 use Prim.Native.Nat.{ℕ}
 use native.Mathlib.Omega.{arith}
-use lib.Dec.{T}
-use Rattle.ir_records.specs.Record.{Decoded, decoded, inner_of, type_inner, struct_members}
-use Rattle.ir_records.specs.Fields.{tables_fit, fields_ok, record_at}
-use Rattle.ir_records.specs.BlendSource.{located_to}
+use Rattle.ir_records.specs.Record.{inner_of, type_inner, struct_members}
+use Rattle.ir_records.specs.Fields.{tables_fit, fields_ok, record_at, located_to}
 use Rattle.ir_records.specs.Table.{result_at, value_at}
 use Rattle.ir_records.specs.declared.Outcome.TheVariants.{Accepted, Refused}
 use Rattle.proc_type_methods.specs.TypeMethods.{try_size}
@@ -18,13 +16,13 @@ use Rattle.proc_layouter.specs.Layouter.{layout_outcome}
 use Rattle.valid_width.specs.Width.{integer_width, float_width, check_width}
 use Rattle.valid_type_flags.specs.TypeFlags.{leaf_flags}
 use Rattle.valid_type_info.specs.declared.UniformRule.TheVariants.{Older, Newer}
-use Rattle.valid_type_info.specs.Verdict.{alignment_in, array_verdict, share_verdict, member_verdict, distance_verdict, distance_ok, unsized_verdict, span_verdict}
+use Rattle.valid_type_info.specs.Verdict.{array_verdict, share_verdict, member_verdict, distance_verdict, distance_ok, unsized_verdict, span_verdict}
 use Rattle.valid_type_info.specs.Verdict.{previous_of}
 use Rattle.valid_member_bounds.specs.MemberBounds.{member_bounds}
 use Rattle.valid_blend.specs.Blend.{source_at, source_result, blended_after, other_location, struct_blend}
 use Rattle.valid_member_rules.specs.MemberRules.{uniform_after, storage_after, immediates_after}
 use Rattle.valid_types.specs.ValidateType.{flags_of, uniform_of, storage_of, immediates_of, row_of, judge, judge_common}
-use Rattle.valid_arena.specs.Arena.{row, judge_outcome, arena_outcome, arena}
+use Rattle.valid_arena.specs.Arena.{judge_outcome, arena_outcome, arena}
 use Rattle.valid_flags.proofs.BitLaws.{bit_or_left}
 use Rattle.place_steps.specs.Steps.{step_of}
 use Rattle.place_descent.specs.declared.Place.TheVariants.{At}

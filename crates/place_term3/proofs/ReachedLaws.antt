@@ -1,6 +1,5 @@
 -- Laws of what a type reaches in an accepted arena.
 -- Assumes nothing.
-use mathlib.Core.Path.{◌≡◌}
 use Prim.Native.Nat.{ℕ, ◌<◌}
 use native.Mathlib.Omega.{arith}
 use Rattle.ir_records.specs.Record.{Decoded}

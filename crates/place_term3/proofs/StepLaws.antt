@@ -12,10 +12,10 @@ use Rattle.ir_records.specs.Record.{Decoded, member_type, member_offset}
 use Rattle.ir_records.specs.declared.TypeInner.{TypeInner}
 use Rattle.ir_records.specs.declared.TypeInner.TheVariants.{Plain, Array, RuntimeArray, Struct, Other}
 use Rattle.proc_alignment.proofs.PowerLaws.{power_divides}
-use Rattle.proc_type_methods.specs.Columns.{leaf_column_step}
+use Rattle.proc_type_methods.specs.TypeMethods.{leaf_column_step}
 use Rattle.proc_layouter.specs.Layouter.{layout}
 use Rattle.valid_flags.specs.Flags.{bit, sized_bit, host_shareable_bit}
-use Rattle.valid_flags.proofs.BitLaws.{bit_and}
+use Rattle.valid_flags.proofs.BitLaws.{bit-and}
 use Rattle.valid_type_info.specs.declared.Verdict.{Verdict}
 use Rattle.valid_type_info.specs.declared.UniformRule.{UniformRule}
 use Rattle.valid_type_info.specs.Verdict.{min_storage, least_for, is_ok, alignment_in}
@@ -62,7 +62,7 @@ module _ (rule : UniformRule) (c : ℕ) (types : ℕ → Decoded) (n : ℕ) (acc
       → (StridesCover (row (least_for rule) c types) types t → StridesCover (row (least_for rule) c types) types base) → Stepped rule c types t base (s * stride)
   from_array t base bytes stride mask s l b a w =
       record {
-        host_shareable = λ h. (bit_and (row (least_for rule) c types base).flags mask host_shareable_bit (rw a.flags at h)).0;
+        host_shareable = λ h. (bit-and (row (least_for rule) c types base).flags mask host_shareable_bit (rw a.flags at h)).0;
         aligned = λ k.
             let q : ArrayOk min_storage stride (row (least_for rule) c types base).alignment (row (least_for rule) c types base).storage (row (least_for rule) c types t).storage =
             subst (λ (v : Verdict). ArrayOk min_storage stride (row (least_for rule) c types base).alignment (row (least_for rule) c types base).storage v) (sym a.storage)
@@ -182,7 +182,7 @@ module _ (rule : UniformRule) (c : ℕ) (types : ℕ → Decoded) (n : ℕ) (acc
   not_runtime t l (Plain leaf) e z s = tt
   not_runtime t l (Array base count stride) e z s = tt
   not_runtime t l (RuntimeArray base stride) e z s =
-      let a = runtime_array_row (least_for rule) c types n acc t l base stride e in absurd (bit_and (row (least_for rule) c types base).flags 149 sized_bit (rw a.1.flags at z)).1
+      let a = runtime_array_row (least_for rule) c types n acc t l base stride e in absurd (bit-and (row (least_for rule) c types base).flags 149 sized_bit (rw a.1.flags at z)).1
   not_runtime t l (Struct count span) e z s = tt
   not_runtime t l (Other o) e z s = tt
 

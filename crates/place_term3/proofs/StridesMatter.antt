@@ -4,12 +4,11 @@
 use mathlib.Core.Path.{◌≡◌, refl}
 use mathlib.Core.Logic.{◌≢◌}
 use mathlib.Core.List.{List, [], ◌∷◌}
-use Prim.Native.Nat.{ℕ, zero, suc, ◌+◌, ◌≤◌, ◌<◌, ◌∣◌}
+use Prim.Native.Nat.{ℕ, ◌+◌, ◌≤◌, ◌<◌}
 use native.Mathlib.Omega.{arith}
-use lib.Dec.{T}
-use Rattle.ir_records.specs.Record.{Decoded, decoded, inner_of, type_inner, struct_members}
-use Rattle.ir_records.specs.Fields.{tables_fit, fields_ok, record_at}
-use Rattle.ir_records.specs.BlendSource.{located_to}
+use lib.ListN.{get_elem?}
+use Rattle.ir_records.specs.Record.{inner_of, type_inner, struct_members}
+use Rattle.ir_records.specs.Fields.{tables_fit, fields_ok, record_at, located_to}
 use Rattle.ir_records.specs.Table.{result_at, value_at}
 use Rattle.ir_records.specs.declared.Outcome.TheVariants.{Accepted}
 use Rattle.proc_type_methods.specs.TypeMethods.{try_size}
@@ -20,17 +19,17 @@ use Rattle.valid_width.specs.Width.{integer_width, float_width, check_width}
 use Rattle.valid_type_flags.specs.TypeFlags.{leaf_flags}
 use Rattle.valid_type_info.specs.declared.UniformRule.{UniformRule}
 use Rattle.valid_type_info.specs.declared.UniformRule.TheVariants.{Older}
-use Rattle.valid_type_info.specs.Verdict.{alignment_in, array_verdict, share_verdict, member_verdict, distance_verdict, distance_ok, unsized_verdict, span_verdict}
+use Rattle.valid_type_info.specs.Verdict.{array_verdict, share_verdict, member_verdict, distance_verdict, distance_ok, unsized_verdict, span_verdict}
 use Rattle.valid_type_info.specs.Verdict.{previous_of}
 use Rattle.valid_member_bounds.specs.MemberBounds.{member_bounds}
 use Rattle.valid_blend.specs.Blend.{source_at, source_result, blended_after, other_location, struct_blend}
 use Rattle.valid_member_rules.specs.MemberRules.{uniform_after, storage_after, immediates_after}
 use Rattle.valid_types.specs.ValidateType.{flags_of, uniform_of, storage_of, immediates_of, row_of, judge, judge_common}
-use Rattle.valid_arena.specs.Arena.{row, judge_outcome, arena_outcome, arena}
+use Rattle.valid_arena.specs.Arena.{judge_outcome, arena_outcome, arena}
 use Rattle.place_descent.specs.declared.Place.TheVariants.{At}
 use Rattle.place_steps.specs.Steps.{step_of}
 use Rattle.place_descent.specs.Place.{place_of}
-use Rattle.place_term3.specs.Term3.{row_in, leaf_measure, HostShareableData, Leaf, Has, Spares, LeadsTo}
+use Rattle.place_term3.specs.Term3.{row_in, HostShareableData, rewrite, leaf_measure}
 
 abbrev types : List ℕ
 types = 1 ∷ 3 ∷ 2 ∷ 4 ∷ 0 ∷ 0 ∷ 7 ∷ 0 ∷ 0 ∷ 2 ∷ 4 ∷ 0 ∷ []
@@ -63,14 +62,14 @@ different e = let z : ◌≡◌ {A = ℕ} 0 1 = cc in omega arith
 
 Others : Type 0
 Others = (rule : UniformRule) (c : ℕ) (ts ms : List ℕ) (t : ℕ) → HostShareableData rule c ts ms t
-    → (one other : Leaf (LeadsTo ts ms t)) → one.steps ≢ other.steps
-    → (k : ℕ) → Has (leaf_measure rule c ts ms) other k → Spares (leaf_measure rule c ts ms) one k
+    → (steps steps' : List ℕ) (byte leaf byte' leaf' : ℕ)
+    → place_of ts ms t steps ≡ At byte leaf → place_of ts ms t steps' ≡ At byte' leaf' → steps ≢ steps'
+    → (buffer bytes : List ℕ) (k : ℕ) → byte' ≤ k → k < byte' + leaf_measure rule c ts ms leaf'
+    → get_elem? (rewrite buffer byte (leaf_measure rule c ts ms leaf) bytes) k ≡ get_elem? buffer k
 
 false_without : Others → ⊥
 unfolding Others type_inner inner_of
 false_without f =
-    let h = f Older 0 types [] 1 shareable
-    (record { steps = 0 ∷ []; byte = 0; ty = 0; place = first }) (record { steps = 1 ∷ []; byte = 4; ty = 0; place = second }) different
-    4 (omega arith, rw size (omega arith)) (7 ∷ 7 ∷ 7 ∷ 7 ∷ 7 ∷ []) (8 ∷ 8 ∷ 8 ∷ 8 ∷ 8 ∷ []) in
+    let h = f Older 0 types [] 1 shareable (0 ∷ []) (1 ∷ []) 0 0 4 0 first second different (7 ∷ 7 ∷ 7 ∷ 7 ∷ 7 ∷ []) (8 ∷ 8 ∷ 8 ∷ 8 ∷ 8 ∷ []) 4 (omega arith) (rw size (omega arith)) in
     let g = rw size at h in
     let z : ◌≡◌ {A = ℕ} 8 7 = cc in omega arith

@@ -9,16 +9,15 @@ use native.Mathlib.Omega.{arith}
 use Rattle.ir_records.specs.Record.{decoded, type_count}
 use Rattle.valid_type_info.specs.declared.Row.{Row}
 use Rattle.valid_type_info.specs.declared.UniformRule.{UniformRule}
-use Rattle.valid_type_info.specs.Common.{without_uniform}
+use Rattle.valid_type_info.specs.TypeInfo.{without_uniform}
 use Rattle.valid_type_info.specs.Verdict.{least_for}
 use Rattle.valid_arena.proofs.AppendLaws.{types_append}
 use Rattle.valid_arena.proofs.ArenaLaws.{accepted_types, arena_more, decoded_same, arena_row_append}
 use Rattle.valid_arena.proofs.CommonLaws.{row_common}
-use Rattle.place_term3.specs.Term3.{row_in, leaf_measure, Leaf, LeadsTo, HostShareableData, StridesCover, Term3}
-use Rattle.place_term3.specs.Gaps.{InLeaf, BetweenColumns, Gaps}
+use Rattle.place_term3.specs.Term3.{row_in, leaf_measure, InLeaf, BetweenColumns, HostShareableData, StridesCover, Term3}
 use Rattle.place_descent.specs.declared.Place.TheVariants.{At}
 use Rattle.place_descent.specs.Place.{step_in, leaf_in, place_of}
-use Rattle.place_descent.proofs.WalkLaws.{Way, way, place_found, place-from}
+use Rattle.place_descent.proofs.WalkLaws.{Way, way, place_found, place_from}
 use Rattle.place_term3.proofs.BufferLaws.{rewrite_other}
 use Rattle.place_term3.proofs.ColumnLaws.{matrix_column}
 use Rattle.place_term3.proofs.StepLaws.{place_aligned, contained, disjoint, leaf_reaches}
@@ -44,68 +43,63 @@ none_of x m k f = go (dec_le x k) (dec_lt k (x + m))
     go (yes a) (yes b) = absurd (f (a, b))
 
 -- the way to a place
-pub way_to : (ts ms : List ℕ) (t : ℕ) (leaf : Leaf (LeadsTo ts ms t)) → Way (step_in (decoded ts ms)) (leaf_in (decoded ts ms)) t 0 leaf.steps leaf.byte leaf.ty
-way_to ts ms t leaf =
-    way (step_in (decoded ts ms)) (leaf_in (decoded ts ms)) leaf.steps t 0 leaf.byte leaf.ty (place_found ts ms t leaf.steps leaf.byte leaf.ty leaf.place)
+pub way_to : (ts ms : List ℕ) (t : ℕ) (steps : List ℕ) (byte leaf : ℕ) → place_of ts ms t steps ≡ At byte leaf
+    → Way (step_in (decoded ts ms)) (leaf_in (decoded ts ms)) t 0 steps byte leaf
+way_to ts ms t steps byte leaf e = way (step_in (decoded ts ms)) (leaf_in (decoded ts ms)) steps t 0 byte leaf (place_found ts ms t steps byte leaf e)
 
 -- one list of steps leads to one place
-same_place_of : (ts ms : List ℕ) (t : ℕ) (one other : Leaf (LeadsTo ts ms t)) → one.steps ≡ other.steps → (one.byte ≡ other.byte) × (one.ty ≡ other.ty)
-same_place_of ts ms t one other s =
-    let z : At one.byte one.ty ≡ At other.byte other.ty = sym one.place ∙ ap (place_of ts ms t) s ∙ other.place in
+same_place_of : (ts ms : List ℕ) (t : ℕ) {steps steps' : List ℕ} {byte leaf byte' leaf' : ℕ} → steps ≡ steps'
+    → place_of ts ms t steps ≡ At byte leaf → place_of ts ms t steps' ≡ At byte' leaf' → (byte ≡ byte') × (leaf ≡ leaf')
+same_place_of ts ms t {steps} {steps'} {byte} {leaf} {byte'} {leaf'} s e e' =
+    let z : At byte leaf ≡ At byte' leaf' = sym e ∙ ap (place_of ts ms t) s ∙ e' in
     (cc, cc)
 
 -- no byte between columns is in a leaf
 not_in_leaf : (rule : UniformRule) (c : ℕ) (ts ms : List ℕ) (t k : ℕ) → HostShareableData rule c ts ms t → StridesCover (row_in rule c ts ms) (decoded ts ms) t
-    → BetweenColumns ts ms t k → ¬ InLeaf (LeadsTo ts ms t) (leaf_measure rule c ts ms) k
+    → BetweenColumns ts ms t k → ¬ InLeaf rule c ts ms t k
 not_in_leaf rule c ts ms t k s v b f =
     let acc = accepted_types c ts ms s.accepted in
-    let one = b.leaf in
-    let other = f.leaf in
-    let w = way_to ts ms t one in
-    let w' = way_to ts ms t other in
+    let w = way_to ts ms t b.steps b.byte b.leaf b.place in
+    let w' = way_to ts ms t f.steps f.byte f.leaf f.place in
     let m' = leaf_reaches rule c (decoded ts ms) (type_count ts) acc w' s.within in
-    let r = matrix_column (decoded ts ms one.ty).inner b.columns b.rows b.kind b.width b.matrix (row_in rule c ts ms one.ty).size in
+    let r = matrix_column (decoded ts ms b.leaf).inner b.columns b.rows b.kind b.width b.matrix (row_in rule c ts ms b.leaf).size in
     ⊎_elim
     (λ same.
-    let z = same_place_of ts ms t one other same in
+    let z = same_place_of ts ms t same b.place f.place in
     let m = ap (leaf_measure rule c ts ms) z.1 in
-    omega (arith, z.0, r.0, b.past, f.has.1))
-    (λ apart. ⊎_elim (λ h. omega (arith, r.1, b.below, f.has.0)) (λ h. omega (arith, b.past, f.has.1)) apart)
+    omega (arith, z.0, r.0, b.past, f.below))
+    (λ apart. ⊎_elim (λ h. omega (arith, r.1, b.below, f.from)) (λ h. omega (arith, b.past, f.below)) apart)
     (disjoint rule c (decoded ts ms) (type_count ts) acc w w' s.within s.host_shareable v)
-
--- 02, E6: the gaps
-pub gaps : Gaps
-gaps rule c ts ms t k = (
-  λ f leaf buffer bytes.
-      rewrite_other buffer bytes leaf.byte (leaf_measure rule c ts ms leaf.ty) k
-      (none_of leaf.byte (leaf_measure rule c ts ms leaf.ty) k (λ h. f (record { leaf = leaf; has = h }))),
-  not_in_leaf rule c ts ms t k,
-)
 
 -- term 3
 pub term3 : Term3
 term3 =
     record {
-      others = λ rule c ts ms t s v one other ne k has buffer bytes.
+      others = λ rule c ts ms t s v steps steps' byte leaf byte' leaf' e e' ne buffer bytes k lo hi.
           let acc = accepted_types c ts ms s.accepted in
-          let w = way_to ts ms t one in
-          let w' = way_to ts ms t other in
+          let w = way_to ts ms t steps byte leaf e in
+          let w' = way_to ts ms t steps' byte' leaf' e' in
           let m = leaf_reaches rule c (decoded ts ms) (type_count ts) acc w s.within in
           let m' = leaf_reaches rule c (decoded ts ms) (type_count ts) acc w' s.within in
-          rewrite_other buffer bytes one.byte (leaf_measure rule c ts ms one.ty) k
+          rewrite_other buffer bytes byte (leaf_measure rule c ts ms leaf) k
           (⊎_elim (λ same. absurd (ne same))
-          (λ apart.
-          outside one.byte (leaf_measure rule c ts ms one.ty) other.byte (leaf_measure rule c ts ms other.ty) k
-          (closer one.byte _ _ other.byte _ _ m m' apart) has.0 has.1)
+          (λ apart. outside byte (leaf_measure rule c ts ms leaf) byte' (leaf_measure rule c ts ms leaf') k (closer byte _ _ byte' _ _ m m' apart) lo hi)
           (disjoint rule c (decoded ts ms) (type_count ts) acc w w' s.within s.host_shareable v));
-      within = λ rule c ts ms t s v leaf f.
+      gaps = λ rule c ts ms t k. (
+        λ f steps byte leaf e buffer bytes.
+            rewrite_other buffer bytes byte (leaf_measure rule c ts ms leaf) k
+            (none_of byte (leaf_measure rule c ts ms leaf) k
+            (λ h. f (record { steps = steps; byte = byte; leaf = leaf; place = e; from = h.0; below = h.1 }))),
+        not_in_leaf rule c ts ms t k,
+      );
+      within = λ rule c ts ms t s v steps byte leaf e f.
           let acc = accepted_types c ts ms s.accepted in
-          let w = way_to ts ms t leaf in
+          let w = way_to ts ms t steps byte leaf e in
           let k = contained rule c (decoded ts ms) (type_count ts) acc w s.within v f in
           let m = leaf_reaches rule c (decoded ts ms) (type_count ts) acc w s.within in
           omega arith;
-      aligned = λ rule c ts ms t s k leaf.
-          place_aligned rule c (decoded ts ms) (type_count ts) (accepted_types c ts ms s.accepted) s.within k (way_to ts ms t leaf);
+      aligned = λ rule c ts ms t s k steps byte leaf e.
+          place_aligned rule c (decoded ts ms) (type_count ts) (accepted_types c ts ms s.accepted) s.within k (way_to ts ms t steps byte leaf e);
       accepted = arena_more;
       kept = λ rule rule' c d adds ts ms ts' ms' a a' t h.
           let r : without_uniform (row_in rule c ts ms t) ≡ without_uniform (row_in rule' d (ts ++ ts') (ms ++ ms') t) =
@@ -117,8 +111,8 @@ term3 =
             ap (λ (x : Row). x.flags) r,
             ap (λ (x : Row). x.storage) r,
             λ steps.
-                place-from ts ms t h steps
+                place_from ts ms t h steps
                 ∙ same_place c (decoded ts ms) (decoded (ts ++ ts') (ms ++ ms')) (type_count ts) (accepted_types c ts ms a) (decoded_same c ts ms ts' ms' a) steps t 0 h
-                ∙ sym (place-from (ts ++ ts') (ms ++ ms') t l steps),
+                ∙ sym (place_from (ts ++ ts') (ms ++ ms') t l steps),
           );
     }

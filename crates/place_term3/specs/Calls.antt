@@ -1,24 +1,21 @@
 -- Term 3 said of the calls: of the words that `check` leaves in the lent rows, and of what `lookup` answers.
 -- Assumes nothing.
-use Rattle.std.specs.Prelude.{◌≡◌, ◌≢◌, List, ℕ, ◌<◌, T}
+use Rattle.std.specs.Prelude.{◌≡◌, ◌≢◌, List, ℕ, ◌+◌, ◌≤◌, ◌<◌, T}
+use Rattle.std.proofs.Math.ListN.{get_elem?}
 use Rattle.ir_records.specs.Record.{decoded, type_count}
 use Rattle.ir_records.specs.declared.Outcome.TheVariants.{Accepted}
 use Rattle.ir_rows.specs.Rows.{row_word}
 use Rattle.valid_flags.specs.Flags.{bit, data_bit, host_shareable_bit}
 use Rattle.valid_type_info.specs.declared.UniformRule.{UniformRule}
-use Rattle.valid_type_info.specs.Serving.{rows_in}
+use Rattle.valid_type_info.specs.TypeInfo.{rows_in}
 use Rattle.valid_arena.specs.Arena.{arena_answer, arena_words}
 use Rattle.place_lookup.specs.declared.PlaceAnswer.TheVariants.{Found}
 use Rattle.place_lookup.specs.Place.{lookup_answer}
-use Rattle.place_term3.specs.Term3.{length_in, StridesCover, Leaf, Has, Spares}
+use Rattle.place_term3.specs.Term3.{length_in, StridesCover, rewrite}
 
 -- a leaf's bytes, by the words that stand for its type
 abbrev pub leaf_left : (ts ms words : List ℕ) → (leaf : ℕ) → ℕ
 leaf_left ts ms words leaf = length_in (decoded ts ms leaf).inner (row_word words leaf 0)
-
--- `lookup`, with the rows `lent`, answers for the steps from type t with a byte place and a leaf's type
-abbrev pub FoundWith : (lent : List ℕ) (c : ℕ) (ts ms : List ℕ) (t : ℕ) → (steps : List ℕ) (byte ty : ℕ) → Type 0
-FoundWith lent c ts ms t steps byte ty = lookup_answer c ts ms lent t steps ≡ Found byte ty
 
 -- `check`, by either uniform rule, accepts the tables, and word 14t + 2 of what it leaves has DATA and HOST_SHAREABLE
 pub record ShareableLeft (rule : UniformRule) (c : ℕ) (ts ms rows : List ℕ) (t : ℕ) : Type 0 where
@@ -32,5 +29,7 @@ pub record ShareableLeft (rule : UniformRule) (c : ℕ) (ts ms rows : List ℕ) 
 abbrev pub CallsSpare : Type 0
 CallsSpare =
     (rule : UniformRule) (c : ℕ) (ts ms rows : List ℕ) (t : ℕ) → ShareableLeft rule c ts ms rows t → StridesCover (rows_in (arena_words rule c ts ms rows)) (decoded ts ms) t
-    → (lent lent' : List ℕ) (one : Leaf (FoundWith lent c ts ms t)) (other : Leaf (FoundWith lent' c ts ms t)) → one.steps ≢ other.steps
-    → (k : ℕ) → Has (leaf_left ts ms (arena_words rule c ts ms rows)) other k → Spares (leaf_left ts ms (arena_words rule c ts ms rows)) one k
+    → (lent lent' steps steps' : List ℕ) (byte leaf byte' leaf' : ℕ)
+    → lookup_answer c ts ms lent t steps ≡ Found byte leaf → lookup_answer c ts ms lent' t steps' ≡ Found byte' leaf' → steps ≢ steps'
+    → (buffer bytes : List ℕ) (k : ℕ) → byte' ≤ k → k < byte' + leaf_left ts ms (arena_words rule c ts ms rows) leaf'
+    → get_elem? (rewrite buffer byte (leaf_left ts ms (arena_words rule c ts ms rows) leaf) bytes) k ≡ get_elem? buffer k

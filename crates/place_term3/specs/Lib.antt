@@ -1,3 +1,2 @@
 pub mod Term3
-pub mod Gaps
 pub mod Calls

@@ -1,13 +1,12 @@
 -- A number that shares no binary digit with the number before it is a power of two, and the number before it masks its remainders.
 -- Assumes nothing.
-use Rattle.std.proofs.Common.{◌≡◌, ℕ, zero, suc, ◌+◌, ◌-◌, ◌*◌, ◌/◌, ◌%◌, ◌^◌, ◌<◌, ◌≤◌, min, Bool, true, false, ◌&&◌, T, eqb, ltb, ◌⊎◌, sym, refl, ap, ◌∙◌, subst, inl, inr, pow-suc, arith, le-ltb, lt-ltb, ne_eqb, eqb-true}
+use Rattle.std.proofs.Common.{◌≡◌, ℕ, zero, suc, ◌+◌, ◌-◌, ◌/◌, ◌%◌, ◌^◌, ◌<◌, ◌≤◌, Bool, true, false, ◌&&◌, T, eqb, ltb, ◌⊎◌, refl, ap, inl, inr, pow-suc, arith, le-ltb, lt-ltb, ne_eqb, eqb-true}
 use native.Mathlib.Nat.{mod-zero}
 use native.Mathlib.Decide.{dec_le}
 use lib.Arith.{bin_ind}
 use lib.Bits.{bit_and, and_step, and_self, and_mask, and_zero_l}
 use Rattle.ir_records.specs.Result.{pick}
-use Rattle.proc_alignment.specs.Alignment.{Power, is_aligned, power_of_two}
-use Rattle.proc_alignment.specs.Serving.{is_mask}
+use Rattle.proc_alignment.specs.Alignment.{Power, is_mask, is_aligned, power_of_two}
 use Rattle.proc_alignment.proofs.Finite.{all, holds, same, same_eq}
 
 parity : (n : ℕ) → (n % 2 ≡ 0) ⊎ (n % 2 ≡ 1)

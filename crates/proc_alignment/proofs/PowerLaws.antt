@@ -1,6 +1,6 @@
 -- Laws of powers of two: the larger of two is one of them, products are ones, and the smaller divides the larger.
 -- Assumes nothing.
-use Rattle.std.proofs.Common.{◌≡◌, ℕ, zero, suc, ◌+◌, ◌-◌, ◌*◌, ◌%◌, ◌^◌, ◌<◌, ◌≤◌, max, Bool, true, false, ◌||◌, T, eqb, ◌⊎◌, sym, refl, ap, ◌∙◌, subst, inl, inr, le_trans, mul-le-mul_right, mul-le-mul_left, arith, eqb→eq, pow_pos, pow-add}
+use Rattle.std.proofs.Common.{◌≡◌, ℕ, suc, ◌+◌, ◌-◌, ◌*◌, ◌%◌, ◌^◌, ◌<◌, ◌≤◌, max, Bool, true, false, ◌||◌, T, eqb, ◌⊎◌, sym, ap, ◌∙◌, subst, inl, inr, le_trans, mul-le-mul_right, mul-le-mul_left, arith, eqb→eq, pow_pos, pow-add}
 use Prim.Native.Nat.{◌∣◌}
 use native.Mathlib.Nat.{dvd-mul_left, dvd_of_mod-eq-zero, max-eq_left, max-eq_right}
 use native.Mathlib.Decide.{dec_le}

@@ -1,12 +1,11 @@
 -- Laws of roundUp: it gives the next multiple; and where it leaves 32 bits.
 -- Assumes nothing.
-use Rattle.std.proofs.Common.{◌≡◌, ℕ, ◌+◌, ◌*◌, ◌/◌, ◌%◌, ◌<◌, ◌≤◌, true, false, leb, sym, ◌∙◌, mod-lt, add-mul, one-mul, div-add-mod', arith, eq-eqb, ne_eqb, le-leb}
+use Rattle.std.proofs.Common.{◌≡◌, ℕ, ◌+◌, ◌/◌, ◌%◌, ◌<◌, ◌≤◌, true, false, leb, sym, ◌∙◌, mod-lt, add-mul, one-mul, div-add-mod', arith, eq-eqb, ne_eqb, le-leb}
 use Prim.Native.Nat.{◌∣◌}
 use native.Mathlib.Nat.{dvd-mul_left}
 use native.Mathlib.Decide.{ℕ_discrete, dec_le}
 use borrow.Author.Tests.{lt-leb}
-use Rattle.proc_alignment.specs.Alignment.{most}
-use Rattle.proc_alignment.specs.RoundUp.{divide, ceiling, round_up}
+use Rattle.proc_alignment.specs.Alignment.{divide, ceiling, round_up, most}
 
 module _ (k n : ℕ) (positive : 1 ≤ k) where
   -- it gives a multiple of k

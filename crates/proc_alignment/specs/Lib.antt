@@ -1,3 +1,1 @@
 pub mod Alignment
-pub mod RoundUp
-pub mod Serving

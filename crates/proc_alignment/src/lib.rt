@@ -1,8 +1,8 @@
 // Alignment of naga's proc/layouter.rs, carried as its number.
+#![tactic(auto)]
+
 ghost use Rattle.std.specs.Prelude.{◌≡◌, ◌*◌, max, ◌&&◌};
-ghost use Rattle.proc_alignment.specs.Alignment.{power_of_two, vector_alignment, is_aligned};
-ghost use Rattle.proc_alignment.specs.Serving.{is_mask};
-ghost use Rattle.proc_alignment.specs.RoundUp.{divide, ceiling};
+ghost use Rattle.proc_alignment.specs.Alignment.{power_of_two, is_mask, vector_alignment, is_aligned, divide, ceiling};
 
 // The largest number of 32 bits.
 pub const MOST: u64 = 4294967295;

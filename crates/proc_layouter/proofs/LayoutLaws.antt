@@ -9,8 +9,7 @@ use native.Mathlib.Decide.{dec_le}
 use lib.ListN.{length, get_or, take, drop, get_or-eq_default}
 use Rattle.ir_records.specs.Result.{Result, ok, require, and_then}
 use Rattle.ir_records.specs.Record.{decoded, member_count, type_count, type_word, type_inner, struct_members}
-use Rattle.ir_records.specs.Fields.{row_words, fields_ok, base_within, record_at}
-use Rattle.ir_records.specs.BlendSource.{sources_located}
+use Rattle.ir_records.specs.Fields.{row_words, fields_ok, base_within, sources_located, record_at}
 use Rattle.ir_records.specs.Table.{table, result_at, outcome_at, also, first_refusal, flat}
 use Rattle.ir_records.specs.declared.Outcome.{Outcome}
 use Rattle.ir_records.specs.declared.Outcome.TheVariants.{Accepted, Refused}
@@ -24,8 +23,8 @@ use Rattle.proc_type_alignment.specs.Serving.{layouts_in}
 use Rattle.proc_type_layout.specs.declared.Laid.{Laid}
 use Rattle.proc_type_layout.specs.declared.Laid.TheVariants as laid
 use Rattle.proc_type_layout.specs.Serving.{record_layout, laid_result}
-use Rattle.proc_layouter.specs.Layouter.{no_layout, layout_step, layout_at, layout, layout_outcome, layout_row_at}
-use Rattle.proc_layouter.specs.Serving.{record_then_layout, words_after, rows_after}
+use Rattle.proc_layouter.specs.Layouter.{no_layout, layout_step, layout_at, layout, layout_outcome, layout_row_at, rows_after}
+use Rattle.proc_layouter.specs.Serving.{record_then_layout, words_after}
 
 -- the tests of numbers 2 and 3 and then the rest, apart or in one
 all_required : (located two three : Bool) (rest : Result TypeLayout)

@@ -1,3 +1,2 @@
-pub mod LentRows
 pub mod Layouter
 pub mod Serving

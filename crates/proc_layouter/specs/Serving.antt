@@ -3,14 +3,13 @@
 use Rattle.std.specs.Prelude.{List, ℕ}
 use Rattle.ir_records.specs.Result.{Result, and_then}
 use Rattle.ir_records.specs.Record.{decoded}
-use Rattle.ir_records.specs.Fields.{row_words, record_at}
-use Rattle.ir_records.specs.declared.Outcome.{Outcome}
+use Rattle.ir_records.specs.Fields.{record_at}
+use Rattle.ir_records.specs.declared.Outcome.TheVariants.{Refused}
 use Rattle.ir_rows.specs.Rows.{layout_row}
 use Rattle.ir_rows.specs.Serving.{with_row}
 use Rattle.proc_type_alignment.specs.declared.TypeLayout.{TypeLayout}
 use Rattle.proc_type_layout.specs.declared.Laid.{Laid}
 use Rattle.proc_type_layout.specs.declared.Laid.TheVariants as laid
-use Rattle.proc_layouter.specs.LentRows.{filled_or_zero}
 use Rattle.proc_layouter.specs.Layouter.{layout_at}
 
 -- numbers 2 to 7 of type i in one, in the order of one type
@@ -21,7 +20,3 @@ record_then_layout ts ms i = and_then (record_at ts ms i) (λ _. layout_at (deco
 abbrev pub words_after : Laid → (at : ℕ) → List ℕ → List ℕ
 words_after (laid.Layout l) at words = with_row words at (layout_row l.size l.alignment)
 words_after (laid.Refused number member) at words = words
-
--- the rule for lent words, of the rows of n types
-abbrev pub rows_after : Outcome → (rows : List ℕ) (n : ℕ) → (lent : List ℕ) → List ℕ
-rows_after = filled_or_zero row_words

@@ -1,11 +1,13 @@
 // Layouts: Layouter::update of naga's proc/layouter.rs, over lent rows.
+#![tactic(auto)]
+
 ghost use Rattle.std.specs.Prelude.{◌≡◌, ◌+◌, ◌*◌, ◌≤◌, ◌<◌, length, take};
 ghost use Rattle.ir_records.specs.Record.{type_count};
 ghost use Rattle.ir_records.specs.Table.{also, first_refusal};
 ghost use Rattle.proc_type_alignment.specs.Serving.{layouts_in};
 ghost use Rattle.proc_type_layout.specs.Serving.{record_layout, laid_result};
-ghost use Rattle.proc_layouter.specs.Layouter.{layout_rows, layout_outcome, layout_answer, layout_words};
-ghost use Rattle.proc_layouter.specs.Serving.{words_after, record_then_layout, rows_after};
+ghost use Rattle.proc_layouter.specs.Layouter.{layout_rows, rows_after, layout_outcome, layout_answer, layout_words};
+ghost use Rattle.proc_layouter.specs.Serving.{words_after, record_then_layout};
 
 use ir_records::Outcome;
 use proc_type_layout::Laid;

@@ -11,8 +11,7 @@ use Rattle.ir_records.specs.declared.Leaf.{Leaf}
 use Rattle.ir_records.specs.declared.Leaf.TheVariants.{Scalar, Vector, Matrix}
 use Rattle.ir_records.specs.declared.TypeInner.TheVariants.{Plain}
 use Rattle.proc_alignment.specs.Alignment.{power_of_two}
-use Rattle.proc_type_methods.specs.TypeMethods.{leaf_size, try_size}
-use Rattle.proc_type_methods.specs.Columns.{leaf_column_step}
+use Rattle.proc_type_methods.specs.TypeMethods.{leaf_size, leaf_column_step, try_size}
 use Rattle.proc_type_alignment.specs.declared.TypeLayout.{TypeLayout}
 use Rattle.proc_type_alignment.specs.TypeAlignment.{leaf_width, leaf_factor, alignment_of}
 use Rattle.proc_type_layout.specs.TypeLayout.{layout_of}

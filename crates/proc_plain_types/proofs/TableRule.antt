@@ -9,8 +9,7 @@ use lib.ListN.{get_or}
 use Rattle.ir_records.specs.declared.Leaf.{Leaf}
 use Rattle.ir_records.proofs.ResultLaws.{and_left, and_right}
 use Rattle.proc_alignment.proofs.Finite.{all, holds}
-use Rattle.proc_type_methods.specs.TypeMethods.{leaf_size}
-use Rattle.proc_type_methods.specs.Columns.{leaf_column_step}
+use Rattle.proc_type_methods.specs.TypeMethods.{leaf_size, leaf_column_step}
 use Rattle.proc_type_alignment.specs.TypeAlignment.{leaf_width, leaf_factor}
 use Rattle.proc_plain_types.specs.PlainTypes.{leaf_with, worked_out}
 use Rattle.proc_plain_types.specs.Serving.{entry_in}

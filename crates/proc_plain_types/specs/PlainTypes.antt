@@ -4,8 +4,7 @@ use Rattle.std.specs.Prelude.{Bool, ◌&&◌, ◌||◌, ℕ, ◌+◌, ◌-◌, �
 use Rattle.ir_records.specs.Result.{pick}
 use Rattle.ir_records.specs.declared.Leaf.{Leaf}
 use Rattle.ir_records.specs.declared.Leaf.TheVariants.{Scalar, Vector, Matrix}
-use Rattle.proc_type_methods.specs.TypeMethods.{leaf_size}
-use Rattle.proc_type_methods.specs.Columns.{leaf_column_step}
+use Rattle.proc_type_methods.specs.TypeMethods.{leaf_size, leaf_column_step}
 use Rattle.proc_type_alignment.specs.TypeAlignment.{leaf_width, leaf_factor}
 use Rattle.proc_plain_types.specs.declared.PlainAnswer.{PlainAnswer}
 use Rattle.proc_plain_types.specs.declared.PlainAnswer.TheVariants.{Found, Refused}

@@ -1,10 +1,12 @@
 // Plain types from a table: size, alignment and column step of 13 shapes at widths 1, 2, 4 and 8. Number 2.
+#![tactic(auto)]
+
 ghost use Rattle.std.specs.Prelude.{◌≡◌, ℕ, ◌^◌, ◌<◌};
 ghost use Rattle.proc_plain_types.specs.declared.PlainAnswer.TheVariants.{Refused};
 ghost use Rattle.proc_plain_types.specs.PlainTypes.{leaf_with, worked_out, plain_answer};
 ghost use Rattle.proc_plain_types.specs.Serving.{entry_in};
 
-#[derive(Drop)]
+#[derive(Clone, Copy)]
 pub enum PlainAnswer {
     Found {
         size: u32,

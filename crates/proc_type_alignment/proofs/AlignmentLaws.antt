@@ -2,16 +2,14 @@
 -- Assumes nothing.
 use mathlib.Core.Path.{◌≡◌}
 use mathlib.Core.List.{List}
-use Prim.Native.Nat.{ℕ, suc, ◌+◌, ◌≤◌, ◌<◌, max}
+use Prim.Native.Nat.{ℕ, ◌+◌, ◌≤◌, ◌<◌, max}
 use native.Mathlib.Omega.{arith}
 use native.Mathlib.Numerals.{add-one}
-use native.Mathlib.Decide.{le_ind, dec_le, ℕ_discrete}
+use native.Mathlib.Decide.{le_ind, ℕ_discrete}
 use lib.Bits.{bit_or, or_add_and, and_le_l, and_le_r}
 use borrow.Author.Tests.{lt-ltb, le-ltb}
 use Rattle.ir_records.specs.Result.{err, ok}
-use Rattle.ir_records.specs.Record.{member_type}
-use Rattle.ir_records.specs.Serving.{Sourceless}
-use Rattle.ir_records.specs.BlendSource.{member_source}
+use Rattle.ir_records.specs.Record.{member_type, member_source, Sourceless}
 use Rattle.proc_alignment.specs.Alignment.{vector_alignment}
 use Rattle.proc_alignment.proofs.PowerLaws.{vector_within}
 use Rattle.proc_type_alignment.specs.declared.TypeLayout.{TypeLayout}
@@ -36,24 +34,6 @@ one_more_sourceless part j sources before e k h = go (ℕ_discrete k j)
     go : Dec (k ≡ j) → member_source part k ≡ 0
     go (yes q) = rw q none.1
     go (no q) = before none.0 k (omega (arith, h))
-
--- all members before two late ones are earlier: they are the same
-pub first_alone : (part : List ℕ) (i j k : ℕ) → ((m : ℕ) → m < j → member_type part m < i) → i ≤ member_type part j
-    → ((m : ℕ) → m < k → member_type part m < i) → i ≤ member_type part k → j ≡ k
-first_alone part i j k before-j late-j before-k late-k = go (dec_le (suc j) k) (dec_le (suc k) j)
-  where
-    go : Dec (j < k) → Dec (k < j) → j ≡ k
-    go (yes h) q = absurd (omega (arith, before-k j h, late-j))
-    go (no h) (yes q) = absurd (omega (arith, before-j k q, late-k))
-    go (no h) (no q) = omega (arith, h, q)
-
-pub one_more_earlier : (part : List ℕ) (i j : ℕ) → ((m : ℕ) → m < j → member_type part m < i) → member_type part j < i
-    → (k : ℕ) → k < j + 1 → member_type part k < i
-one_more_earlier part i j before here k h = go (ℕ_discrete k j)
-  where
-    go : Dec (k ≡ j) → member_type part k < i
-    go (yes q) = rw q here
-    go (no q) = before k (omega (arith, h))
 
 module _ (layouts : ℕ → TypeLayout) (i : ℕ) (part : List ℕ) (j a : ℕ) (so_far : members_alignment layouts i part j ≡ ok a) where
   pub member_earlier : member_type part j < i → members_alignment layouts i part (j + 1) ≡ ok (max a (layouts (member_type part j)).alignment)

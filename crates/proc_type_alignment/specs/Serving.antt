@@ -2,9 +2,8 @@
 -- Assumes nothing.
 use Rattle.std.specs.Prelude.{false, List, ◌≡◌, ℕ}
 use Rattle.ir_records.specs.Result.{Result, err, ok, require}
-use Rattle.ir_records.specs.Record.{member_count}
-use Rattle.ir_records.specs.Serving.{Sourceless}
-use Rattle.ir_records.specs.BlendSource.{sources_located}
+use Rattle.ir_records.specs.Record.{member_count, Sourceless}
+use Rattle.ir_records.specs.Fields.{sources_located}
 use Rattle.ir_rows.specs.Rows.{row_word}
 use Rattle.proc_type_alignment.specs.declared.TypeLayout.{TypeLayout}
 use Rattle.proc_type_alignment.specs.declared.Aligned.{Aligned}

@@ -1,27 +1,28 @@
 // The alignment of one type, from the rows of the types before it, as in Layouter::update of naga's proc/layouter.rs; numbers 5 to 7.
-ghost use Rattle.std.specs.Prelude.{◌≡◌, ℕ, ◌*◌, ◌≤◌, ◌<◌, length};
+#![tactic(auto)]
+
+ghost use Rattle.std.specs.Prelude.{◌≡◌, ◌*◌, ◌≤◌, length};
 ghost use Rattle.ir_records.specs.Result.{err, ok, require};
-ghost use Rattle.ir_records.specs.Record.{member_words, member_count, member_type};
-ghost use Rattle.ir_records.specs.Serving.{Sourceless};
-ghost use Rattle.ir_records.specs.BlendSource.{sources_located};
+ghost use Rattle.ir_records.specs.Record.{member_words, member_count, Sourceless};
+ghost use Rattle.ir_records.specs.Fields.{sources_located};
 ghost use Rattle.proc_type_alignment.specs.TypeAlignment.{width_alignment, base_alignment};
 ghost use Rattle.proc_type_alignment.specs.Serving.{struct_alignment, layouts_in, aligned_result, located_result, SourcesTold};
 
 // naga's TypeLayout.
-#[derive(Drop)]
+#[derive(Clone, Copy)]
 pub struct TypeLayout {
     pub size: u32,
     pub alignment: u32,
 }
 
-#[derive(Drop)]
+#[derive(Clone, Copy)]
 pub enum Aligned {
     To(u32),
     Refused { number: u32, member: u32 },
 }
 
 // The alignment of a struct, and whether one of its members has a blend source.
-#[derive(Drop)]
+#[derive(Clone, Copy)]
 pub enum Located {
     To { alignment: u32, sourced: bool },
     Refused { number: u32, member: u32 },
@@ -56,21 +57,6 @@ pub fn base_alignment(rows: &[u32], i: u32, base: u32) -> Aligned
             member: 0,
         }
     }
-}
-
-// The first member that is no earlier type, looked for again: a loop that answers no position takes fewer instructions a member.
-fn first_late(i: u32, part: &[u32], count: u32) -> u32
-    requires { length part.now ≡ count * member_words }
-    ensures { (j : ℕ) → j < count → ((k : ℕ) → k < j → member_type part.now k < i) → i ≤ member_type part.now j → result ≡ j }
-{
-    let mut j: u32 = 0;
-    while j < count {
-        if i <= ir_records::own_type(part, j as usize) {
-            return j;
-        }
-        j += 1;
-    }
-    0
 }
 
 // Number 6 of member j, or number 2 of the rows, which comes first.
@@ -129,7 +115,7 @@ pub fn members_alignment(rows: &[u32], i: u32, part: &[u32], count: u32) -> Loca
     while j < end {
         let ty = ir_records::own_type(part, j);
         if i <= ty {
-            return late_member(part, first_late(i, part, count));
+            return late_member(part, j as u32);
         }
         a = proc_alignment::larger(a, ir_rows::own_word(rows, ty, ir_rows::ALIGNMENT));
         sources = sources | ir_records::own_source(part, j);

@@ -12,8 +12,7 @@ use borrow.Author.Tests.{ne_eqb}
 use Rattle.ir_records.specs.Result.{err, pick, require, and_then}
 use Rattle.ir_records.specs.Record.{member_words, member_count, type_count, type_word, struct_kind, struct_members, inner_of}
 use Rattle.ir_records.specs.Serving.{record_words}
-use Rattle.ir_records.specs.Fields.{fields_ok}
-use Rattle.ir_records.specs.BlendSource.{sources_located}
+use Rattle.ir_records.specs.Fields.{fields_ok, sources_located}
 use Rattle.ir_records.specs.Serving.{InnerBounds}
 use Rattle.ir_records.specs.declared.Words.{Words}
 use Rattle.ir_records.specs.declared.TypeInner.TheVariants.{Array, RuntimeArray}

@@ -3,8 +3,7 @@
 use Rattle.std.specs.Prelude.{List, ℕ}
 use Rattle.ir_records.specs.Result.{Result, err, ok, require}
 use Rattle.ir_records.specs.Record.{member_count, type_count, type_word, inner_of, struct_members}
-use Rattle.ir_records.specs.Fields.{fields_ok, base_within}
-use Rattle.ir_records.specs.BlendSource.{sources_located}
+use Rattle.ir_records.specs.Fields.{fields_ok, base_within, sources_located}
 use Rattle.proc_type_alignment.specs.declared.TypeLayout.{TypeLayout}
 use Rattle.proc_type_layout.specs.declared.Laid.{Laid}
 use Rattle.proc_type_layout.specs.declared.Laid.TheVariants as laid

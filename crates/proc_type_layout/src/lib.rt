@@ -1,7 +1,9 @@
 // The layout of one type, from the rows of the types before it, as in Layouter::update of naga's proc/layouter.rs; numbers 2 to 7.
+#![tactic(auto)]
+
 ghost use Rattle.std.specs.Prelude.{◌≡◌, List, ℕ, ◌+◌, ◌*◌, ◌≤◌, ◌<◌, length, take, drop};
 ghost use Rattle.ir_records.specs.Result.{err, ok, require, and_then};
-ghost use Rattle.ir_records.specs.BlendSource.{sources_located};
+ghost use Rattle.ir_records.specs.Fields.{sources_located};
 ghost use Rattle.ir_records.specs.Record.{scalar_kind, vector_kind, matrix_kind, cooperative_matrix_kind, array_kind, struct_kind, member_words, member_count};
 ghost use Rattle.proc_type_methods.specs.Serving.{size_by_form};
 ghost use Rattle.proc_type_alignment.specs.declared.TypeLayout as layout;
@@ -13,7 +15,7 @@ ghost use Rattle.proc_type_layout.specs.Serving.{words_layout, record_layout, la
 use proc_type_alignment::{Aligned, TypeLayout};
 use proc_type_methods::Size;
 
-#[derive(Drop)]
+#[derive(Clone, Copy)]
 pub enum Laid {
     Layout(TypeLayout),
     Refused { number: u32, member: u32 },

@@ -1,3 +1,2 @@
 pub mod TypeMethods
-pub mod Columns
 pub mod Serving

@@ -27,6 +27,15 @@ leaf_size (CooperativeMatrix columns rows kind width role) = columns * rows * wi
 leaf_size (Atomic kind width) = width
 leaf_size (RayQuery vertexReturn) = 0
 
+-- the column step of a leaf; 0 for what has no columns. A cooperative matrix is one whole
+abbrev pub leaf_column_step : Leaf → ℕ
+leaf_column_step (Scalar kind width) = 0
+leaf_column_step (Vector size kind width) = 0
+leaf_column_step (Matrix columns rows kind width) = column_step rows width
+leaf_column_step (CooperativeMatrix columns rows kind width role) = 0
+leaf_column_step (Atomic kind width) = 0
+leaf_column_step (RayQuery vertexReturn) = 0
+
 -- pointers measure 4, handles 0
 abbrev pub non_data_size : NonData → ℕ
 non_data_size (Pointer base space) = 4

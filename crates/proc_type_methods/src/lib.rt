@@ -1,4 +1,6 @@
 // Sizes: try_size of naga's proc/type_methods.rs.
+#![tactic(auto)]
+
 ghost use Rattle.std.specs.Prelude.{◌≡◌, ◌*◌, ◌≤◌};
 ghost use Rattle.ir_records.specs.Serving.{LeafBounds, InnerBounds};
 ghost use Rattle.proc_type_methods.specs.TypeMethods.{column_step, leaf_size, non_data_size, array_size, runtime_array_size, try_size};
@@ -7,7 +9,7 @@ ghost use Rattle.proc_type_methods.specs.Serving.{size_by_form, size_result};
 use ir_records::{Leaf, NonData, TypeInner};
 
 // Number 4 is TooLarge.
-#[derive(Drop)]
+#[derive(Clone, Copy)]
 pub enum Size {
     Bytes(u32),
     TooLarge,

@@ -1,4 +1,6 @@
 // The numbers after a command, read one by one.
+#![tactic(auto)]
+
 ghost use Rattle.std.specs.Prelude.{◌≡◌, ◌≤◌, length, drop};
 ghost use Rattle.program_words.specs.Words.{words};
 ghost use Rattle.program_arguments.specs.Arguments.{numbers_of};
@@ -6,7 +8,7 @@ ghost use Rattle.program_arguments.specs.Serving.{numbers_in, count_of, NumberAt
 
 use program_words::{Number, Word};
 
-#[derive(Drop)]
+#[derive(Clone, Copy)]
 pub enum Command {
     Capabilities,
     Rule,
@@ -32,7 +34,7 @@ pub enum Command {
 }
 
 // Why a line cannot be read. A word is named by its number in the line, from 1.
-#[derive(Drop)]
+#[derive(Clone, Copy)]
 pub enum Reason {
     NotANumber(u32),
     TooLarge(u32),
@@ -45,7 +47,7 @@ pub enum Reason {
 }
 
 // The next number of a text, and where it ends.
-#[derive(Drop)]
+#[derive(Clone, Copy)]
 pub enum Next {
     End,
     Value { value: u32, end: usize },
@@ -54,7 +56,7 @@ pub enum Next {
 }
 
 // How many numbers were read.
-#[derive(Drop)]
+#[derive(Clone, Copy)]
 pub enum Count {
     Numbers(u32),
     Wrong(Reason),

@@ -1,7 +1,12 @@
 -- Words stored one after the other.
 -- Assumes nothing.
-use Rattle.std.proofs.Common.{◌≡◌, ℕ, suc, ◌+◌, ◌<◌, List, [], ◌∷◌, ◌++◌, length, get_or, take, set, sym, refl, ap, ◌∙◌, add-one, arith, length-take-le, take-suc}
-use lib.Seq.{sets}
+use mathlib.Core.Path.{◌≡◌, ◌∙◌, ap}
+use mathlib.Core.List.{List, [], ◌∷◌, ◌++◌}
+use Prim.Native.Nat.{ℕ, suc, ◌+◌, ◌<◌}
+use native.Mathlib.Numerals.{add-one}
+use native.Mathlib.Omega.{arith}
+use lib.ListN.{length, get_or, take, set}
+use lib.Seq.{sets, take-suc, length-take-le}
 
 sets_last : (xs l : List ℕ) (at a : ℕ) → sets l at (xs ++ (a ∷ [])) ≡ set (sets l at xs) (at + length xs) a
 sets_last [] l at a = let e : at ≡ at + 0 = omega arith in ap (λ (k : ℕ). set l k a) e

@@ -1,12 +1,13 @@
 // The state of a session, and what the lines that ask for no answer do to it.
-ghost use Rattle.std.specs.Prelude.{◌≡◌, ◌+◌, ◌≤◌, length};
+#![tactic(auto)]
+
+ghost use Rattle.std.specs.Prelude.{◌≡◌, Bool, ◌+◌, ◌≤◌, length};
 ghost use Rattle.std.proofs.lemmas.List.Edits.{sets};
-ghost use Rattle.program_commands.specs.Commands.{started, part_of, types_held, rows_held, held_after, type_added, with_type, member_added, with_member, stopped_by, cleared, changed, arena_after, next_line, ending};
-ghost use Rattle.program_output.specs.Bytes.{Puts};
+ghost use Rattle.program_commands.specs.Commands.{started, part_of, types_held, rows_held, held_after, type_added, with_type, member_added, with_member, stopped_by, cleared, changed, arena_after, after_write};
 
 use immediates_pass::Pass;
 use program_arguments::Reason;
-use program_lines::Change;
+use program_lines::Line;
 use program_output::Buffer;
 
 // The arena is one run of words: the types from its start on, the members from here on.
@@ -19,7 +20,7 @@ pub type Arena = [u32; ARENA_WORDS];
 // The rows of a full arena. The session keeps them from line to line.
 pub type Rows = [u32; 14336];
 
-#[derive(Drop)]
+#[derive(Clone, Copy)]
 pub struct Session {
     pub capabilities: u32,
     // The uniform rule as a word.
@@ -31,7 +32,11 @@ pub struct Session {
     pub pass: Pass,
     // The number of the line.
     pub line: u64,
-    // Why the session stops, by the number of a line of the text in `program_output::put_why`; 0 while it goes on.
+    // How many bytes of answers wait to be written.
+    pub waiting: usize,
+    // How many bytes of the input wait for the end of their line.
+    pub held: usize,
+    // Why the session stops: how the last read ended, or the number of a line of the text in `program_output::put_why`.
     pub why: u32,
     // The number of the word that is wrong, or 0.
     pub word: u32,
@@ -48,6 +53,8 @@ pub fn start() -> Session
         members: MEMBERS_AT,
         pass,
         line: 1,
+        waiting: 0,
+        held: 0,
         why: program_input::MORE,
         word: 0,
     }
@@ -144,8 +151,7 @@ fn add_member(mut s: Session, arena: &mut Arena, words: &[u32]) -> Session
     s
 }
 
-// A line that cannot be read.
-pub fn stop(mut s: Session, reason: Reason) -> Session
+fn stop(mut s: Session, reason: Reason) -> Session
     ensures { result ≡ stopped_by reason s }
 {
     match reason {
@@ -188,20 +194,22 @@ fn clear(mut s: Session) -> Session
     s
 }
 
-pub fn change(line: Change, mut s: Session, arena: &mut Arena) -> Session
+// A line that asks for an answer leaves the session as it is.
+pub fn change(line: Line, mut s: Session, arena: &mut Arena) -> Session
     ensures value { result ≡ changed line s }
     ensures arena_after { arena.new ≡ arena_after line s arena.old }
 {
     match line {
-        Change::Capabilities(word) => {
+        Line::Nothing => s,
+        Line::Capabilities(word) => {
             s.capabilities = word;
             s
         }
-        Change::Rule(word) => {
+        Line::Rule(word) => {
             s.rule = word;
             s
         }
-        Change::TypeRecord {
+        Line::TypeRecord {
             kind,
             a,
             b,
@@ -209,35 +217,56 @@ pub fn change(line: Change, mut s: Session, arena: &mut Arena) -> Session
             d,
             e,
         } => add_type(s, arena, &[kind, a, b, c, d, e]),
-        Change::MemberRecord {
+        Line::MemberRecord {
             ty,
             offset,
             location,
             source,
         } => add_member(s, arena, &[ty, offset, location, source]),
-        Change::Pass => {
+        Line::Layout => s,
+        Line::Judge => s,
+        Line::Check => s,
+        Line::Members(_) => s,
+        Line::Slots { ty: _, offset: _ } => s,
+        Line::Range { offset: _, size: _ } => s,
+        Line::Place { start: _, steps: _ } => s,
+        Line::Short { start: _, steps: _ } => s,
+        Line::Report => s,
+        Line::Plain { shape: _, width: _ } => s,
+        Line::Pass => {
             let pass = immediates_pass::start();
             s.pass = pass;
             s
         }
-        Change::Clear => clear(s),
+        Line::SetRange { offset: _, size: _ } => s,
+        Line::Choose(_) => s,
+        Line::Run => s,
+        Line::Clear => clear(s),
+        Line::Order { span: _, given: _ } => s,
+        Line::Wrong(reason) => stop(s, reason),
     }
 }
 
-// The number of the next line.
-pub fn next_line(mut s: Session) -> Session
-    ensures { result ≡ next_line s }
+// After a write that failed nothing more is answered.
+pub fn after_write(mut s: Session, written: bool) -> Session
+    ensures { result ≡ after_write written s }
 {
-    s.line = std::num::wrapping_add_u64(s.line, 1);
+    s.waiting = 0;
+    if !written {
+        s.why = program_input::FAILED;
+        return s;
+    }
     s
 }
 
-// Puts why the session stops, where it does.
-pub fn put_end(s: Session, at: usize, out: &mut Buffer) -> usize
-    ensures { Puts out.old at (ending s) out.new result }
+// Writes the answers that wait, and why the session stops if a line is the reason.
+pub fn flushed(s: Session, out: &mut Buffer) -> Session
+    ensures { (written : Bool) × (result ≡ after_write written s) }
 {
-    if s.why > 0 {
-        return program_output::put_stop(out, at, s.line, s.word, s.why);
+    let mut end = s.waiting;
+    if s.why > program_input::ENDED {
+        end = program_output::put_stop(out, end, s.line, s.word, s.why);
     }
-    at
+    let written = program_output::write_out(out, end);
+    after_write(s, written)
 }

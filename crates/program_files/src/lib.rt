@@ -1,72 +1,99 @@
-// The file that a program reads: standard input, or the one that its argument names. What is wrong with it is told on standard error.
+// The arguments of a program, and the file that it reads: standard input, or the one that its argument names. What is wrong with it is told on
+// standard error.
+#![tactic(auto)]
+
+mod arguments;
+
 ghost use Rattle.std.specs.Prelude.{◌≡◌, ◌≤◌, length};
 ghost use Rattle.program_files.specs.Serving.{HeldWithin};
 
-const STDIN: i32 = 0;
+pub use arguments::{argument, argument_count};
+use std::io::Read;
+use std::rt::{Env, Files};
 
 const STDERR: i32 = 2;
 
-const NO_FILE: i32 = -1;
-
 // How the input ended: with so many bytes, with more than there is room for, or with a read that failed.
-#[derive(Drop)]
+#[derive(Clone, Copy)]
 pub enum Held {
     Bytes(usize),
     Long,
     Failed,
 }
 
+// What a program reads.
+#[derive(Drop)]
+pub enum Source<S, F> {
+    Standard(S),
+    Named(F),
+}
+
+impl<S: Read, F: Read> Read for Source<S, F> {
+    fn read(&mut self, bytes: &mut [u8]) -> std::io::Result<usize> {
+        match self {
+            Source::Standard(input) => input.read(bytes),
+            Source::Named(file) => file.read(bytes),
+        }
+    }
+}
+
 pub fn tell(why: &[u8]) {
     io::write_all(STDERR, why);
 }
 
-// The file that argument i names; a negative number where it cannot be opened.
-pub fn named(i: usize) -> i32 {
-    let mut name = io::buffer();
-    let length = os::arg(i, &mut name);
-    let fd = os::open_read(&name[..length]);
-    if fd < 0 {
-        tell(b"the file cannot be opened\n");
+// The file of that name, where it can be opened; a name that is no UTF-8 names none.
+pub fn open<R: Files>(rt: &R, name: &[u8]) -> Option<R::File> {
+    match std::str::from_utf8(name) {
+        Ok(path) => std::fs::open(rt, path).ok(),
+        Err(_) => None,
     }
-    fd
 }
 
-// A descriptor to read from; a negative number where there is none.
-pub fn opened() -> i32 {
-    let count = os::arg_count();
+// The file that argument i names, where it can be opened.
+pub fn named<R: Env + Files>(rt: &R, i: usize) -> Option<R::File> {
+    let mut name = io::buffer();
+    let length = argument(rt, i, &mut name);
+    let file = open(rt, &name[..length]);
+    if file.is_none() {
+        tell(b"the file cannot be opened\n");
+    }
+    file
+}
+
+// What there is to read, where there is something.
+pub fn opened<R: Env + Files + Input>(rt: &R) -> Option<Source<R::Reader, R::File>> {
+    let count = argument_count(rt);
     if count < 2 {
-        return STDIN;
+        return Some(Source::Standard(rt.reader()));
     }
     if 2 < count {
         tell(b"there is one argument at most, the file to read\n");
-        return NO_FILE;
+        return None;
     }
-    named(1)
+    Some(Source::Named(named(rt, 1)?))
 }
 
 // One read, after the bytes that are held.
-fn read_more(fd: i32, bytes: &mut [u8], held: usize) -> Held
+fn read_more<S: Read>(source: &mut S, bytes: &mut [u8], held: usize) -> Held
     requires { held ≤ length bytes.old }
     ensures { HeldWithin held (length bytes.old) result }
 {
     if bytes.len() <= held {
         return Held::Long;
     }
-    let got = libc::read(fd, &mut bytes[held..]);
-    if got < 0 {
-        return Held::Failed;
+    match source.read(&mut bytes[held..]) {
+        Ok(more) => Held::Bytes(held + more),
+        Err(_) => Held::Failed,
     }
-    let more = io::count(got, &bytes[held..]);
-    Held::Bytes(held + more)
 }
 
 // All bytes of the input. They must be fewer than there is room for, since a full buffer does not tell whether there are more.
-pub fn read_all(fd: i32, bytes: &mut [u8]) -> Held
+pub fn read_all<S: Read>(source: &mut S, bytes: &mut [u8]) -> Held
     ensures { HeldWithin 0 (length bytes.old) result }
 {
     let mut held: usize = 0;
     loop {
-        match read_more(fd, bytes, held) {
+        match read_more(source, bytes, held) {
             Held::Bytes(now) => {
                 if now <= held {
                     return Held::Bytes(held);

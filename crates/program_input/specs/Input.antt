@@ -6,12 +6,10 @@ use Rattle.std.specs.Prelude.{◌≡◌, List, ℕ, ◌+◌, ◌-◌, ◌≤◌,
 -- the buffer is full with no end of a line, 3 where the read failed. Which bytes are read is the operating system's.
 pub record ReadMore (was : List ℕ) (held : ℕ) (is : List ℕ) (end read : ℕ) : Type 0 where
   pub within : end ≤ length was
-  pub known : read ≤ 3
   -- a line that does not fit is not cut
   pub full : length was ≤ held → (read ≡ 2) × (end ≡ 0)
-  pub only : read ≡ 2 → length was ≤ held
   pub keeps : held ≤ length was → take held is ≡ take held was
-  pub more : read ≤ 1 → held < end
+  pub more : read ≡ 0 → held < end
   -- a newline ends the last line
   pub ended : read ≡ 1 → (end ≡ held + 1) × (get_or is held 0 ≡ 10)
 

@@ -1,6 +1,10 @@
-// Standard input, read into a buffer after the bytes that are held there.
+// The input, read into a buffer after the bytes that are held there.
+#![tactic(auto)]
+
 ghost use Rattle.std.specs.Prelude.{◌≤◌, length};
 ghost use Rattle.program_input.specs.Input.{ReadMore, Kept};
+
+use std::io::Read;
 
 // How a read ended: there may be more to read, or the input has ended, or the buffer is full with no end of a line, or the read failed.
 pub const MORE: u32 = 0;
@@ -12,31 +16,30 @@ pub const FULL: u32 = 2;
 pub const FAILED: u32 = 3;
 
 // How many bytes of the buffer are to be answered.
-#[derive(Drop)]
+#[derive(Clone, Copy)]
 pub struct Input {
     pub end: usize,
     pub read: u32,
 }
 
-const STDIN: i32 = 0;
-
 const NEWLINE: u8 = 10;
 
 // Reads once, after the bytes that are held. At the end of the input a newline ends its last line.
-pub fn read_more(buffer: &mut [u8], held: usize) -> Input
+pub fn read_more<R: Read>(input: &mut R, buffer: &mut [u8], held: usize) -> Input
     ensures { ReadMore buffer.old held buffer.new result.end result.read }
 {
     if buffer.len() <= held {
         return Input { end: 0, read: FULL };
     }
-    let got = libc::read(STDIN, &mut buffer[held..]);
-    if got < 0 {
-        return Input {
-            end: 0,
-            read: FAILED,
-        };
-    }
-    let more = io::count(got, &buffer[held..]);
+    let more = match input.read(&mut buffer[held..]) {
+        Ok(count) => count,
+        Err(_) => {
+            return Input {
+                end: 0,
+                read: FAILED,
+            };
+        }
+    };
     if more == 0 {
         buffer[held] = NEWLINE;
         return Input {

@@ -12,8 +12,6 @@ use Rattle.program_arguments.specs.declared.Command.TheVariants as command
 use Rattle.program_arguments.specs.declared.Reason.TheVariants as reason
 use Rattle.program_lines.specs.declared.Line.{Line}
 use Rattle.program_lines.specs.declared.Line.TheVariants as line
-use Rattle.program_lines.specs.declared.Change.TheVariants as change
-use Rattle.program_lines.specs.declared.Query.TheVariants as query
 
 abbrev read : List ℕ → Line
 read s = line_of (words (text_of s))
@@ -22,12 +20,12 @@ read s = line_of (words (text_of s))
 abbrev range_line : List ℕ
 range_line = 114 ∷ 97 ∷ 110 ∷ 103 ∷ 101 ∷ 32 ∷ 32 ∷ 51 ∷ 32 ∷ 50 ∷ 53 ∷ 50 ∷ 32 ∷ 35 ∷ 32 ∷ 49 ∷ 13 ∷ []
 
-range-line : (read range_line ≡ line.Query (query.Range 3 252)) × (numbers_read (words (text_of range_line)) ≡ 3 ∷ 252 ∷ [])
+range-line : (read range_line ≡ line.Range 3 252) × (numbers_read (words (text_of range_line)) ≡ 3 ∷ 252 ∷ [])
 unfolding run_of before_comment without_return pieces words all_digits decimal number_of same last_command_of answer_command_of later_command_of command_of numbers_of arguments_of
 range-line = (refl, refl)
 
 -- "\ttype 8 0 2": words left off are 0
-type-line : read (9 ∷ 116 ∷ 121 ∷ 112 ∷ 101 ∷ 32 ∷ 56 ∷ 32 ∷ 48 ∷ 32 ∷ 50 ∷ []) ≡ line.Change (change.TypeRecord 8 0 2 0 0 0)
+type-line : read (9 ∷ 116 ∷ 121 ∷ 112 ∷ 101 ∷ 32 ∷ 56 ∷ 32 ∷ 48 ∷ 32 ∷ 50 ∷ []) ≡ line.TypeRecord 8 0 2 0 0 0
 unfolding run_of before_comment without_return pieces words all_digits decimal number_of same last_command_of answer_command_of later_command_of command_of numbers_of arguments_of
 type-line = refl
 
@@ -69,6 +67,6 @@ unfolding stray_of stray_from
 stray_line = (refl, refl)
 
 -- "check" and a return; a comment with a full-width 1, which begins as the mark does
-plain_line : (line_in (99 ∷ 104 ∷ 101 ∷ 99 ∷ 107 ∷ 13 ∷ []) ≡ line.Query query.Check) × (line_in (35 ∷ 239 ∷ 188 ∷ 145 ∷ []) ≡ line.Nothing)
+plain_line : (line_in (99 ∷ 104 ∷ 101 ∷ 99 ∷ 107 ∷ 13 ∷ []) ≡ line.Check) × (line_in (35 ∷ 239 ∷ 188 ∷ 145 ∷ []) ≡ line.Nothing)
 unfolding stray_of stray_from run_of before_comment without_return pieces words all_digits decimal number_of same last_command_of answer_command_of later_command_of command_of numbers_of arguments_of
 plain_line = (refl, refl)

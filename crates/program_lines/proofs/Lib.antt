@@ -1,4 +1,3 @@
 pub mod LineLaws
 pub mod Examples
 pub mod NameLaws
-pub mod CountLaws

@@ -12,9 +12,6 @@ use Rattle.program_arguments.specs.declared.Command.TheVariants as command
 use Rattle.program_arguments.specs.declared.Reason.TheVariants as reason
 use Rattle.program_lines.specs.declared.Line.{Line}
 use Rattle.program_lines.specs.declared.Line.TheVariants as line
-use Rattle.program_lines.specs.declared.Change.TheVariants as change
-use Rattle.program_lines.specs.declared.Query.TheVariants as query
-use Rattle.program_lines.specs.declared.Step.TheVariants as step
 
 unfoldable pub same : List ℕ → List ℕ → Bool
 same [] [] = true
@@ -123,25 +120,25 @@ list_of (wrong r) = []
 
 -- ---- the line. Words left off are 0; the steps of a place and the types given for an order are the numbers after the first
 abbrev pub line_by : Command → List ℕ → Line
-line_by command.Capabilities ns = line.Change (change.Capabilities (get_or ns 0 0))
-line_by command.Rule ns = line.Change (change.Rule (get_or ns 0 0))
-line_by command.TypeRecord ns = line.Change (change.TypeRecord (get_or ns 0 0) (get_or ns 1 0) (get_or ns 2 0) (get_or ns 3 0) (get_or ns 4 0) (get_or ns 5 0))
-line_by command.MemberRecord ns = line.Change (change.MemberRecord (get_or ns 0 0) (get_or ns 1 0) (get_or ns 2 0) (get_or ns 3 0))
-line_by command.Layout ns = line.Query query.Layout
-line_by command.Judge ns = line.Query query.Judge
-line_by command.Check ns = line.Query query.Check
-line_by command.Members ns = line.Query (query.Members (get_or ns 0 0))
-line_by command.Slots ns = line.Query (query.Slots (get_or ns 0 0) (get_or ns 1 0))
-line_by command.Range ns = line.Query (query.Range (get_or ns 0 0) (get_or ns 1 0))
-line_by command.Place ns = line.Query (query.Place (get_or ns 0 0) (length ns - 1))
-line_by command.Short ns = line.Query (query.Short (get_or ns 0 0) (length ns - 1))
-line_by command.Report ns = line.Query query.Report
-line_by command.Plain ns = line.Query (query.Plain (get_or ns 0 0) (get_or ns 1 0))
-line_by command.Pass ns = line.Change change.Pass
-line_by command.SetRange ns = line.Step (step.SetRange (get_or ns 0 0) (get_or ns 1 0))
-line_by command.Choose ns = line.Step (step.Choose (get_or ns 0 0))
-line_by command.Run ns = line.Step step.Run
-line_by command.Clear ns = line.Change change.Clear
+line_by command.Capabilities ns = line.Capabilities (get_or ns 0 0)
+line_by command.Rule ns = line.Rule (get_or ns 0 0)
+line_by command.TypeRecord ns = line.TypeRecord (get_or ns 0 0) (get_or ns 1 0) (get_or ns 2 0) (get_or ns 3 0) (get_or ns 4 0) (get_or ns 5 0)
+line_by command.MemberRecord ns = line.MemberRecord (get_or ns 0 0) (get_or ns 1 0) (get_or ns 2 0) (get_or ns 3 0)
+line_by command.Layout ns = line.Layout
+line_by command.Judge ns = line.Judge
+line_by command.Check ns = line.Check
+line_by command.Members ns = line.Members (get_or ns 0 0)
+line_by command.Slots ns = line.Slots (get_or ns 0 0) (get_or ns 1 0)
+line_by command.Range ns = line.Range (get_or ns 0 0) (get_or ns 1 0)
+line_by command.Place ns = line.Place (get_or ns 0 0) (length ns - 1)
+line_by command.Short ns = line.Short (get_or ns 0 0) (length ns - 1)
+line_by command.Report ns = line.Report
+line_by command.Plain ns = line.Plain (get_or ns 0 0) (get_or ns 1 0)
+line_by command.Pass ns = line.Pass
+line_by command.SetRange ns = line.SetRange (get_or ns 0 0) (get_or ns 1 0)
+line_by command.Choose ns = line.Choose (get_or ns 0 0)
+line_by command.Run ns = line.Run
+line_by command.Clear ns = line.Clear
 line_by command.Order ns = line.Order (get_or ns 0 0) (length ns - 1)
 line_by command.Unknown ns = line.Nothing
 

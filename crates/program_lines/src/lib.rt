@@ -1,4 +1,6 @@
 // Reads a line of the program `inspect`: the command and the numbers after it.
+#![tactic(auto)]
+
 ghost use Rattle.std.specs.Prelude.{◌≡◌, ◌≤◌, length, drop};
 ghost use Rattle.program_words.specs.Words.{text_of, words};
 ghost use Rattle.program_lines.specs.Line.{command_of, least_of, most_of, arguments_of, list_of, Holds, line_by, line_with, line_of, numbers_read, line_in, line_numbers};
@@ -7,9 +9,9 @@ ghost use Rattle.program_lines.specs.Serving.{name_of};
 use program_arguments::{Command, Count, Reason};
 use program_words::{Stray, Word};
 
-// A line that changes the state of a session or its arena.
-#[derive(Drop)]
-pub enum Change {
+#[derive(Clone, Copy)]
+pub enum Line {
+    Nothing,
     Capabilities(u32),
     Rule(u32),
     TypeRecord {
@@ -26,41 +28,45 @@ pub enum Change {
         location: u32,
         source: u32,
     },
-    Pass,
-    Clear,
-}
-
-// A line that asks for an answer. The steps of a place stand after its start among the numbers read.
-#[derive(Drop)]
-pub enum Query {
     Layout,
     Judge,
     Check,
     Members(u32),
-    Slots { ty: u32, offset: u32 },
-    Range { offset: u32, size: u32 },
-    Place { start: u32, steps: u32 },
-    Short { start: u32, steps: u32 },
+    Slots {
+        ty: u32,
+        offset: u32,
+    },
+    Range {
+        offset: u32,
+        size: u32,
+    },
+    // The steps stand after the start among the numbers read.
+    Place {
+        start: u32,
+        steps: u32,
+    },
+    Short {
+        start: u32,
+        steps: u32,
+    },
     Report,
-    Plain { shape: u32, width: u32 },
-}
-
-// A step of a pass.
-#[derive(Drop)]
-pub enum Step {
-    SetRange { offset: u32, size: u32 },
+    Plain {
+        shape: u32,
+        width: u32,
+    },
+    Pass,
+    SetRange {
+        offset: u32,
+        size: u32,
+    },
     Choose(u32),
     Run,
-}
-
-#[derive(Drop)]
-pub enum Line {
-    Nothing,
-    Change(Change),
-    Query(Query),
-    Step(Step),
+    Clear,
     // The given types stand after the span among the numbers read.
-    Order { span: u32, given: u32 },
+    Order {
+        span: u32,
+        given: u32,
+    },
     Wrong(Reason),
 }
 
@@ -129,7 +135,7 @@ pub fn command_of(word: &[u8]) -> Command
 }
 
 // The fewest and the most numbers that a command takes. No count of numbers is right after a word that is no command.
-#[derive(Drop)]
+#[derive(Clone, Copy)]
 struct Usage {
     least: u32,
     most: u32,
@@ -180,43 +186,43 @@ fn line_by(command: Command, numbers: &[u32]) -> Line
     let a = ir_records::word_at(numbers, 0);
     let b = ir_records::word_at(numbers, 1);
     match command {
-        Command::Capabilities => Line::Change(Change::Capabilities(a)),
-        Command::Rule => Line::Change(Change::Rule(a)),
-        Command::TypeRecord => Line::Change(Change::TypeRecord {
+        Command::Capabilities => Line::Capabilities(a),
+        Command::Rule => Line::Rule(a),
+        Command::TypeRecord => Line::TypeRecord {
             kind: a,
             a: b,
             b: ir_records::word_at(numbers, 2),
             c: ir_records::word_at(numbers, 3),
             d: ir_records::word_at(numbers, 4),
             e: ir_records::word_at(numbers, 5),
-        }),
-        Command::MemberRecord => Line::Change(Change::MemberRecord {
+        },
+        Command::MemberRecord => Line::MemberRecord {
             ty: a,
             offset: b,
             location: ir_records::word_at(numbers, 2),
             source: ir_records::word_at(numbers, 3),
-        }),
-        Command::Layout => Line::Query(Query::Layout),
-        Command::Judge => Line::Query(Query::Judge),
-        Command::Check => Line::Query(Query::Check),
-        Command::Members => Line::Query(Query::Members(a)),
-        Command::Slots => Line::Query(Query::Slots { ty: a, offset: b }),
-        Command::Range => Line::Query(Query::Range { offset: a, size: b }),
+        },
+        Command::Layout => Line::Layout,
+        Command::Judge => Line::Judge,
+        Command::Check => Line::Check,
+        Command::Members => Line::Members(a),
+        Command::Slots => Line::Slots { ty: a, offset: b },
+        Command::Range => Line::Range { offset: a, size: b },
         Command::Place => {
             let steps = (numbers.len() - 1) as u32;
-            Line::Query(Query::Place { start: a, steps })
+            Line::Place { start: a, steps }
         }
         Command::Short => {
             let steps = (numbers.len() - 1) as u32;
-            Line::Query(Query::Short { start: a, steps })
+            Line::Short { start: a, steps }
         }
-        Command::Report => Line::Query(Query::Report),
-        Command::Plain => Line::Query(Query::Plain { shape: a, width: b }),
-        Command::Pass => Line::Change(Change::Pass),
-        Command::SetRange => Line::Step(Step::SetRange { offset: a, size: b }),
-        Command::Choose => Line::Step(Step::Choose(a)),
-        Command::Run => Line::Step(Step::Run),
-        Command::Clear => Line::Change(Change::Clear),
+        Command::Report => Line::Report,
+        Command::Plain => Line::Plain { shape: a, width: b },
+        Command::Pass => Line::Pass,
+        Command::SetRange => Line::SetRange { offset: a, size: b },
+        Command::Choose => Line::Choose(a),
+        Command::Run => Line::Run,
+        Command::Clear => Line::Clear,
         Command::Order => {
             let given = (numbers.len() - 1) as u32;
             Line::Order { span: a, given }

@@ -1,5 +1,7 @@
 // The answers wait in a buffer. `at` is how many bytes wait; it stays past the buffer's end once there was no room for a byte.
 // Each `put_` function says which bytes it puts there and answers how many wait after it. Only `flush` and `write_out` write.
+#![tactic(auto)]
+
 ghost use Rattle.std.specs.Prelude.{◌≡◌, false, [], ◌∷◌, ◌++◌, ◌≤◌, ◌<◌, ◌-◌, ◌+◌, ◌*◌, length, take, drop, eqb};
 ghost use Rattle.ir_records.specs.Result.{pick};
 ghost use Rattle.program_output.specs.Bytes.{Puts, ascii, line_at, joined, decimal, number, named, numbers, newline, words_line, row_line, row_lines, report_line, report_lines};

@@ -1,4 +1,6 @@
 // The records of an arena as lines that `inspect` takes.
+#![tactic(auto)]
+
 ghost use Rattle.program_output.specs.Bytes.{Puts, joined};
 ghost use Rattle.program_record_lines.specs.Lines.{type_line, member_line, record_lines};
 

@@ -1,15 +1,14 @@
 -- Runs of bytes, step by step, and the first word of a text by its runs.
 -- Assumes nothing.
-use mathlib.Core.Path.{◌≡◌, refl, sym, ◌∙◌}
-use mathlib.Core.Bool.{Bool, true, false, not, ◌||◌}
+use mathlib.Core.Path.{◌≡◌, refl, ◌∙◌}
+use mathlib.Core.Bool.{Bool, true, false}
 use mathlib.Core.List.{List, [], ◌∷◌}
-use Prim.Native.Nat.{ℕ, zero, suc, ◌+◌, ◌-◌, ◌≤◌, ◌<◌}
+use Prim.Native.Nat.{ℕ, suc, ◌+◌, ◌-◌, ◌≤◌, ◌<◌}
 use native.Mathlib.Numerals.{add-one}
 use native.Mathlib.Omega.{arith}
-use lib.Dec.{eqb}
 use lib.ListN.{length, get_or, take, drop, length-drop, drop_of_length-le}
 use lib.Seq.{drop-cons, drop-drop}
-use Rattle.program_words.specs.Words.{is_blank, is_in, run_of, on_first, pieces, non_empty, words, part}
+use Rattle.program_words.specs.Words.{is_blank, is_in, run_of, pieces, non_empty, words, part}
 use Rattle.program_words.specs.declared.Class.TheVariants.{Blank, Word}
 
 module _ (p : ℕ → Bool) (s : List ℕ) (i : ℕ) where

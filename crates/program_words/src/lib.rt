@@ -1,11 +1,13 @@
 // The words of a line, the number that a word is, and the bytes that no line may hold.
+#![tactic(auto)]
+
 ghost use Rattle.std.specs.Prelude.{◌≡◌, ◌+◌, ◌-◌, ◌≤◌, ◌<◌, min, ltb, length, get_or, drop};
 ghost use Rattle.program_words.specs.Words.{is_in, run_of, before_comment, text_of, WordAt};
 ghost use Rattle.program_words.specs.Number.{is_digit, all_digits, decimal, number_of};
 ghost use Rattle.program_words.specs.Stray.{is_mark, stray_of, stray_at, stray_in};
 
 // What a byte is looked at for.
-#[derive(Drop)]
+#[derive(Clone, Copy)]
 pub enum Class {
     // A space or a tab.
     Blank,
@@ -18,13 +20,13 @@ pub enum Class {
 }
 
 // The next word of a text.
-#[derive(Drop)]
+#[derive(Clone, Copy)]
 pub enum Word {
     End,
     Found { start: usize, end: usize },
 }
 
-#[derive(Drop)]
+#[derive(Clone, Copy)]
 pub enum Number {
     Value(u32),
     NotANumber,
@@ -32,7 +34,7 @@ pub enum Number {
 }
 
 // What no line may hold.
-#[derive(Drop)]
+#[derive(Clone, Copy)]
 pub enum Stray {
     Nothing,
     ByteOrderMark,

@@ -1,4 +1,6 @@
 // Replays the arenas and queries in `stdin`; `stdout` holds the answers of naga, and of the harness's reading of 01 where naga has none.
-fn main() {
-    program_session::run();
+#![tactic(auto)]
+
+fn main(rt: HostRuntime) {
+    program_session::run(&rt);
 }

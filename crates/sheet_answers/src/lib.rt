@@ -1,4 +1,6 @@
 // What is printed of the bytes of a file: a WGSL text or a SPIR-V module, read, judged and written out, or its refusal.
+#![tactic(auto)]
+
 ghost use Rattle.std.specs.Prelude.{◌≡◌, length};
 
 use ir_records::Outcome;
@@ -9,7 +11,7 @@ use valid_type_info::UniformRule;
 use wgsl_read::TextAt;
 
 // The form, the rule of uniform verdicts and the capability word.
-#[derive(Drop)]
+#[derive(Clone, Copy)]
 pub struct Asked {
     pub form: Form,
     pub rule: UniformRule,

@@ -1,10 +1,12 @@
 // Which member a byte of a struct belongs to, and whether a leaf holds it.
+#![tactic(auto)]
+
 ghost use Rattle.std.specs.Prelude.{◌≡◌, ◌<◌};
 ghost use Rattle.ir_records.specs.Record.{type_word, struct_members};
 ghost use Rattle.sheet_bytes.specs.Holder.{holds, holder_of};
 
 // One step from a type towards the byte: to a byte of a part of it; or, at the end of the way, whether a leaf holds the byte.
-#[derive(Drop)]
+#[derive(Clone, Copy)]
 struct Inside {
     ends: bool,
     held: bool,

@@ -1,4 +1,6 @@
 // A C header of the sheet: a struct each, with padding, and an assertion for every offset and size.
+#![tactic(auto)]
+
 use program_output::Buffer;
 use sheet_dimensions::Dimensions;
 

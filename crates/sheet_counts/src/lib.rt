@@ -1,5 +1,7 @@
 // The bytes carried and wasted of each struct, and the slots of those that may be immediates, in one lent table: two words a type for the
 // bytes, as the report leaves them, then two words a type for the slots, touched and covered only in part.
+#![tactic(auto)]
+
 ghost use Rattle.std.specs.Prelude.{◌≡◌, ◌+◌, ◌*◌, get_or};
 ghost use Rattle.sheet_counts.specs.Counts.{carried_in, wasted_in, is_counted};
 

@@ -1,4 +1,6 @@
 // The dimensions of a member as C and Rust have them, outermost first. A runtime-sized array has 0 as its first one.
+#![tactic(auto)]
+
 ghost use Rattle.std.specs.Prelude.{◌≡◌};
 ghost use Rattle.ir_records.specs.Record.{type_inner};
 ghost use Rattle.sheet_dimensions.specs.Scalars.{leaf_in, leaf_kind, leaf_width, is_runtime};
@@ -6,7 +8,7 @@ ghost use Rattle.sheet_dimensions.specs.Scalars.{leaf_in, leaf_kind, leaf_width,
 use ir_records::{Leaf, TypeInner};
 
 // So many dimensions over the type inside; or none that keep the steps, so that the member is bytes.
-#[derive(Drop)]
+#[derive(Clone, Copy)]
 pub enum Dimensions {
     Over { count: usize, base: u32 },
     Bytes,

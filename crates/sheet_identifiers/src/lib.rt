@@ -1,4 +1,6 @@
 // Names as identifiers that C and Rust both take. What is no identifier, or stands there already, goes by its number.
+#![tactic(auto)]
+
 use program_output::Buffer;
 
 fn is_digit(c: u8) -> bool {

@@ -1,7 +1,9 @@
 // The members of a struct and the gaps between them, line by line, in one of four forms.
+#![tactic(auto)]
+
 use program_output::Buffer;
 
-#[derive(Drop)]
+#[derive(Clone, Copy)]
 pub enum Form {
     Text,
     C,

@@ -1,4 +1,6 @@
 // Numbers, capabilities and instructions in words.
+#![tactic(auto)]
+
 use program_output::Buffer;
 
 // What each number stands for: of the records, from 1 to 27.

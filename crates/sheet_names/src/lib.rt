@@ -1,5 +1,7 @@
 // The names of structs and members, as parts of the text or of the module's bytes. Two words an entry: where a name starts and where it ends.
 // First the types by number, then the member rows; an entry that starts where it ends is no name.
+#![tactic(auto)]
+
 ghost use Rattle.std.specs.Prelude.{◌≡◌, ◌+◌, ◌*◌, ◌<◌, ◌≤◌, length, slice_index};
 ghost use Rattle.ir_records.specs.Record.{type_word};
 ghost use Rattle.sheet_names.specs.Names.{member_entry, part_of, name_at, after_instruction};
@@ -20,7 +22,7 @@ const OP_NAME: u32 = 5;
 const OP_MEMBER_NAME: u32 = 6;
 
 // The walk over the tokens of a text: where it goes on, the last word, whether that is `struct`, and which struct and member row come next.
-#[derive(Drop)]
+#[derive(Clone, Copy)]
 struct Walk {
     at: usize,
     start: usize,

@@ -1,4 +1,6 @@
 // What every form of the sheet is made of: texts and numbers in the buffer of the answers.
+#![tactic(auto)]
+
 ghost use Rattle.std.specs.Prelude.{◌≡◌, ◌+◌, ◌-◌, ◌≤◌};
 
 use program_output::Buffer;

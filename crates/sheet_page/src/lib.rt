@@ -1,4 +1,6 @@
 // The sheet as a page that stands alone: its head and its end, and for each struct what it measures and a table of its members.
+#![tactic(auto)]
+
 use program_output::Buffer;
 
 pub fn put_start(out: &mut Buffer, at: usize) -> usize {

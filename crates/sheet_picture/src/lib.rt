@@ -1,4 +1,6 @@
 // The picture of a struct's bytes on a page, sixteen to a row.
+#![tactic(auto)]
+
 ghost use Rattle.std.specs.Prelude.{◌≤◌, ◌<◌};
 
 use program_output::Buffer;

@@ -1,6 +1,6 @@
 -- The walk over instructions: what is left gives what the whole gives.
 -- Assumes nothing.
-use Rattle.std.proofs.Common.{◌≡◌, ℕ, zero, suc, ◌-◌, ◌<◌, ◌≤◌, List, length, ap, ◌∙◌, arith, le-ltb, lt-ltb}
+use Rattle.std.proofs.Common.{◌≡◌, ℕ, suc, ◌-◌, ◌<◌, ◌≤◌, List, length, ap, ◌∙◌, arith, le-ltb, lt-ltb}
 use Rattle.sheet_names.specs.Names.{after_instruction}
 use Rattle.sheet_places.specs.Places.{place_from}
 

@@ -1,4 +1,6 @@
 // Where a module is refused: the instruction, found by reading the words before it.
+#![tactic(auto)]
+
 ghost use Rattle.std.specs.Prelude.{◌≡◌, ◌<◌};
 ghost use Rattle.spirv_read.specs.Read.{read_into, section_of, types_after, members_after};
 ghost use Rattle.sheet_places.specs.Places.{place_of, words_before, is_refusal};
@@ -52,7 +54,7 @@ pub fn is_refused(words: &[u32], types: &mut [u32], members: &mut [u32]) -> bool
 }
 
 // So many instructions from one on, among which the refused one is.
-#[derive(Drop)]
+#[derive(Clone, Copy)]
 struct Span {
     low: usize,
     count: usize,

@@ -1,14 +1,18 @@
 // The program `sheet`: its arguments, the files that they name, and what is printed of each.
+#![tactic(auto)]
+
 ghost use Rattle.std.specs.Prelude.{◌≡◌, length};
 
 use program_files::Held;
 use program_words::Number;
 use sheet_answers::Asked;
 use sheet_lines::Form;
+use std::io::Read;
+use std::rt::{Env, Files};
 use valid_type_info::UniformRule;
 
 // What the arguments say so far: the next one, whether an option has no file after it yet, whether a file was named, whether all is answered.
-#[derive(Drop)]
+#[derive(Clone, Copy)]
 pub struct Options {
     pub form: Form,
     pub rule: UniformRule,
@@ -20,7 +24,7 @@ pub struct Options {
 }
 
 // What an argument is: a form, an option that takes the next argument, a file.
-#[derive(Drop)]
+#[derive(Clone, Copy)]
 enum Argument {
     OfForm(Form),
     Rule,
@@ -29,8 +33,6 @@ enum Argument {
     Help,
     Unknown,
 }
-
-const STDIN: i32 = 0;
 
 const STDOUT: i32 = 1;
 
@@ -53,9 +55,9 @@ fn answer_held(asked: Asked, name: &[u8], bytes: &[u8], held: Held) {
     }
 }
 
-fn answer_open(asked: Asked, name: &[u8], fd: i32) {
+fn answer_open<S: Read>(asked: Asked, name: &[u8], source: &mut S) {
     let mut bytes = no_bytes();
-    let held = program_files::read_all(fd, &mut bytes);
+    let held = program_files::read_all(source, &mut bytes);
     answer_held(asked, name, &bytes, held);
 }
 
@@ -70,16 +72,17 @@ fn asked_by(o: Options) -> Asked {
     }
 }
 
-fn answer_file(options: Options, name: &[u8]) {
-    let fd = os::open_read(name);
-    if fd < 0 {
-        program_files::tell(b"sheet: ");
-        program_files::tell(name);
-        program_files::tell(b": the file cannot be opened\n");
-        return;
+fn tell_unopened(name: &[u8]) {
+    program_files::tell(b"sheet: ");
+    program_files::tell(name);
+    program_files::tell(b": the file cannot be opened\n");
+}
+
+fn answer_file<R: Files>(rt: &R, options: Options, name: &[u8]) {
+    match program_files::open(rt, name) {
+        Some(mut file) => answer_open(asked_by(options), name, &mut file),
+        None => tell_unopened(name),
     }
-    answer_open(asked_by(options), name, fd);
-    libc::close(fd);
 }
 
 fn put_help() {
@@ -176,9 +179,9 @@ fn stop(o: Options) -> Options {
 }
 
 // The rule that argument i names.
-fn rule_step(o: Options, i: usize) -> Options {
+fn rule_step<R: Env>(rt: &R, o: Options, i: usize) -> Options {
     let mut word = io::buffer();
-    let n = os::arg(i, &mut word);
+    let n = program_files::argument(rt, i, &mut word);
     let form = o.form;
     if wgsl_names::same(&word[..n], b"older") {
         return with(o, form, UniformRule::Older, o.capabilities, 2);
@@ -191,9 +194,9 @@ fn rule_step(o: Options, i: usize) -> Options {
 }
 
 // The capability word that argument i is.
-fn capabilities_step(o: Options, i: usize) -> Options {
+fn capabilities_step<R: Env>(rt: &R, o: Options, i: usize) -> Options {
     let mut word = io::buffer();
-    let n = os::arg(i, &mut word);
+    let n = program_files::argument(rt, i, &mut word);
     let form = o.form;
     let rule = o.rule;
     match program_words::number_of(&word[..n]) {
@@ -216,15 +219,15 @@ fn tell_unknown(word: &[u8]) {
 }
 
 // One argument, and the one after it where an option takes that.
-fn answer_argument(o: Options, word: &[u8]) -> Options {
+fn answer_argument<R: Env + Files>(rt: &R, o: Options, word: &[u8]) -> Options {
     let rule = o.rule;
     let value = std::num::wrapping_add_usize(o.next, 1);
     match argument_of(word) {
         Argument::OfForm(form) => with(o, form, rule, o.capabilities, 1),
-        Argument::Rule => rule_step(o, value),
-        Argument::Capabilities => capabilities_step(o, value),
+        Argument::Rule => rule_step(rt, o, value),
+        Argument::Capabilities => capabilities_step(rt, o, value),
         Argument::File => {
-            answer_file(o, word);
+            answer_file(rt, o, word);
             after_file(o)
         }
         Argument::Help => {
@@ -239,9 +242,9 @@ fn answer_argument(o: Options, word: &[u8]) -> Options {
 }
 
 // After the last argument: standard input where no file was named; an option that no file follows is told.
-fn finish(o: Options) -> Options {
+fn finish<R: Input>(rt: &R, o: Options) -> Options {
     if !o.files {
-        answer_open(asked_by(o), b"", STDIN);
+        answer_open(asked_by(o), b"", &mut rt.reader());
         return stop(o);
     }
     if o.open {
@@ -253,17 +256,17 @@ fn finish(o: Options) -> Options {
 }
 
 // The next argument, or what is to do after the last one.
-fn step(o: Options, count: usize) -> Options {
+fn step<R: Env + Files + Input>(rt: &R, o: Options, count: usize) -> Options {
     if count <= o.next {
-        return finish(o);
+        return finish(rt, o);
     }
     let mut word = io::buffer();
-    let n = os::arg(o.next, &mut word);
-    answer_argument(o, &word[..n])
+    let n = program_files::argument(rt, o.next, &mut word);
+    answer_argument(rt, o, &word[..n])
 }
 
-pub fn run() {
-    let count = os::arg_count();
+pub fn run<R: Env + Files + Input>(rt: &R) {
+    let count = program_files::argument_count(rt);
     let mut options = Options {
         form: Form::Text,
         rule: UniformRule::Older,
@@ -273,10 +276,9 @@ pub fn run() {
         files: false,
         done: false,
     };
-    let mut left = std::num::wrapping_add_usize(count, 1);
-    while 0 < left {
-        left -= 1;
-        options = step(options, count);
+    // Each step but the last passes an argument.
+    for _ in 0..=count {
+        options = step(rt, options, count);
         if options.done {
             return;
         }

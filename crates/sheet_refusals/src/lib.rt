@@ -1,4 +1,6 @@
 // A refusal in words: its number, what that means, and where it stands.
+#![tactic(auto)]
+
 use program_output::Buffer;
 use wgsl_grammar::Refusal;
 

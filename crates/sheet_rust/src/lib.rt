@@ -1,4 +1,6 @@
 // The sheet as Rust: a struct each, its numbers as constants, and an assertion for every offset and size.
+#![tactic(auto)]
+
 use program_output::Buffer;
 use sheet_dimensions::Dimensions;
 

@@ -1,4 +1,6 @@
 // The structs of a sheet in the order of their records, in one of four forms.
+#![tactic(auto)]
+
 use program_output::Buffer;
 use sheet_lines::Form;
 

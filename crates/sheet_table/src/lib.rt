@@ -1,4 +1,6 @@
 // A struct of the sheet as text: what it measures, and a table of its members and gaps.
+#![tactic(auto)]
+
 ghost use Rattle.std.specs.Prelude.{◌≡◌, min, max};
 ghost use Rattle.sheet_table.specs.Width.{name_width};
 

@@ -10,7 +10,6 @@ use borrow.Author.Tests.{ne_eqb}
 use lib.ListN.{length, get_or, length-append}
 use Rattle.ir_records.specs.Record.{type_word}
 use Rattle.io.specs.Digits.{last_digits, hex_digit_ascii, IsDigitCount}
-use Rattle.program_output.specs.Bytes.{decimal}
 use Rattle.program_output.proofs.TextLaws.{fewest_digits, fewest_few}
 use Rattle.sheet_types.specs.Types.{is_hidden, visible_from, is_printable, name_length, inside_arrays}
 

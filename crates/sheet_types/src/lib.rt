@@ -1,4 +1,6 @@
 // Types and names in WGSL's words.
+#![tactic(auto)]
+
 ghost use Rattle.std.specs.Prelude.{◌≡◌};
 ghost use Rattle.sheet_types.specs.Types.{is_printable, member_name, name_length, inside_arrays, most_depth, column_step_of};
 

@@ -1,4 +1,6 @@
 // Verdicts, slots and bytes of a struct in words.
+#![tactic(auto)]
+
 ghost use Rattle.std.specs.Prelude.{◌≡◌, ◌<◌};
 ghost use Rattle.ir_rows.specs.Rows.{row_word};
 ghost use Rattle.valid_flags.specs.Flags.{bit, sized_bit, host_shareable_bit};

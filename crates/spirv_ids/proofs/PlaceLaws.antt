@@ -3,13 +3,13 @@
 use mathlib.Core.Path.{◌≡◌, refl, sym, ap, ◌∙◌}
 use mathlib.Core.Bool.{Bool, true, false, ◌&&◌, ◌||◌}
 use mathlib.Core.List.{List, [], ◌∷◌, ◌++◌, append_assoc}
-use Prim.Native.Nat.{ℕ, zero, suc, ◌+◌, ◌-◌, ◌≤◌, ◌<◌}
+use Prim.Native.Nat.{ℕ, ◌+◌, ◌-◌, ◌≤◌, ◌<◌}
 use native.Mathlib.Omega.{arith}
 use native.Mathlib.Decide.{dec_le}
-use lib.Dec.{eqb, leb, ltb}
+use lib.Dec.{eqb, leb}
 use borrow.Author.Tests.{leb-true, le-leb, eqb-true}
 use Rattle.ir_records.specs.Result.{pick}
-use Rattle.spirv_words.specs.Module.{opcode, word_count, is_type, is_read, type_int, constant, header_words, starts, between, before, first, count, word}
+use Rattle.spirv_words.specs.Module.{opcode, word_count, is_type, is_read, type_int, header_words, starts, between, before, first, count}
 use Rattle.spirv_words.specs.Decorations.{is_integer}
 use Rattle.spirv_words.proofs.SearchLaws.{between_next, between_end, search_on, search_end, found_below}
 use Rattle.spirv_ids.specs.Ids.{integer_before, is_constant, gives, giver, type_number}

@@ -1,4 +1,6 @@
 // What an id stands for at an instruction: searches for the instruction that gives it.
+#![tactic(auto)]
+
 ghost use Rattle.std.specs.Prelude.{◌≡◌, true, ◌&&◌, ◌≤◌, ◌<◌, eqb, length};
 ghost use Rattle.ir_records.specs.Result.{pick};
 ghost use Rattle.ir_records.specs.Fields.{most_types};
@@ -9,14 +11,14 @@ ghost use Rattle.spirv_ids.specs.Places.{may_give, GivesFrom};
 use spirv_words::Wanted;
 
 // The instruction that gives an id, 0 for none, and how many types are read before it.
-#[derive(Drop)]
+#[derive(Clone, Copy)]
 pub struct Giver {
     pub at: usize,
     pub number: u32,
 }
 
 // What an id stands for.
-#[derive(Drop)]
+#[derive(Clone, Copy)]
 pub enum Sort {
     // Missing or still to come.
     Unknown,

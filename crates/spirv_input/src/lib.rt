@@ -1,4 +1,6 @@
 // The words of a module from its bytes, the lowest byte first.
+#![tactic(auto)]
+
 ghost use Rattle.std.specs.Prelude.{◌≡◌, ◌++◌, ◌+◌, ◌*◌, ◌/◌, ◌≤◌, length, take, drop};
 ghost use Rattle.spirv_input.specs.Bytes.{word_of, words_in};
 
@@ -20,11 +22,7 @@ pub fn word_of(bytes: &[u8], k: usize) -> u32
 // Appends the words of the bytes after those that are held, and answers how many are held then.
 pub fn append(words: &mut [u32], held: usize, bytes: &[u8]) -> usize
     requires { held + length bytes.now / 4 ≤ length words.old }
-    ensures { (result ≡ held + length bytes.now / 4)
-        × (words.new
-        ≡ take held words.old
-        ++ words_in bytes.now (length bytes.now / 4)
-        ++ drop (held + length bytes.now / 4) words.old) }
+    ensures { (result ≡ held + length bytes.now / 4) × (words.new ≡ take held words.old ++ words_in bytes.now (length bytes.now / 4) ++ drop (held + length bytes.now / 4) words.old) }
 {
     let n = bytes.len() / 4;
     let mut k = 0;

@@ -1,13 +1,13 @@
 -- The fields of a record that is made are within their bounds.
 -- Assumes nothing.
-use mathlib.Core.Path.{◌≡◌, refl, sym, ap, ◌∙◌}
+use mathlib.Core.Path.{◌≡◌, refl, sym}
 use mathlib.Core.Bool.{Bool, true, false, not, ◌&&◌, ◌||◌}
 use mathlib.Core.List.{List, []}
-use Prim.Native.Nat.{ℕ, ◌*◌, ◌/◌, ◌≤◌, ◌<◌}
+use Prim.Native.Nat.{ℕ, ◌*◌, ◌/◌, ◌≤◌}
 use native.Mathlib.Omega.{arith}
 use lib.Dec.{eqb, leb, ltb}
 use borrow.Author.Tests.{eqb-true, leb-true}
-use Rattle.ir_records.specs.Result.{Result, err, ok, pick, require}
+use Rattle.ir_records.specs.Result.{Result, ok, pick}
 use Rattle.ir_records.specs.Record.{inner_in, inner_of, member_count, scalar_kind, vector_kind, matrix_kind, array_kind, struct_kind}
 use Rattle.ir_records.specs.Serving.{InnerBounds}
 use Rattle.ir_records.proofs.ResultLaws.{ok_inj}

@@ -1,14 +1,14 @@
 -- One instruction by cases, and what the code's caller goes by.
 -- Assumes nothing.
-use mathlib.Core.Path.{◌≡◌, refl, sym, ap, ◌∙◌}
-use mathlib.Core.Bool.{Bool, true, false, ◌&&◌}
+use mathlib.Core.Path.{◌≡◌}
+use mathlib.Core.Bool.{true, false, ◌&&◌}
 use mathlib.Core.List.{List}
-use Prim.Native.Nat.{ℕ, ◌+◌, ◌*◌, ◌/◌, ◌≤◌, ◌<◌}
+use Prim.Native.Nat.{ℕ, ◌+◌, ◌*◌, ◌<◌}
 use native.Mathlib.Omega.{arith}
 use lib.Dec.{leb}
 use lib.ListN.{length, replicate, length-replicate}
 use borrow.Author.Tests.{leb-true}
-use Rattle.ir_records.specs.Result.{Result, err, ok}
+use Rattle.ir_records.specs.Result.{err, ok}
 use Rattle.ir_records.specs.Record.{member_words, member_count}
 use Rattle.spirv_words.specs.Module.{word_count, opcode, is_read}
 use Rattle.spirv_members.specs.Members.{member_rows}
@@ -16,7 +16,7 @@ use Rattle.spirv_members.proofs.NumberLaws.{and_true}
 use Rattle.spirv_types.specs.Types.{State, Typed, type_at}
 use Rattle.spirv_instruction.specs.declared.Judged.{Judged}
 use Rattle.spirv_instruction.specs.declared.Judged.TheVariants as judge
-use Rattle.spirv_instruction.specs.Instruction.{least_words, told_by, words_ok, row_count, fits, with_type, type_read, other_read, instruction}
+use Rattle.spirv_instruction.specs.Instruction.{told_by, words_ok, row_count, fits, with_type, type_read, other_read, instruction}
 use Rattle.spirv_instruction.specs.Serving.{NoType, TypeTold, Told}
 
 -- a table of so many rows

@@ -1,4 +1,6 @@
 // One instruction of a SPIR-V module: its word count, the type that it makes, an id that is given twice, and the room for its records.
+#![tactic(auto)]
+
 ghost use Rattle.std.specs.Prelude.{◌≡◌, List, ℕ, ◌*◌, ◌/◌, ◌≤◌, ◌<◌, length};
 ghost use Rattle.ir_records.specs.Result.{pick};
 ghost use Rattle.ir_records.specs.Record.{member_count, type_count};
@@ -7,15 +9,14 @@ ghost use Rattle.spirv_ids.specs.Ids.{type_number};
 ghost use Rattle.spirv_ids.specs.Places.{GivesFrom};
 ghost use Rattle.spirv_members.specs.Serving.{Bounded, Ready};
 ghost use Rattle.spirv_types.specs.Types.{State};
-ghost use Rattle.spirv_instruction.specs.Instruction.{least_type, least_constant, least_decorate, least_member_decorate, least_words, told_by, words_ok};
-ghost use Rattle.spirv_instruction.specs.Instruction.{row_count, type_read, new_id, instruction, other_read};
+ghost use Rattle.spirv_instruction.specs.Instruction.{least_type, least_constant, least_decorate, least_member_decorate, least_words, told_by, words_ok, row_count, type_read, new_id, instruction, other_read};
 ghost use Rattle.spirv_instruction.specs.Serving.{judged_result, NoType, TypeTold, Told};
 
 use ir_records::Words;
 use spirv_types::Made;
 
 // What one instruction is: a type with so many member rows, one that makes no record, or a refusal.
-#[derive(Drop)]
+#[derive(Clone, Copy)]
 pub enum Judged {
     Skipped,
     Type {
@@ -144,10 +145,7 @@ fn type_read(
     requires ready { Ready words.now from at }
     requires bounded { Bounded types.now }
     requires alignments_len { length alignments.now ≡ type_number words.now at }
-    ensures { ((ms : List ℕ) → member_count ms ≡ members
-        → judged_result words.now at (record { types = types.entry.now; members = ms; alignments = alignments.now }) result
-        ≡ type_read room space words.now at (record { types = types.entry.now; members = ms; alignments = alignments.now }))
-        × TypeTold room space (type_count types.entry.now) members result }
+    ensures { ((ms : List ℕ) → member_count ms ≡ members → judged_result words.now at (record { types = types.entry.now; members = ms; alignments = alignments.now }) result ≡ type_read room space words.now at (record { types = types.entry.now; members = ms; alignments = alignments.now })) × TypeTold room space (type_count types.entry.now) members result }
 {
     match spirv_types::type_at(words, from, at, types, alignments, members) {
         Made::Type {
@@ -212,10 +210,7 @@ pub fn judge(
     requires ready { Ready words.now from at }
     requires bounded { Bounded types.now }
     requires alignments_len { length alignments.now ≡ type_number words.now at }
-    ensures { ((ms : List ℕ) → member_count ms ≡ members
-        → judged_result words.now at (record { types = types.entry.now; members = ms; alignments = alignments.now }) result
-        ≡ instruction room space words.now at (record { types = types.entry.now; members = ms; alignments = alignments.now }))
-        × Told room space words.now at (type_count types.entry.now) members result }
+    ensures { ((ms : List ℕ) → member_count ms ≡ members → judged_result words.now at (record { types = types.entry.now; members = ms; alignments = alignments.now }) result ≡ instruction room space words.now at (record { types = types.entry.now; members = ms; alignments = alignments.now })) × Told room space words.now at (type_count types.entry.now) members result }
 {
     if words_ok(words, from, at) {
         let op = spirv_words::opcode_of(words, at);

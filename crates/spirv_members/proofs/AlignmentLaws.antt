@@ -1,9 +1,9 @@
 -- The rows of a struct's members, and that the largest alignment of its members is 01's.
 -- Assumes nothing.
 use mathlib.Core.Path.{◌≡◌, refl, sym, ap, ◌∙◌}
-use mathlib.Core.Bool.{Bool, true, false, ◌&&◌}
+use mathlib.Core.Bool.{true}
 use mathlib.Core.List.{List, [], ◌∷◌, ◌++◌}
-use Prim.Native.Nat.{ℕ, zero, suc, ◌+◌, ◌*◌, ◌≤◌, ◌<◌, max}
+use Prim.Native.Nat.{ℕ, zero, suc, ◌+◌, ◌*◌, ◌≤◌, ◌<◌}
 use native.Mathlib.Nat.{suc-mul, not-suc-le-zero}
 use native.Mathlib.Decide.{dec_le}
 use native.Mathlib.Omega.{arith}
@@ -15,7 +15,7 @@ use Rattle.ir_records.specs.Record.{member_words, member_type}
 use Rattle.proc_type_alignment.specs.TypeAlignment.{members_alignment}
 use Rattle.spirv_words.specs.Module.{word}
 use Rattle.spirv_ids.specs.Ids.{type_number}
-use Rattle.spirv_members.specs.Members.{is_type_read, member_sort, member_number, offset_at, offset_of, member_rows, member_sound, members_sound, layouts_of, struct_alignment}
+use Rattle.spirv_members.specs.Members.{is_type_read, member_sort, member_number, offset_of, member_rows, member_sound, members_sound, layouts_of, struct_alignment}
 use Rattle.spirv_members.specs.Serving.{largest_alignment}
 use Rattle.spirv_members.proofs.NumberLaws.{and_true, read_below}
 

@@ -1,15 +1,14 @@
 -- What an id stands for: a type that is read has a number below those still to come, a constant stands before.
 -- Assumes nothing.
-use mathlib.Core.Path.{◌≡◌, refl, sym, ap, ◌∙◌}
+use mathlib.Core.Path.{◌≡◌, refl}
 use mathlib.Core.Bool.{Bool, true, false, ◌&&◌}
 use mathlib.Core.List.{List}
-use Prim.Native.Nat.{ℕ, zero, suc, ◌+◌, ◌-◌, ◌≤◌, ◌<◌}
+use Prim.Native.Nat.{ℕ, zero, suc, ◌+◌, ◌-◌, ◌<◌}
 use native.Mathlib.Omega.{arith}
 use lib.Dec.{eqb, ltb}
 use borrow.Author.Tests.{ltb-true, eqb-false}
 use Rattle.ir_records.specs.Result.{pick}
-use Rattle.spirv_words.specs.Module.{opcode, word_count, is_read, constant, header_words, starts, before, first}
-use Rattle.spirv_words.proofs.SearchLaws.{found_below}
+use Rattle.spirv_words.specs.Module.{opcode, word_count, is_read, constant, header_words, starts, first}
 use Rattle.spirv_ids.specs.Ids.{gives, giver, type_number, sort_at, sort}
 use Rattle.spirv_ids.specs.declared.Sort.TheVariants.{Unknown, OtherType, TypeRead, ConstantAt}
 use Rattle.spirv_ids.specs.Places.{Stands}

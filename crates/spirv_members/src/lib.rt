@@ -1,11 +1,12 @@
 // The members of a struct, from the words of a SPIR-V module: what each is, where it stands, and how far the last one reaches.
+#![tactic(auto)]
+
 ghost use Rattle.std.specs.Prelude.{◌≡◌, true, ◌&&◌, ◌||◌, suc, ◌*◌, ◌≤◌, ◌<◌, max, length, get_or};
 ghost use Rattle.ir_records.specs.Result.{ok};
 ghost use Rattle.ir_records.specs.Record.{type_inner};
 ghost use Rattle.ir_records.specs.Serving.{InnerBounds};
 ghost use Rattle.proc_type_methods.specs.TypeMethods.{try_size, size_of};
-ghost use Rattle.spirv_members.specs.Members.{is_other, is_type_read, number_of, member_count_at, member_sort, member_number, offset_at, offset_of, column_step_in};
-ghost use Rattle.spirv_members.specs.Members.{stored_otherwise, member_unsupported, members_unsupported, member_sound, members_sound, size_in, last_end};
+ghost use Rattle.spirv_members.specs.Members.{is_other, is_type_read, number_of, member_count_at, member_sort, member_number, offset_at, offset_of, column_step_in, stored_otherwise, member_unsupported, members_unsupported, member_sound, members_sound, size_in, last_end};
 ghost use Rattle.spirv_members.specs.Serving.{largest_alignment};
 ghost use Rattle.spirv_members.specs.Serving.{Bounded, Ready};
 
@@ -15,7 +16,7 @@ use spirv_ids::Sort;
 use spirv_words::Wanted;
 
 // What is known of the first members: one is unsupported (29), all are sound (else 30), and their largest alignment.
-#[derive(Drop)]
+#[derive(Clone, Copy)]
 pub struct Members {
     pub unsupported: bool,
     pub sound: bool,
@@ -152,9 +153,7 @@ fn with_member(
     requires ready { Ready words.now from at }
     requires bounded { Bounded types.now }
     requires j_bound { j ≤ 65533 }
-    ensures { (result.unsupported ≡ (seen.unsupported || member_unsupported words.now types.now at j))
-        × (result.sound ≡ (seen.sound && member_sound words.now at j))
-        × (result.alignment ≡ max seen.alignment (get_or alignments.now (member_number words.now at j) 0)) }
+    ensures { (result.unsupported ≡ (seen.unsupported || member_unsupported words.now types.now at j)) × (result.sound ≡ (seen.sound && member_sound words.now at j)) × (result.alignment ≡ max seen.alignment (get_or alignments.now (member_number words.now at j) 0)) }
 {
     let sort = member_sort(words, from, at, j);
     let number = number_of(sort);
@@ -186,9 +185,7 @@ pub fn members_of(
     requires ready { Ready words.now from at }
     requires bounded { Bounded types.now }
     requires n_bound { n ≤ 65533 }
-    ensures { (result.unsupported ≡ members_unsupported words.now types.now at n)
-        × (result.sound ≡ members_sound words.now at n)
-        × (result.alignment ≡ largest_alignment words.now alignments.now at n) }
+    ensures { (result.unsupported ≡ members_unsupported words.now types.now at n) × (result.sound ≡ members_sound words.now at n) × (result.alignment ≡ largest_alignment words.now alignments.now at n) }
 {
     let mut seen = Members {
         unsupported: false,

@@ -2,22 +2,22 @@
 -- Assumes nothing.
 use mathlib.Core.Path.{◌≡◌, refl, sym, ap, ◌∙◌}
 use mathlib.Core.Bool.{Bool, true, false, not, ◌&&◌, ◌||◌}
-use mathlib.Core.Logic.{◌⊎◌, inl, inr, ◌≢◌}
+use mathlib.Core.Logic.{inl, inr, ◌≢◌}
 use mathlib.Core.List.{List, [], ◌∷◌}
 use Prim.Native.Nat.{ℕ, zero, suc, ◌+◌, ◌-◌, ◌*◌, ◌≤◌, ◌<◌}
-use native.Mathlib.Nat.{not-suc-le-zero, mul-le-mul_right}
+use native.Mathlib.Nat.{not-suc-le-zero}
 use native.Mathlib.Omega.{arith}
 use native.Mathlib.Decide.{ℕ_discrete}
 use lib.Dec.{eqb, ltb}
 use lib.ListN.{length}
-use borrow.Author.Tests.{eqb-true, eqb-false, eq-eqb, lt-ltb, ltb-true}
+use borrow.Author.Tests.{eqb-true, eqb-false, eq-eqb, lt-ltb}
 use Rattle.ir_records.specs.Result.{pick}
 use Rattle.ir_records.specs.Record.{type_word, member_count, scalar_kind, vector_kind, matrix_kind, array_kind, struct_kind}
-use Rattle.proc_alignment.specs.Alignment.{power_of_two, vector_alignment}
+use Rattle.proc_alignment.specs.Alignment.{power_of_two}
 use Rattle.proc_type_methods.specs.TypeMethods.{column_step}
-use Rattle.spirv_words.specs.Module.{opcode, word, word_count, type_vector, type_matrix, type_array, type_runtime_array, type_struct, header_words, starts, before, first}
+use Rattle.spirv_words.specs.Module.{opcode, word, word_count, type_matrix, type_array, type_runtime_array, type_struct, header_words, starts, before, first}
 use Rattle.spirv_words.specs.Decorations.{row_major, matrix_stride, is_members_of, is_otherwise}
-use Rattle.spirv_ids.specs.Ids.{sort, type_number}
+use Rattle.spirv_ids.specs.Ids.{type_number}
 use Rattle.spirv_members.specs.Members.{is_other, is_type_read, number_of, member_sort, member_number, member_count_at, column_step_in, stored_otherwise, member_unsupported, members_unsupported, member_sound, members_sound}
 use Rattle.spirv_members.proofs.MemberLaws.{step_matrix, step_array}
 use Rattle.spirv_members.proofs.NumberLaws.{and_true, read_below}

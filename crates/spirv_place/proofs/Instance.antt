@@ -4,13 +4,12 @@
 use mathlib.Core.Path.{◌≡◌, refl}
 use mathlib.Core.Logic.{◌≢◌, inl, inr}
 use mathlib.Core.List.{List, [], ◌∷◌}
-use Prim.Native.Nat.{ℕ, zero, suc, ◌+◌, ◌≤◌, ◌<◌}
+use Prim.Native.Nat.{ℕ, zero, suc, ◌≤◌, ◌<◌}
 use native.Mathlib.Omega.{arith}
 use lib.ListN.{get_elem?}
 use Rattle.ir_records.specs.Result.{ok}
 use Rattle.ir_records.specs.Record.{decoded, inner_of, type_inner, struct_members}
-use Rattle.ir_records.specs.Fields.{tables_fit, fields_ok, record_at}
-use Rattle.ir_records.specs.BlendSource.{located_to}
+use Rattle.ir_records.specs.Fields.{tables_fit, fields_ok, record_at, located_to}
 use Rattle.ir_records.specs.Table.{result_at, value_at}
 use Rattle.ir_records.specs.declared.Outcome.TheVariants.{Accepted}
 use Rattle.proc_type_methods.specs.TypeMethods.{column_step, try_size}
@@ -25,11 +24,10 @@ use Rattle.valid_member_bounds.specs.MemberBounds.{member_bounds}
 use Rattle.valid_blend.specs.Blend.{source_at, source_result, blended_after, other_location, struct_blend}
 use Rattle.valid_member_rules.specs.MemberRules.{uniform_after, storage_after, immediates_after}
 use Rattle.valid_types.specs.ValidateType.{flags_of, uniform_of, storage_of, immediates_of, row_of, judge, judge_common}
-use Rattle.valid_arena.specs.Arena.{row, judge_outcome, arena_outcome, arena}
+use Rattle.valid_arena.specs.Arena.{judge_outcome, arena_outcome, arena}
 use Rattle.valid_arena.proofs.ArenaLaws.{accepted_types}
 use Rattle.place_descent.specs.declared.Place.TheVariants.{At, NoPlace}
-use Rattle.place_term3.specs.Term3.{row_in, HostShareableData, stride_covers, StridesCover, Leaf, rewrite}
-use Rattle.place_term3.specs.Gaps.{InLeaf}
+use Rattle.place_term3.specs.Term3.{row_in, HostShareableData, stride_covers, StridesCover, rewrite}
 use Rattle.place_term3.proofs.ReachedLaws.{strides_cover}
 use Rattle.spirv_words.specs.Module.{word, starts, first, only, count}
 use Rattle.spirv_ids.specs.Ids.{integer_before, is_constant, gives, giver, type_number, sort_at, sort}
@@ -39,7 +37,7 @@ use Rattle.spirv_instruction.specs.Instruction.{least_words, words_ok, type_read
 use Rattle.spirv_read.specs.Read.{read_from, read_module}
 use Rattle.spirv_records.specs.TypesRead.{TypeReadAt}
 use Rattle.spirv_place.specs.ModulePlace.{matrix_rows, matrix_width, module_step, module_place, module_bytes, itself}
-use Rattle.spirv_place.specs.SpirvTerm3.{ReadType, ModuleLeadsTo}
+use Rattle.spirv_place.specs.SpirvTerm3.{ReadType, InModuleLeaf}
 use Rattle.spirv_place.proofs.SpirvTerm3Proof.{spirv_term3}
 
 -- ---- the module
@@ -162,24 +160,19 @@ covers rule = rw number (strides_cover rule 0 (decoded types members) 6 (accepte
 different : ◌≢◌ {A = List ℕ} (1 ∷ 1 ∷ []) (1 ∷ 2 ∷ [])
 different e = let z : ◌≡◌ {A = ℕ} 1 2 = cc in omega arith
 
-abbrev pub second : Leaf (ModuleLeadsTo words 52)
-second = record { steps = 1 ∷ 1 ∷ []; byte = 32; ty = 36; place = second_column }
-
-abbrev pub third : Leaf (ModuleLeadsTo words 52)
-third = record { steps = 1 ∷ 2 ∷ []; byte = 48; ty = 36; place = third_column }
-
 -- whatever is written to the twelve bytes of the second column, those of the third stay
 pub column_stays : (rule : UniformRule) (buffer bytes : List ℕ) (k : ℕ) → 48 ≤ k → k < 60 → get_elem? (rewrite buffer 32 12 bytes) k ≡ get_elem? buffer k
 column_stays rule buffer bytes k low high =
     rw leaves.0 at
-    (spirv_term3.others rule 0 6 3 words state 52 the_struct (shareable rule) (covers rule) second third different k (low, rw leaves.0 high) buffer bytes)
+    (spirv_term3.others rule 0 6 3 words state 52 the_struct (shareable rule) (covers rule) (1 ∷ 1 ∷ []) (1 ∷ 2 ∷ []) 32 36 48 36 second_column third_column different
+    buffer bytes k low (rw leaves.0 high))
 
 -- the four bytes between the two are in no leaf
-pub gap : (rule : UniformRule) (k : ℕ) → 44 ≤ k → k < 48 → ¬ InLeaf (ModuleLeadsTo words 52) (module_bytes words) k
+pub gap : (rule : UniformRule) (k : ℕ) → 44 ≤ k → k < 48 → ¬ InModuleLeaf words 52 k
 unfolding giver gives is_constant integer_before starts first
 gap rule k low high =
     (spirv_term3.gaps rule 0 6 3 words state 52 k the_struct (shareable rule)).1 (covers rule)
-    (record { leaf = second; matrix = refl; past = rw leaves.0 low; below = high })
+    (record { steps = 1 ∷ 1 ∷ []; byte = 32; leaf = 36; place = second_column; matrix = refl; past = rw leaves.0 low; below = high })
 
 -- the column step of the matrix is the MatrixStride that the module gives for member 1
 pub matrix-stride : word words 19 4 ≡ column_step (matrix_rows words 36) (matrix_width words 36)

@@ -1,35 +1,34 @@
 -- One step by the records is one step by the module's words.
 -- Assumes nothing.
-use mathlib.Core.Path.{◌≡◌, refl, sym, ap, ◌∙◌}
-use mathlib.Core.Bool.{Bool, true, false, ◌&&◌}
-use mathlib.Core.Logic.{◌⊎◌, inl, inr}
-use mathlib.Core.List.{List, [], ◌∷◌, ◌++◌}
-use Prim.Native.Nat.{ℕ, zero, suc, ◌+◌, ◌*◌, ◌^◌, ◌≤◌, ◌<◌}
-use native.Mathlib.Nat.{not-suc-le-zero}
+use mathlib.Core.Path.{◌≡◌, refl, sym, ap, ◌∙◌, subst}
+use mathlib.Core.Bool.{Bool, true, false}
+use mathlib.Core.Logic.{inl, inr}
+use mathlib.Core.List.{List, [], ◌∷◌}
+use Prim.Native.Nat.{ℕ, suc, ◌+◌, ◌*◌, ◌^◌, ◌≤◌, ◌<◌}
 use native.Mathlib.Omega.{arith}
 use native.Mathlib.Decide.{dec_le}
-use lib.Dec.{eqb, leb, ltb}
+use lib.Dec.{ltb}
 use lib.ListN.{length, get_or}
-use borrow.Author.Tests.{lt-ltb, le-ltb, le-leb, lt-leb, ne_eqb, eqb-false}
+use borrow.Author.Tests.{lt-ltb, le-ltb, le-leb, lt-leb, ne_eqb}
 use Rattle.ir_records.specs.Result.{pick}
 use Rattle.ir_records.specs.Record.{Decoded, decoded, type_word, type_inner, inner_of, struct_members, member_count, member_words, member_type, member_offset, scalar_kind, vector_kind, matrix_kind, array_kind, struct_kind}
 use Rattle.proc_type_methods.specs.TypeMethods.{column_step}
 use Rattle.place_steps.specs.declared.Step.{Step}
 use Rattle.place_steps.specs.declared.Step.TheVariants.{To, Column, NoStep}
-use Rattle.place_steps.specs.Steps.{is_leaf, step_of}
+use Rattle.place_steps.specs.Steps.{step_of}
 use Rattle.place_descent.specs.Place.{step_in, leaf_in}
-use Rattle.spirv_words.specs.Module.{opcode, word, type_bool, type_float, type_vector, type_matrix, type_array, type_runtime_array, type_struct, before, between, first}
+use Rattle.spirv_words.specs.Module.{opcode, word, type_bool, type_vector, type_matrix, type_array, type_runtime_array, type_struct, before, between, first}
 use Rattle.spirv_ids.specs.Ids.{gives, giver, sort, type_number}
 use Rattle.spirv_members.specs.Members.{is_type_read, number_of, member_number, member_sort, member_count_at, offset_of, member_rows, member_sound, members_sound}
 use Rattle.spirv_members.proofs.NumberLaws.{and_true, type-read, read_below}
 use Rattle.spirv_members.proofs.AlignmentLaws.{row-word}
 use Rattle.spirv_types.specs.Types.{State, base_sort, base_word, stride_of, length_of, length_sort}
-use Rattle.spirv_records.specs.TypesRead.{Among, ReadBefore, TypeReadAt, scalar_width}
+use Rattle.spirv_records.specs.TypesRead.{Among, TypeReadAt, scalar_width}
 use Rattle.spirv_records.proofs.MadeLaws.{MadeAs, as_scalar, as_vector, as_matrix, as_array, as_runtime_array, as_struct, made_as}
 use Rattle.spirv_records.proofs.HeldLaws.{Held, Recorded, among_left}
-use Rattle.spirv_records.proofs.RecordedLaws.{earlier_word, own_within, word_is, inner_is, own_rows}
+use Rattle.spirv_records.proofs.RecordedLaws.{earlier_word, word_is, inner_is, own_rows}
 use Rattle.spirv_records.proofs.OrderLaws.{sound_at}
-use Rattle.spirv_place.specs.ModulePlace.{named, matrix_rows, matrix_width, element_step, module_step, module_leaf}
+use Rattle.spirv_place.specs.ModulePlace.{named, matrix_rows, matrix_width, module_step, module_leaf}
 
 -- what a search finds is among what it looks through
 first_among : (test : ℕ → Bool) (ps : List ℕ) → 0 < first test ps → Among (first test ps) ps
@@ -39,7 +38,9 @@ first_among test (p ∷ ps) h = by (test p) refl (first_among test ps)
   where
     by : (b : Bool) → test p ≡ b → (0 < first test ps → Among (first test ps) ps) → Among (first test (p ∷ ps)) (p ∷ ps)
     by true e rest = rw e (inl refl)
-    by false e rest = rw e (inr (rest (rw e at h)))
+    by false e rest =
+        let on : first test (p ∷ ps) ≡ first test ps = rw e refl in
+        inr (subst (λ (x : ℕ). Among x ps) (sym on) (rest (subst (λ (x : ℕ). 0 < x) on h)))
 
 -- a step by the words, with the numbers of the types
 abbrev pub step_numbered : (ws : List ℕ) → Step → Step

@@ -1,14 +1,14 @@
 -- Places by the records are places by the module's words, and end at types that were read.
 -- Assumes nothing.
 use mathlib.Core.Path.{◌≡◌, refl, sym, ap, ◌∙◌, subst}
-use mathlib.Core.Bool.{Bool, true, false, ◌&&◌}
+use mathlib.Core.Bool.{Bool, true, false}
 use mathlib.Core.List.{List, [], ◌∷◌}
 use Prim.Native.Nat.{ℕ, ◌+◌, ◌*◌, ◌≤◌, ◌<◌}
 use native.Mathlib.Omega.{arith}
-use lib.Dec.{T, eqb, leb, ltb}
+use lib.Dec.{eqb, leb}
 use lib.ListN.{length}
 use borrow.Author.Tests.{lt-ltb, leb-true, ne_eqb}
-use Rattle.ir_records.specs.Result.{ok, pick}
+use Rattle.ir_records.specs.Result.{pick}
 use Rattle.ir_records.specs.Record.{Decoded, decoded, type_count, type_inner, inner_of, member_count, scalar_kind, vector_kind, matrix_kind, array_kind, struct_kind}
 use Rattle.ir_records.specs.declared.Outcome.TheVariants.{Accepted}
 use Rattle.ir_records.specs.declared.Leaf.{Leaf}
@@ -25,7 +25,7 @@ use Rattle.place_steps.specs.declared.Step.{Step}
 use Rattle.place_steps.specs.declared.Step.TheVariants.{To, Column, NoStep}
 use Rattle.place_descent.specs.declared.Place.{Place}
 use Rattle.place_descent.specs.declared.Place.TheVariants.{At, NoPlace}
-use Rattle.place_descent.specs.Place.{ended, follow, walk, step_in, leaf_in, place_in, place_of}
+use Rattle.place_descent.specs.Place.{ended, follow, walk, place_in, place_of}
 use Rattle.place_term3.specs.Term3.{row_in, leaf_measure, first_element, after, FirstElements}
 use Rattle.spirv_words.specs.Module.{opcode, word, type_bool, type_vector, type_matrix, type_runtime_array}
 use Rattle.spirv_ids.specs.Ids.{type_number}
@@ -35,8 +35,8 @@ use Rattle.spirv_records.specs.TypesRead.{TypeReadAt, scalar_width}
 use Rattle.spirv_records.proofs.MadeLaws.{MadeAs, as_scalar, as_vector, as_matrix, as_array, as_runtime_array, as_struct}
 use Rattle.spirv_records.proofs.HeldLaws.{Held, Recorded}
 use Rattle.spirv_records.proofs.RecordedLaws.{own_within, inner_is}
-use Rattle.spirv_place.specs.ModulePlace.{named, matrix_rows, matrix_width, module_step, module_leaf, module_place, module_bytes, numbered, FirstSteps}
-use Rattle.spirv_place.proofs.StepLaws.{step_numbered, StepReads, made, base_width, matrix_words, StepAgrees, step_agrees, leaf_agrees}
+use Rattle.spirv_place.specs.ModulePlace.{named, matrix_rows, matrix_width, module_step, module_leaf, module_place, module_bytes, numbered, onward, FirstSteps}
+use Rattle.spirv_place.proofs.StepLaws.{step_numbered, StepReads, made, base_width, matrix_words, step_agrees, leaf_agrees}
 use Rattle.spirv_members.proofs.NumberLaws.{and_true}
 
 at_parts : (a b c d : ℕ) → At a b ≡ At c d → (a ≡ c) × (b ≡ d)
@@ -66,20 +66,20 @@ module _ (t m : ℕ) (ws : List ℕ) (s : State) (held : Held t m ws (length ws)
   column_ends byte p [] = refl
   column_ends byte p (x ∷ steps) = refl
 
-  goes-on : (p byte : ℕ) (steps : List ℕ) (st : Step) → StepReads ws p st
+  goes_on : (p byte : ℕ) (steps : List ℕ) (st : Step) → StepReads ws p st
       → ((q : ℕ) → TypeReadAt ws q → (b : ℕ) → place_in types (type_number ws q) b steps ≡ numbered ws (module_walk q b steps))
       → follow (step_numbered ws st) (λ b. ended (byte + b) (type_number ws p) steps) (λ next b. place_in types next (byte + b) steps)
       ≡ numbered ws (follow st (λ b. ended (byte + b) p steps) (λ next b. module_walk next (byte + b) steps))
-  goes-on p byte steps (To q b) read rest = rest q read (byte + b)
-  goes-on p byte steps (Column b) read rest = column_ends (byte + b) p steps
-  goes-on p byte steps NoStep read rest = refl
+  goes_on p byte steps (To q b) read rest = rest q read (byte + b)
+  goes_on p byte steps (Column b) read rest = column_ends (byte + b) p steps
+  goes_on p byte steps NoStep read rest = refl
 
   walk_agrees : (steps : List ℕ) (p : ℕ) → TypeReadAt ws p → (byte : ℕ) → place_in types (type_number ws p) byte steps ≡ numbered ws (module_walk p byte steps)
   walk_agrees [] p at byte = ap (λ (b : Bool). pick b (At byte (type_number ws p)) NoPlace) (leaf_agrees t m ws s held p at) ∙ ends (module_leaf ws p) byte p
   walk_agrees (x ∷ steps) p at byte =
       let a = step_agrees t m ws s held p at x in
       ap (λ (st : Step). follow st (λ b. ended (byte + b) (type_number ws p) steps) (λ next b. place_in types next (byte + b) steps)) a.agrees
-      ∙ goes-on p byte steps (module_step ws p x) a.reads (walk_agrees steps)
+      ∙ goes_on p byte steps (module_step ws p x) a.reads (walk_agrees steps)
 
   pub place_agrees : (p : ℕ) → TypeReadAt ws p → (steps : List ℕ) → place_of s.types s.members (type_number ws p) steps ≡ numbered ws (module_place ws p steps)
   unfolding place_of module_place
@@ -204,7 +204,7 @@ module _ (t m : ℕ) (ws : List ℕ) (s : State) (held : Held t m ws (length ws)
       by (as_runtime_array o b is) = rw (inner_is ws s p r array_kind (number_of (base_sort ws p)) 1 0 (stride_of ws p) is) (f o)
       by (as_struct span o sound u is) = rw (inner_is ws s p r struct_kind (member_count r.was.members) (member_count_at ws p) span 0 is) tt
 
-  first_on : (p : ℕ) (steps : List ℕ) (st : Step) → StepReads ws p st → after st (λ q. FirstSteps ws q steps)
+  first_on : (p : ℕ) (steps : List ℕ) (st : Step) → StepReads ws p st → onward st (λ q. FirstSteps ws q steps)
       → ((q : ℕ) → TypeReadAt ws q → FirstSteps ws q steps → FirstElements types (type_number ws q) steps)
       → after (step_numbered ws st) (λ next. FirstElements types next steps)
   first_on p steps (To q b) read f rest = rest q read f

@@ -9,7 +9,6 @@ use Rattle.place_steps.specs.declared.Step.TheVariants.{To, Column, NoStep}
 use Rattle.place_descent.specs.declared.Place.{Place}
 use Rattle.place_descent.specs.declared.Place.TheVariants.{At, NoPlace}
 use Rattle.place_descent.specs.Place.{walk}
-use Rattle.place_term3.specs.Term3.{after}
 use Rattle.spirv_words.specs.Module.{opcode, word, type_bool, type_vector, type_matrix, type_array, type_runtime_array, type_struct}
 use Rattle.spirv_ids.specs.Ids.{giver, type_number}
 use Rattle.spirv_members.specs.Members.{member_count_at, offset_of}
@@ -65,9 +64,14 @@ numbered ws NoPlace = NoPlace
 abbrev pub first_step : (ws : List ℕ) (p s : ℕ) → Type 0
 first_step ws p s = opcode ws p ≡ type_runtime_array → s ≡ 0
 
+abbrev pub onward : Step → (ℕ → Type 0) → Type 0
+onward (To p bytes) rest = rest p
+onward (Column bytes) rest = Unit {0}
+onward NoStep rest = Unit {0}
+
 abbrev pub FirstSteps : (ws : List ℕ) (p : ℕ) (steps : List ℕ) → Type 0
 FirstSteps ws p [] = Unit {0}
-FirstSteps ws p (s ∷ steps) = first_step ws p s × after (module_step ws p s) (λ q. FirstSteps ws q steps)
+FirstSteps ws p (s ∷ steps) = first_step ws p s × onward (module_step ws p s) (λ q. FirstSteps ws q steps)
 
 -- ---- the type that an array, or an array of arrays, is made of
 pub data ElementOf (ws : List ℕ) : ℕ → ℕ → Type 0 where

@@ -2,8 +2,7 @@
 -- Assumes nothing.
 use mathlib.Core.Path.{◌≡◌, refl, sym, ap, ◌∙◌}
 use mathlib.Core.List.{List, [], ◌∷◌, ◌++◌, append_assoc, append-nil}
-use Prim.Native.Nat.{ℕ, suc, ◌+◌, ◌-◌, ◌*◌, ◌≤◌, ◌<◌}
-use native.Mathlib.Nat.{zero-mul}
+use Prim.Native.Nat.{ℕ, ◌+◌, ◌*◌, ◌≤◌, ◌<◌}
 use native.Mathlib.Decide.{dec_le}
 use native.Mathlib.Numerals.{add-one}
 use native.Mathlib.Omega.{arith}
@@ -16,7 +15,6 @@ use Rattle.ir_rows.specs.Rows.{with_part, cleared}
 use Rattle.ir_rows.proofs.RowLaws.{take_part, drop_part, part-length}
 use Rattle.spirv_members.specs.Members.{member_number, offset_of, member_rows}
 use Rattle.spirv_members.specs.Serving.{Bounded}
-use Rattle.spirv_members.proofs.AlignmentLaws.{rows_length}
 use Rattle.spirv_instruction.specs.Instruction.{listed}
 
 -- ---- the rows of a struct, one by one

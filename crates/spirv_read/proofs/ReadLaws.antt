@@ -2,21 +2,19 @@
 -- Assumes nothing.
 use mathlib.Core.Path.{◌≡◌, refl, sym, ap, ◌∙◌}
 use mathlib.Core.Bool.{true, false}
-use mathlib.Core.List.{List, [], ◌++◌}
-use Prim.Native.Nat.{ℕ, zero, suc, ◌+◌, ◌-◌, ◌*◌, ◌≤◌, ◌<◌}
-use native.Mathlib.Nat.{zero-mul}
+use mathlib.Core.List.{List, ◌++◌}
+use Prim.Native.Nat.{ℕ, zero, suc, ◌+◌, ◌*◌, ◌≤◌, ◌<◌}
 use native.Mathlib.Omega.{arith}
 use lib.ListN.{length, take, drop, replicate, take-append-drop}
 use lib.Seq.{length-take-le}
 use borrow.Author.Tests.{lt-ltb, le-ltb}
-use Rattle.ir_records.specs.Result.{Result, err, ok, pick}
+use Rattle.ir_records.specs.Result.{Result, err, ok}
 use Rattle.ir_records.specs.Record.{type_words, member_words, type_count, member_count}
 use Rattle.ir_rows.proofs.RowLaws.{drop_later}
-use Rattle.spirv_words.specs.Module.{header_ok, header_words, word_count, opcode, is_read, starts, count}
+use Rattle.spirv_words.specs.Module.{header_ok, header_words, word_count, starts, count}
 use Rattle.spirv_ids.specs.Ids.{type_number}
 use Rattle.spirv_ids.specs.Places.{Stands}
 use Rattle.spirv_ids.proofs.PlaceLaws.{stands_first, stands_next, number_next}
-use Rattle.spirv_members.specs.Serving.{Bounded}
 use Rattle.spirv_types.specs.Types.{State}
 use Rattle.spirv_instruction.specs.Instruction.{instruction, types_room, members_room}
 use Rattle.spirv_read.specs.declared.Section.TheVariants.{Read, Refused}

@@ -1,22 +1,20 @@
 -- One instruction on the lent tables: skipped, a record more, or refused.
 -- Assumes nothing.
-use mathlib.Core.Path.{◌≡◌, refl, sym, ap, ◌∙◌}
+use mathlib.Core.Path.{◌≡◌, refl, ap, ◌∙◌}
 use mathlib.Core.Bool.{true, false}
 use mathlib.Core.List.{List, [], ◌∷◌, ◌++◌}
-use Prim.Native.Nat.{ℕ, suc, ◌+◌, ◌*◌, ◌≤◌, ◌<◌}
+use Prim.Native.Nat.{ℕ, ◌+◌, ◌*◌, ◌≤◌, ◌<◌}
 use native.Mathlib.Omega.{arith}
-use lib.ListN.{length, take, drop}
+use lib.ListN.{length, take}
 use lib.Seq.{length-take-le}
-use Rattle.ir_records.specs.Result.{Result, err, ok, pick}
+use Rattle.ir_records.specs.Result.{ok}
 use Rattle.ir_records.specs.declared.Words.{Words}
 use Rattle.ir_records.specs.Record.{type_words, member_words, type_count, member_count, inner_in}
 use Rattle.ir_records.specs.Serving.{InnerBounds}
 use Rattle.ir_rows.specs.Rows.{with_part}
 use Rattle.ir_rows.proofs.RowLaws.{take_part, drop_part}
 use Rattle.spirv_words.specs.Module.{word_count, opcode, is_read}
-use Rattle.spirv_ids.specs.Ids.{type_number}
 use Rattle.spirv_members.specs.Members.{member_rows}
-use Rattle.spirv_members.specs.Serving.{Bounded}
 use Rattle.spirv_members.proofs.AlignmentLaws.{rows_length}
 use Rattle.spirv_types.specs.Types.{State}
 use Rattle.spirv_instruction.specs.Instruction.{listed, with_type, instruction}

@@ -1,4 +1,6 @@
 // Type sections from SPIR-V: the instructions of a module in word order, into lent type and member records.
+#![tactic(auto)]
+
 ghost use Rattle.std.specs.Prelude.{◌≡◌, [], ◌∷◌, ◌+◌, ◌*◌, ◌≤◌, ◌<◌, min, length, replicate};
 ghost use Rattle.ir_rows.specs.Rows.{with_part};
 ghost use Rattle.spirv_words.specs.Module.{header_ok, header_words};
@@ -13,14 +15,14 @@ use ir_records::Words;
 use spirv_instruction::Judged;
 
 // How many types and members were read, or the number of the refusal.
-#[derive(Drop)]
+#[derive(Clone, Copy)]
 pub enum Section {
     Read { types: u32, members: u32 },
     Refused { number: u32 },
 }
 
 // How many types and members are held after an instruction, or the number of the refusal.
-#[derive(Drop)]
+#[derive(Clone, Copy)]
 pub enum Step {
     Next { types: u32, members: u32 },
     Stopped(u32),
@@ -66,8 +68,7 @@ fn put_member(words: &[u32], from: usize, at: usize, members: &mut [u32], row: u
     requires ready { Ready words.now from at }
     requires j_bound { j ≤ 65533 }
     requires row_in_bounds { row * 4 + 4 ≤ length members.old }
-    ensures { members.new
-        ≡ with_part 4 members.old (row * 4) (member_number words.now at j ∷ offset_of words.now at j ∷ 0 ∷ 0 ∷ []) }
+    ensures { members.new ≡ with_part 4 members.old (row * 4) (member_number words.now at j ∷ offset_of words.now at j ∷ 0 ∷ 0 ∷ []) }
 {
     let place = row * ir_records::MEMBER_WORDS;
     let number = spirv_members::number_of(spirv_members::member_sort(words, from, at, j));
@@ -110,9 +111,7 @@ fn put_all(
     requires rows_bound { m + rows ≤ 4096 }
     requires rows_in_bounds { (m + rows) * 4 ≤ length members.old }
     requires t_in_bounds_2 { t < length alignments.old }
-    ensures { (types.new ≡ with_part 6 types.old (t * 6) (listed w))
-        × (members.new ≡ with_part (rows * 4) members.old (m * 4) (member_rows words.now at rows))
-        × (alignments.new ≡ with_part 1 alignments.old t (alignment ∷ [])) }
+    ensures { (types.new ≡ with_part 6 types.old (t * 6) (listed w)) × (members.new ≡ with_part (rows * 4) members.old (m * 4) (member_rows words.now at rows)) × (alignments.new ≡ with_part 1 alignments.old t (alignment ∷ [])) }
 {
     put_type(types, t, w);
     put_members(words, from, at, members, m, rows);
@@ -135,8 +134,7 @@ fn step_at(
     requires ready { Ready words.now from at }
     requires room { Room room space types.old members.old alignments.old }
     requires held { Held room space words.now at types.old t m }
-    ensures { StepIs room space words.now at types.old members.old alignments.old types.new
-        members.new alignments.new t m result }
+    ensures { StepIs room space words.now at types.old members.old alignments.old types.new members.new alignments.new t m result }
 {
     let held = (t as usize) * ir_records::TYPE_WORDS;
     let end = t as usize;
@@ -186,10 +184,7 @@ fn read_from(
 ) -> Section
     requires gives_from { GivesFrom words.now from }
     requires room { Room room space types.old members.old alignments.old }
-    ensures { (result ≡ section_of (read_from room space words.now (length words.now) header_words none))
-        × FilledTypes (read_from room space words.now (length words.now) header_words none) types.old types.new
-        × FilledMembers (read_from room space words.now (length words.now) header_words none) members.old
-        members.new }
+    ensures { (result ≡ section_of (read_from room space words.now (length words.now) header_words none)) × FilledTypes (read_from room space words.now (length words.now) header_words none) types.old types.new × FilledMembers (read_from room space words.now (length words.now) header_words none) members.old members.new }
 {
     let mut at: usize = spirv_words::HEADER_WORDS;
     let mut t: u32 = 0;
@@ -243,9 +238,7 @@ fn clear_both(types: &mut [u32], members: &mut [u32])
 
 // The type section of a module. Nothing is asked of the caller.
 pub fn read_words(words: &[u32], types: &mut [u32], members: &mut [u32]) -> Section
-    ensures { (result ≡ section_of (read_into words.now types.old members.old))
-        × (types.new ≡ types_after (read_into words.now types.old members.old) types.old)
-        × (members.new ≡ members_after (read_into words.now types.old members.old) members.old) }
+    ensures { (result ≡ section_of (read_into words.now types.old members.old)) × (types.new ≡ types_after (read_into words.now types.old members.old) types.old) × (members.new ≡ members_after (read_into words.now types.old members.old) members.old) }
 {
     if header_ok(words) {
         let mut alignments = [0u32; 1024];

@@ -1,5 +1,6 @@
-// A reader that carries the lent words and its own position: thin functions over it, each proved by hand. The work is in functions over a
-// plain slice (spirv), which the borrow checker covers.
+// A reader that carries the lent words and its own position: thin functions over it. The work is in functions over a plain slice (spirv_read).
+#![tactic(auto)]
+
 ghost use Rattle.std.specs.Prelude.{◌≡◌, ◌≤◌, length};
 ghost use Rattle.spirv_read.specs.Read.{read_into, section_of, types_after, members_after};
 ghost use Rattle.spirv_reader.specs.Head.{head_at};
@@ -14,7 +15,7 @@ pub struct Reader<'a> {
 }
 
 // What stands at a position: a word, or the end of the words.
-#[derive(Drop)]
+#[derive(Clone, Copy)]
 pub enum Head {
     Word(u32),
     End,
@@ -53,9 +54,7 @@ pub fn moved<'a>(r: Reader<'a>, at: usize) -> Reader<'a>
 
 // The module that begins at a position of a slice; past its end there is none.
 pub fn read_from(words: &[u32], at: usize, types: &mut [u32], members: &mut [u32]) -> Section
-    ensures { (result ≡ section_at words.now at types.old members.old)
-        × (types.new ≡ types_at words.now at types.old members.old)
-        × (members.new ≡ members_at words.now at types.old members.old) }
+    ensures { (result ≡ section_at words.now at types.old members.old) × (types.new ≡ types_at words.now at types.old members.old) × (members.new ≡ members_at words.now at types.old members.old) }
 {
     let n = words.len();
     if at <= n {
@@ -66,18 +65,14 @@ pub fn read_from(words: &[u32], at: usize, types: &mut [u32], members: &mut [u32
 
 // The module that begins where the reader is.
 pub fn read<'a>(r: Reader<'a>, types: &mut [u32], members: &mut [u32]) -> Section
-    ensures { (result ≡ section_at r.entry.words.now r.entry.at types.old members.old)
-        × (types.new ≡ types_at r.entry.words.now r.entry.at types.old members.old)
-        × (members.new ≡ members_at r.entry.words.now r.entry.at types.old members.old) }
+    ensures { (result ≡ section_at r.entry.words.now r.entry.at types.old members.old) × (types.new ≡ types_at r.entry.words.now r.entry.at types.old members.old) × (members.new ≡ members_at r.entry.words.now r.entry.at types.old members.old) }
 {
     read_from(r.words, r.at, types, members)
 }
 
 // A module's words, with plain parameters. Nothing is asked of the caller.
 pub fn read_module(words: &[u32], types: &mut [u32], members: &mut [u32]) -> Section
-    ensures { (result ≡ section_of (read_into words.now types.old members.old))
-        × (types.new ≡ types_after (read_into words.now types.old members.old) types.old)
-        × (members.new ≡ members_after (read_into words.now types.old members.old) members.old) }
+    ensures { (result ≡ section_of (read_into words.now types.old members.old)) × (types.new ≡ types_after (read_into words.now types.old members.old) types.old) × (members.new ≡ members_after (read_into words.now types.old members.old) members.old) }
 {
     read(new(words), types, members)
 }

@@ -4,16 +4,16 @@ use mathlib.Core.Path.{◌≡◌, refl, sym, ap, ◌∙◌}
 use mathlib.Core.Bool.{Bool, true, false, ◌&&◌}
 use mathlib.Core.Logic.{◌⊎◌, inl, inr}
 use mathlib.Core.List.{List, [], ◌∷◌, ◌++◌, append_assoc, append-nil}
-use Prim.Native.Nat.{ℕ, zero, suc, ◌+◌, ◌*◌, ◌/◌, ◌≤◌, ◌<◌}
+use Prim.Native.Nat.{ℕ, zero, suc, ◌+◌, ◌*◌, ◌≤◌, ◌<◌}
 use native.Mathlib.Omega.{arith}
 use native.Mathlib.Decide.{dec_le}
-use lib.Dec.{T, eqb, leb, ltb}
+use lib.Dec.{eqb, leb, ltb}
 use lib.ListN.{length, length-append}
 use borrow.Author.Tests.{leb-true, ltb-true, lt-ltb, le-ltb}
-use Rattle.ir_records.specs.Result.{Result, err, ok, pick, require, and_then}
+use Rattle.ir_records.specs.Result.{ok, pick, require}
 use Rattle.ir_records.specs.Record.{type_words, member_words, type_count, member_count}
 use Rattle.ir_records.proofs.ResultLaws.{required, T_true, and_then_ok, ok_inj}
-use Rattle.spirv_words.specs.Module.{opcode, word, word_count, is_type, is_read, header_ok, header_words, starts, before, between, count}
+use Rattle.spirv_words.specs.Module.{opcode, word, word_count, is_type, is_read, header_ok, header_words, starts, before, count}
 use Rattle.spirv_words.proofs.SearchLaws.{between_next, between_end}
 use Rattle.spirv_ids.specs.Ids.{giver, is_constant, type_number}
 use Rattle.spirv_ids.specs.Places.{Stands}
@@ -22,7 +22,7 @@ use Rattle.spirv_members.specs.Members.{member_rows}
 use Rattle.spirv_members.proofs.NumberLaws.{and_true}
 use Rattle.spirv_members.proofs.AlignmentLaws.{rows_length}
 use Rattle.spirv_types.specs.Types.{State, Typed, type_at}
-use Rattle.spirv_instruction.specs.Instruction.{least_words, told_by, words_ok, row_count, fits, listed, with_type, type_read, other_read, instruction}
+use Rattle.spirv_instruction.specs.Instruction.{told_by, words_ok, row_count, fits, listed, with_type, type_read, other_read, instruction}
 use Rattle.spirv_instruction.proofs.InstructionLaws.{count_some}
 use Rattle.spirv_read.specs.Read.{read_from, none, read_module}
 use Rattle.spirv_records.specs.TypesRead.{Among, ReadBefore}

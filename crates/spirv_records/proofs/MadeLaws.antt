@@ -8,8 +8,7 @@ use native.Mathlib.Nat.{le_antisymm}
 use native.Mathlib.Omega.{arith}
 use lib.Dec.{eqb, leb, ltb}
 use borrow.Author.Tests.{eqb-true, eqb-false, leb-true, ltb-true}
-use Rattle.ir_records.specs.Result.{Result, err, ok, pick}
-use Rattle.ir_records.specs.declared.Words.{Words}
+use Rattle.ir_records.specs.Result.{Result, ok, pick}
 use Rattle.ir_records.specs.Record.{member_count, scalar_kind, vector_kind, matrix_kind, array_kind, struct_kind}
 use Rattle.proc_alignment.specs.Alignment.{power_of_two, most}
 use Rattle.spirv_words.specs.Module.{opcode, word, word_count, is_read, type_bool, type_int, type_float, type_vector, type_matrix, type_array, type_runtime_array, type_struct}

@@ -1,6 +1,6 @@
 -- The numbers of refusals: judging answers 8 or more, laying out 4 where alignments are made, and what that makes of the first refusal.
 -- Assumes nothing.
-use mathlib.Core.Path.{◌≡◌, refl, sym, ap, ◌∙◌}
+use mathlib.Core.Path.{◌≡◌, refl, sym}
 use mathlib.Core.Bool.{Bool, true, false, not, ◌&&◌, ◌||◌}
 use mathlib.Core.Logic.{◌⊎◌, inl, inr}
 use mathlib.Core.List.{List}
@@ -8,8 +8,7 @@ use Prim.Native.Nat.{ℕ, zero, suc, ◌+◌, ◌*◌, ◌≤◌, ◌<◌}
 use native.Mathlib.Omega.{arith}
 use lib.Dec.{eqb, leb, ltb}
 use Rattle.ir_records.specs.Result.{Result, err, ok, pick, require, and_then}
-use Rattle.ir_records.specs.Record.{Decoded, member_type, member_offset}
-use Rattle.ir_records.specs.BlendSource.{member_location, member_source}
+use Rattle.ir_records.specs.Record.{Decoded, member_type, member_offset, member_location, member_source}
 use Rattle.ir_records.specs.Table.{result_at, outcome_at, also, first_refusal}
 use Rattle.ir_records.specs.declared.Outcome.{Outcome}
 use Rattle.ir_records.specs.declared.Outcome.TheVariants.{Accepted, Refused}
@@ -25,14 +24,14 @@ use Rattle.proc_type_alignment.specs.declared.TypeLayout.{TypeLayout}
 use Rattle.proc_type_alignment.specs.TypeAlignment.{alignment_of}
 use Rattle.proc_type_layout.specs.TypeLayout.{layout_of}
 use Rattle.valid_flags.specs.Flags.{bit, data_bit, sized_bit, creation_resolved_bit, io_shareable_bit, is_sized_data}
-use Rattle.valid_width.specs.Width.{sint, uint, float, bool, float64, shader_float16, shader_int16, shader_int64, shader_float32_atomic, shader_int64_atomic_min_max, shader_int64_atomic_all_ops, cooperative_matrix, ray_query, ray_tracing_pipeline, ray_hit_vertex_position, dual_source_blending, integer_width, float_width, check_width, integer_atomic, atomic_width}
+use Rattle.valid_width.specs.Width.{uint, float, bool, float64, shader_float16, shader_int16, shader_int64, shader_float32_atomic, shader_int64_atomic_min_max, shader_int64_atomic_all_ops, cooperative_matrix, ray_query, ray_tracing_pipeline, ray_hit_vertex_position, dual_source_blending, integer_width, float_width, check_width, integer_atomic, atomic_width}
 use Rattle.valid_type_flags.specs.TypeFlags.{leaf_flags, is_flat, cube_allowed, is_external_form, external_allowed, is_binding_base, is_external_image}
 use Rattle.valid_type_info.specs.Verdict.{previous_of, distance_ok}
 use Rattle.valid_member_bounds.specs.declared.Bounds.{Bounds}
 use Rattle.valid_member_bounds.specs.MemberBounds.{is_array, is_member_data, is_apart, is_member_sized, member_bounds}
 use Rattle.valid_blend.specs.Blend.{source_at, source_result, blended_after, other_location, same_type, pair_result, struct_blend}
 use Rattle.valid_types.specs.ValidateType.{non_data_flags, flags_of, judge_common}
-use Rattle.valid_arena.specs.Arena.{common_step, common_at}
+use Rattle.valid_arena.specs.Arena.{common_at}
 use Rattle.spirv_records.specs.TypesRead.{Among}
 use Rattle.spirv_records.specs.Records.{of_tables, InOrder, LaidOut}
 

@@ -1,19 +1,18 @@
 -- Each record that was read is in order: its fields in their sets, its base and its members' types earlier ones, its width a power of two.
 -- Assumes nothing.
-use mathlib.Core.Path.{◌≡◌, refl, sym, ap, ◌∙◌, subst}
-use mathlib.Core.Bool.{Bool, true, false, ◌&&◌, ◌||◌}
-use mathlib.Core.List.{List, [], ◌∷◌, ◌++◌}
+use mathlib.Core.Path.{◌≡◌, refl, sym, ap, ◌∙◌}
+use mathlib.Core.Bool.{Bool, true, false, ◌||◌}
+use mathlib.Core.List.{List, []}
 use Prim.Native.Nat.{ℕ, zero, suc, ◌+◌, ◌*◌, ◌/◌, ◌≤◌, ◌<◌, max}
 use native.Mathlib.Nat.{not-suc-le-zero}
 use native.Mathlib.Omega.{arith}
 use native.Mathlib.Decide.{ℕ_discrete}
-use lib.Dec.{eqb, leb, ltb}
+use lib.Dec.{eqb}
 use lib.ListN.{length, get_or}
 use borrow.Author.Tests.{eqb-true, le-leb, lt-ltb}
-use Rattle.ir_records.specs.Result.{Result, ok, require}
+use Rattle.ir_records.specs.Result.{ok}
 use Rattle.ir_records.specs.Record.{type_word, type_inner, inner_of, member_count, member_words, member_type, struct_members, scalar_kind, vector_kind, matrix_kind, array_kind, struct_kind}
-use Rattle.ir_records.specs.BlendSource.{member_source, sources_located}
-use Rattle.ir_records.specs.Fields.{fields_ok, base_within, fields_at, record_at}
+use Rattle.ir_records.specs.Fields.{fields_ok, base_within, sources_located, record_at}
 use Rattle.ir_records.proofs.RecordLaws.{sourceless_located, no_rows_located}
 use Rattle.proc_alignment.specs.Alignment.{power_of_two, vector_alignment}
 use Rattle.proc_type_alignment.specs.declared.TypeLayout.{TypeLayout}
@@ -27,7 +26,7 @@ use Rattle.spirv_types.specs.Types.{State, words_of, base_sort, base_word, lengt
 use Rattle.spirv_records.specs.TypesRead.{scalar_width}
 use Rattle.spirv_records.proofs.MadeLaws.{MadeAs, as_scalar, as_vector, as_matrix, as_array, as_runtime_array, as_struct, made_as}
 use Rattle.spirv_records.proofs.HeldLaws.{Recorded}
-use Rattle.spirv_records.proofs.RecordedLaws.{own_word, earlier_word, own_inner, own_within, word_is, inner_is, no_rows, rows_within, own_rows}
+use Rattle.spirv_records.proofs.RecordedLaws.{earlier_word, word_is, inner_is, no_rows, rows_within, own_rows}
 
 -- ---- a width that is a power of two is small
 small_or : (w n : ℕ) (b : Bool) → n ≤ 128 → (b ≡ true → w ≤ 128) → (b || eqb w n) ≡ true → w ≤ 128

@@ -1,13 +1,13 @@
 -- The words of a type's record, and the member rows of a struct, in the tables that were read.
 -- Assumes nothing.
 use mathlib.Core.Path.{◌≡◌, refl, sym, ap, ◌∙◌}
-use mathlib.Core.List.{List, [], ◌∷◌, ◌++◌}
-use Prim.Native.Nat.{ℕ, ◌+◌, ◌*◌, ◌/◌, ◌≤◌, ◌<◌}
+use mathlib.Core.List.{List, [], ◌++◌}
+use Prim.Native.Nat.{ℕ, ◌+◌, ◌*◌, ◌≤◌, ◌<◌}
 use native.Mathlib.Omega.{arith}
 use lib.ListN.{length, get_or, take, drop, length-append, get_or-append}
 use lib.Seq.{get_or-append-add, take_at, drop_at}
 use Rattle.ir_records.specs.declared.Words.{Words}
-use Rattle.ir_records.specs.Record.{type_words, member_words, type_count, member_count, type_word, type_inner, inner_in, inner_of, struct_members, struct_kind}
+use Rattle.ir_records.specs.Record.{type_words, member_words, type_count, member_count, type_word, type_inner, inner_in, struct_members, struct_kind}
 use Rattle.ir_records.proofs.RecordLaws.{members_no_struct, members-part}
 use Rattle.spirv_words.specs.Module.{opcode, type_struct}
 use Rattle.spirv_ids.specs.Ids.{type_number}

@@ -1,21 +1,19 @@
 -- The records of a module that was read are in order.
 -- Assumes nothing.
-use mathlib.Core.Path.{◌≡◌, refl, sym, ap, ◌∙◌, subst}
-use mathlib.Core.Bool.{Bool, true, false, ◌&&◌}
-use mathlib.Core.List.{List, [], ◌++◌}
-use Prim.Native.Nat.{ℕ, zero, suc, ◌+◌, ◌*◌, ◌/◌, ◌%◌, ◌≤◌, ◌<◌, min}
+use mathlib.Core.Path.{◌≡◌, refl, subst}
+use mathlib.Core.Bool.{true}
+use mathlib.Core.List.{List}
+use Prim.Native.Nat.{ℕ, zero, suc, ◌*◌, ◌/◌, ◌%◌, ◌≤◌, ◌<◌}
 use native.Mathlib.Nat.{not-suc-le-zero}
 use native.Mathlib.Omega.{arith}
-use lib.Dec.{T, eqb, leb}
-use lib.ListN.{length, take, drop}
+use lib.Dec.{T}
+use lib.ListN.{length, drop}
 use lib.Seq.{take_at}
 use borrow.Author.Tests.{eq-eqb, le-leb}
-use Rattle.ir_records.specs.Result.{Result, err, ok, pick}
+use Rattle.ir_records.specs.Result.{Result, err, ok}
 use Rattle.ir_records.specs.Record.{decoded, type_words, member_words, type_count, member_count, type_inner, struct_members}
 use Rattle.ir_records.specs.Fields.{most_types, most_members, row_words, tables_fit, capabilities_known, record_at}
-use Rattle.ir_records.specs.Table.{table, result_at, also, first_refusal}
-use Rattle.ir_records.specs.declared.Outcome.{Outcome}
-use Rattle.ir_records.specs.declared.Outcome.TheVariants.{Accepted, Refused}
+use Rattle.ir_records.specs.Table.{table, result_at}
 use Rattle.ir_records.proofs.ResultLaws.{T_true}
 use Rattle.ir_records.proofs.TableLaws.{accepted_all}
 use Rattle.proc_layouter.specs.Layouter.{no_layout, layout_step, layout_at, layout_outcome, layout_answer}
@@ -24,7 +22,7 @@ use Rattle.spirv_ids.specs.Ids.{type_number}
 use Rattle.spirv_types.specs.Types.{State}
 use Rattle.spirv_instruction.specs.Instruction.{types_room, members_room}
 use Rattle.spirv_read.specs.declared.Section.TheVariants.{Read, Refused as NotRead}
-use Rattle.spirv_read.specs.Read.{read_module, read_into, section_of, types_after, members_after}
+use Rattle.spirv_read.specs.Read.{read_module, read_into, section_of}
 use Rattle.spirv_records.specs.Records.{InOrder, LaidOut, types_cut, members_cut, RecordsInOrder}
 use Rattle.spirv_records.proofs.HeldLaws.{Held, read_held}
 use Rattle.spirv_records.proofs.OrderLaws.{Sound, sound_own, Ordered, ordered_own}

@@ -3,7 +3,7 @@
 use mathlib.Core.Path.{◌≡◌, refl, sym, ap, ◌∙◌}
 use mathlib.Core.Bool.{Bool, true, false, not, ◌&&◌, ◌||◌}
 use mathlib.Core.List.{List}
-use Prim.Native.Nat.{ℕ, ◌-◌, ◌/◌, ◌≤◌, ◌<◌}
+use Prim.Native.Nat.{ℕ, ◌-◌, ◌/◌, ◌≤◌}
 use native.Mathlib.Omega.{arith}
 use native.Mathlib.Decide.{dec_le}
 use lib.Dec.{eqb, leb}
@@ -13,8 +13,7 @@ use Rattle.ir_records.specs.Result.{err, ok, require}
 use Rattle.ir_records.specs.declared.Words.{Words}
 use Rattle.ir_records.specs.Record.{member_count, inner_of, struct_kind}
 use Rattle.ir_records.specs.Serving.{record_words}
-use Rattle.proc_alignment.specs.Alignment.{vector_alignment, most}
-use Rattle.proc_alignment.specs.RoundUp.{round_up}
+use Rattle.proc_alignment.specs.Alignment.{vector_alignment, round_up, most}
 use Rattle.proc_alignment.proofs.PowerLaws.{vector_within}
 use Rattle.proc_type_alignment.specs.TypeAlignment.{alignment_of}
 use Rattle.spirv_words.specs.Module.{header_words, before, first}

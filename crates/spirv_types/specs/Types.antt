@@ -4,8 +4,7 @@ use Rattle.std.specs.Prelude.{Bool, true, false, not, ◌&&◌, ◌||◌, List, 
 use Rattle.ir_records.specs.Result.{Result, ok, pick, require, value_or}
 use Rattle.ir_records.specs.declared.Words.{Words}
 use Rattle.ir_records.specs.Record.{type_word, member_count, inner_in, scalar_kind, vector_kind, matrix_kind, array_kind, struct_kind}
-use Rattle.proc_alignment.specs.Alignment.{most}
-use Rattle.proc_alignment.specs.RoundUp.{round_up}
+use Rattle.proc_alignment.specs.Alignment.{round_up, most}
 use Rattle.proc_type_alignment.specs.TypeAlignment.{alignment_of}
 use Rattle.spirv_words.specs.Module.{word_count, opcode, word, type_bool, type_int, type_float, type_vector, type_matrix, type_array, type_runtime_array, before, first, only}
 use Rattle.spirv_words.specs.Decorations.{is_stride_of, is_misplaced}

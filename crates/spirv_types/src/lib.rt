@@ -1,9 +1,10 @@
 // The record of one type that is read, from the words of a SPIR-V module, and its refusals 29 and 30.
+#![tactic(auto)]
+
 ghost use Rattle.std.specs.Prelude.{◌≡◌, true, false, ◌&&◌, ◌||◌, List, ℕ, ◌≤◌, ◌<◌, eqb, leb, ltb, length};
 ghost use Rattle.ir_records.specs.Result.{ok, pick, require, value_or};
 ghost use Rattle.ir_records.specs.Record.{member_count, struct_kind};
-ghost use Rattle.proc_alignment.specs.Alignment.{most};
-ghost use Rattle.proc_alignment.specs.RoundUp.{round_up};
+ghost use Rattle.proc_alignment.specs.Alignment.{round_up, most};
 ghost use Rattle.proc_type_alignment.specs.TypeAlignment.{width_alignment, base_alignment};
 ghost use Rattle.proc_type_alignment.specs.Serving.{aligned_result};
 ghost use Rattle.spirv_ids.specs.Ids.{integer_before, type_number};
@@ -11,8 +12,7 @@ ghost use Rattle.spirv_ids.specs.Places.{GivesFrom};
 ghost use Rattle.spirv_words.specs.Module.{word};
 ghost use Rattle.spirv_members.specs.Members.{layouts_of};
 ghost use Rattle.spirv_members.specs.Serving.{Bounded, Ready, SortBelow};
-ghost use Rattle.spirv_types.specs.Types.{judged, words_of, is_fresh, width_ok, sign_kind, parts_ok, stride_at, stride_of, constant_length, length_of, bool_type};
-ghost use Rattle.spirv_types.specs.Types.{int_type, float_type, vector_type, matrix_type, array_type, runtime_array_type, struct_type, type_at};
+ghost use Rattle.spirv_types.specs.Types.{judged, words_of, is_fresh, width_ok, sign_kind, parts_ok, stride_at, stride_of, constant_length, length_of, bool_type, int_type, float_type, vector_type, matrix_type, array_type, runtime_array_type, struct_type, type_at};
 ghost use Rattle.spirv_types.specs.Serving.{made_result};
 
 use ir_records::Words;
@@ -21,7 +21,7 @@ use spirv_ids::Sort;
 use spirv_words::Wanted;
 
 // A type's record and its layout alignment, or 29 or 30.
-#[derive(Drop)]
+#[derive(Clone, Copy)]
 pub enum Made {
     Type { words: Words, alignment: u32 },
     Refused(u32),
@@ -331,9 +331,7 @@ fn runtime_array_type(
 // A struct of n members by its end and alignment; `first`: the member rows before it.
 fn spanned_type(end: u64, alignment: u32, first: u32, n: u32) -> Made
     requires { 0 < alignment }
-    ensures { made_result result
-        ≡ require (leb (round_up alignment end) most) 30 0 0
-        (ok (record { words = words_of struct_kind first n (round_up alignment end) 0; alignment = alignment })) }
+    ensures { made_result result ≡ require (leb (round_up alignment end) most) 30 0 0 (ok (record { words = words_of struct_kind first n (round_up alignment end) 0; alignment = alignment })) }
 {
     if proc_alignment::MOST < end {
         return Made::Refused(UNSOUND);
@@ -365,9 +363,7 @@ fn struct_type(
     requires ready { Ready words.now from at }
     requires bounded { Bounded types.now }
     requires alignments_len { length alignments.now ≡ type_number words.now at }
-    ensures { (ms : List ℕ) → member_count ms ≡ first
-        → made_result result
-        ≡ struct_type words.now (record { types = types.entry.now; members = ms; alignments = alignments.now }) at fresh }
+    ensures { (ms : List ℕ) → member_count ms ≡ first → made_result result ≡ struct_type words.now (record { types = types.entry.now; members = ms; alignments = alignments.now }) at fresh }
 {
     let n = spirv_members::member_count(words, at);
     let seen = spirv_members::members_of(words, from, at, types, alignments, n);
@@ -396,8 +392,7 @@ pub fn type_at(
     requires ready { Ready words.now from at }
     requires bounded { Bounded types.now }
     requires alignments_len { length alignments.now ≡ type_number words.now at }
-    ensures { (ms : List ℕ) → member_count ms ≡ first
-        → made_result result ≡ type_at words.now (record { types = types.entry.now; members = ms; alignments = alignments.now }) at }
+    ensures { (ms : List ℕ) → member_count ms ≡ first → made_result result ≡ type_at words.now (record { types = types.entry.now; members = ms; alignments = alignments.now }) at }
 {
     let fresh = is_fresh(words, from, at);
     let op = spirv_words::opcode_of(words, at);

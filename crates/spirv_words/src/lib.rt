@@ -1,4 +1,6 @@
 // Words and instructions of a SPIR-V module, and searches through the instructions before a place.
+#![tactic(auto)]
+
 ghost use Rattle.std.specs.Prelude.{◌≡◌, ◌+◌, ◌/◌, ◌≤◌, ◌<◌, length};
 ghost use Rattle.spirv_words.specs.Module.{word_count, opcode, word, between, before, first, only};
 ghost use Rattle.spirv_words.specs.Decorations.{passes};
@@ -37,7 +39,7 @@ pub const MATRIX_STRIDE: u32 = 7;
 pub const OFFSET: u32 = 35;
 
 // What an instruction is looked at for.
-#[derive(Drop)]
+#[derive(Clone, Copy)]
 pub enum Wanted {
     // The OpTypeInt that gives an id.
     Integer(u32),

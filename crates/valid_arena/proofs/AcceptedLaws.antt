@@ -9,7 +9,7 @@ use native.Mathlib.Nat.{not-suc-le-zero, le_refl}
 use native.Mathlib.Decide.{ℕ_discrete}
 use native.Mathlib.Omega.{arith}
 use lib.Bits.{bit_and, bit_or}
-use lib.Dec.{T, ltb, ltb→lt}
+use lib.Dec.{T, ltb→lt}
 use Rattle.ir_records.specs.Result.{ok}
 use Rattle.ir_records.specs.Record.{Decoded, member_type}
 use Rattle.ir_records.specs.Serving.{InnerBounds}

@@ -3,7 +3,7 @@
 use mathlib.Core.Path.{◌≡◌, refl, sym, ◌∙◌}
 use mathlib.Core.Bool.{Bool, true, false}
 use mathlib.Core.List.{List, ◌++◌}
-use Prim.Native.Nat.{ℕ, zero, suc, ◌+◌, ◌*◌}
+use Prim.Native.Nat.{ℕ, zero, suc, ◌*◌}
 use native.Mathlib.Omega.{arith}
 use lib.ListN.{length, take, drop, replicate, length-append, length-drop, length-replicate}
 use lib.Seq.{take_at, drop_at}
@@ -16,8 +16,7 @@ use Rattle.ir_records.specs.declared.Outcome.TheVariants.{Accepted, Refused}
 use Rattle.ir_records.proofs.TableLaws.{also_accepted, outcome_accepted, flat_length}
 use Rattle.ir_records.proofs.RecordLaws.{Fitting, tables_fitting}
 use Rattle.ir_rows.specs.Rows.{cleared}
-use Rattle.proc_layouter.specs.Layouter.{layout_at, layout_row_at, layout_rows, layout_outcome, layout_answer, layout_words}
-use Rattle.proc_layouter.specs.Serving.{rows_after}
+use Rattle.proc_layouter.specs.Layouter.{layout_at, layout_row_at, layout_rows, layout_outcome, layout_answer, layout_words, rows_after}
 use Rattle.valid_type_info.specs.declared.UniformRule.{UniformRule}
 use Rattle.valid_type_info.specs.Verdict.{least_for}
 use Rattle.valid_arena.specs.Arena.{judged_at, common_at, row, row_at, judge_outcome, arena_outcome, arena_fits, arena_answer, arena_rows, arena_words}

@@ -8,8 +8,7 @@ use Rattle.ir_records.specs.Table.{first_refusal}
 use Rattle.proc_layouter.specs.Layouter.{layout}
 use Rattle.proc_layouter.proofs.TableMap.{part_value_at, part_refusal}
 use Rattle.valid_type_info.specs.declared.Row.{Row}
-use Rattle.valid_type_info.specs.TypeInfo.{empty_row}
-use Rattle.valid_type_info.specs.Common.{without_uniform}
+use Rattle.valid_type_info.specs.TypeInfo.{empty_row, without_uniform}
 use Rattle.valid_types.proofs.CommonLaws.{judged_common}
 use Rattle.valid_arena.specs.Arena.{judge_step, judged_at, row, common_step, common_at, common}
 

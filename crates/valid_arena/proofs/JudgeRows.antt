@@ -24,8 +24,7 @@ use Rattle.proc_layouter.specs.Layouter.{no_layout, layout_step, layout_at, layo
 use Rattle.proc_layouter.specs.Serving.{record_then_layout}
 use Rattle.proc_layouter.proofs.LayoutLaws.{record_laid}
 use Rattle.valid_type_info.specs.declared.Row.{Row}
-use Rattle.valid_type_info.specs.TypeInfo.{words_of, empty_row}
-use Rattle.valid_type_info.specs.Serving.{rows_in}
+use Rattle.valid_type_info.specs.TypeInfo.{words_of, rows_in, empty_row}
 use Rattle.valid_types.specs.declared.Judged.{Judged}
 use Rattle.valid_types.specs.declared.Judged.TheVariants.{Made}
 use Rattle.valid_types.specs.ValidateType.{judge}

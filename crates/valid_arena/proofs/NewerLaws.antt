@@ -2,8 +2,7 @@
 -- Assumes nothing.
 use mathlib.Core.Path.{◌≡◌, refl, sym, ◌∙◌, ap, subst}
 use mathlib.Core.Bool.{Bool, true, false, false≢true}
-use mathlib.Core.Logic.{◌⊎◌, inl, inr, ⊎_elim}
-use mathlib.Core.List.{List}
+use mathlib.Core.Logic.{⊎_elim}
 use Prim.Native.Nat.{ℕ, zero, suc, ◌≤◌, ◌<◌}
 use native.Mathlib.Nat.{not-suc-le-zero, le_refl}
 use native.Mathlib.Decide.{ℕ_discrete}
@@ -17,7 +16,7 @@ use Rattle.ir_records.proofs.ResultLaws.{T_true}
 use Rattle.proc_alignment.specs.Alignment.{is_aligned}
 use Rattle.proc_layouter.specs.Layouter.{layout}
 use Rattle.valid_flags.specs.Flags.{bit, sized_bit}
-use Rattle.valid_flags.proofs.BitLaws.{bit_and, bit_and_both}
+use Rattle.valid_flags.proofs.BitLaws.{bit-and, bit_and_both}
 use Rattle.valid_type_flags.specs.TypeFlags.{is_struct}
 use Rattle.valid_type_info.specs.declared.Verdict.{Verdict}
 use Rattle.valid_type_info.specs.declared.Row.{Row}
@@ -119,7 +118,7 @@ module _ (c : ℕ) (types : ℕ → Decoded) (n : ℕ) (acc : AcceptedTypes c ty
   runtime_unsized : (t : ℕ) → t < n → (base stride : ℕ) → (types t).inner ≡ RuntimeArray base stride → ¬ Sized t
   runtime_unsized t h base stride e sized =
       let r = runtime_array_row min_storage c types n acc t h base stride e in
-      (bit_and (rows base).flags 149 sized_bit (subst (λ (f : ℕ). T (bit f sized_bit)) r.1.flags sized)).1
+      (bit-and (rows base).flags 149 sized_bit (subst (λ (f : ℕ). T (bit f sized_bit)) r.1.flags sized)).1
 
   -- ---- the verdicts
   -- of a type that is no struct with a runtime-sized member

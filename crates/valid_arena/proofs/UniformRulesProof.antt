@@ -7,19 +7,16 @@ use mathlib.Core.List.{List}
 use Prim.Native.Nat.{ℕ, zero, suc, ◌<◌}
 use native.Mathlib.Omega.{arith}
 use lib.ListN.{get_or}
-use Rattle.ir_records.specs.Result.{pick}
 use Rattle.ir_records.specs.Record.{decoded, type_count}
 use Rattle.ir_records.specs.Fields.{row_words}
 use Rattle.ir_records.specs.declared.Outcome.{Outcome}
 use Rattle.ir_records.specs.declared.Outcome.TheVariants.{Accepted, Refused}
 use Rattle.ir_rows.specs.Rows.{row_word}
-use Rattle.proc_layouter.specs.Serving.{rows_after}
 use Rattle.valid_type_info.specs.declared.Row.{Row}
 use Rattle.valid_type_info.specs.declared.UniformRule.{UniformRule}
-use Rattle.valid_type_info.specs.TypeInfo.{words_of}
-use Rattle.valid_type_info.specs.Common.{without_uniform}
+use Rattle.valid_type_info.specs.TypeInfo.{words_of, without_uniform}
 use Rattle.valid_type_info.specs.Verdict.{least_for}
-use Rattle.valid_arena.specs.Arena.{row, row_at, arena_fits, arena_outcome, arena_answer, arena_rows, arena_words}
+use Rattle.valid_arena.specs.Arena.{row, arena_fits, arena_outcome, arena_answer, arena_words}
 use Rattle.valid_arena.specs.UniformRules.{UniformRules}
 use Rattle.valid_arena.proofs.CommonLaws.{refused_common, row_common}
 use Rattle.valid_arena.proofs.ArenaLaws.{accepted_types}

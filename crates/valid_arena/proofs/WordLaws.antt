@@ -14,9 +14,8 @@ use Rattle.ir_records.specs.declared.Outcome.{Outcome}
 use Rattle.ir_records.specs.declared.Outcome.TheVariants.{Accepted, Refused}
 use Rattle.ir_records.proofs.TableLaws.{flat_length, flat_word}
 use Rattle.ir_rows.specs.Rows.{row_word}
-use Rattle.proc_layouter.specs.Serving.{rows_after}
-use Rattle.valid_type_info.specs.TypeInfo.{words_of}
-use Rattle.valid_type_info.specs.Serving.{rows_in}
+use Rattle.proc_layouter.specs.Layouter.{rows_after}
+use Rattle.valid_type_info.specs.TypeInfo.{words_of, rows_in}
 use Rattle.valid_type_info.specs.declared.UniformRule.{UniformRule}
 use Rattle.valid_type_info.specs.Verdict.{least_for}
 use Rattle.valid_arena.specs.Arena.{row, row_at, arena_rows, arena_outcome, arena_fits, arena_answer, arena_words}

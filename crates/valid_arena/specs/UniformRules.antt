@@ -9,7 +9,7 @@ use Rattle.ir_records.specs.declared.TypeInner.TheVariants.{RuntimeArray, Struct
 use Rattle.ir_rows.specs.Rows.{row_word}
 use Rattle.valid_type_info.specs.declared.UniformRule.{UniformRule}
 use Rattle.valid_type_info.specs.declared.UniformRule.TheVariants.{Newer}
-use Rattle.valid_type_info.specs.Common.{without_uniform}
+use Rattle.valid_type_info.specs.TypeInfo.{without_uniform}
 use Rattle.valid_type_info.specs.Verdict.{least_for, unless_ok, unsized_member}
 use Rattle.valid_arena.specs.Arena.{judged_at, row, common_at, arena, arena_words}
 

@@ -1,13 +1,14 @@
 // Judging an arena, the types in order, as Validator::validate of naga's valid/mod.rs has those of a module; and the arena check, which lays out
 // and then judges.
+#![tactic(auto)]
+
 ghost use Rattle.std.specs.Prelude.{◌≡◌, true, ◌*◌, ◌≤◌, length, take, drop};
 ghost use Rattle.ir_records.specs.Record.{type_count};
 ghost use Rattle.ir_records.specs.Fields.{tables_fit};
 ghost use Rattle.ir_records.specs.Table.{also, first_refusal, flat};
 ghost use Rattle.ir_records.specs.declared.Outcome.TheVariants.{Accepted};
 ghost use Rattle.ir_rows.specs.Rows.{cleared};
-ghost use Rattle.proc_layouter.specs.Layouter.{layout_outcome};
-ghost use Rattle.proc_layouter.specs.Serving.{rows_after};
+ghost use Rattle.proc_layouter.specs.Layouter.{layout_outcome, rows_after};
 ghost use Rattle.valid_type_info.specs.Verdict.{least_for};
 ghost use Rattle.valid_arena.specs.Arena.{row_at, arena_outcome, arena_rows, arena_answer, arena_words};
 ghost use Rattle.valid_arena.specs.Serving.{laid_then_judged};

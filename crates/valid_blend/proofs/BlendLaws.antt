@@ -5,7 +5,7 @@ use mathlib.Core.Path.{◌≡◌, refl, sym, ◌∙◌, ap}
 use mathlib.Core.Bool.{Bool, true, false, not, ◌&&◌}
 use mathlib.Core.Logic.{◌⊎◌, inl, inr}
 use mathlib.Core.List.{List}
-use Prim.Native.Nat.{ℕ, zero, suc, ◌+◌, ◌*◌, ◌/◌, ◌%◌, ◌^◌, ◌-◌, ◌≤◌, ◌<◌, max}
+use Prim.Native.Nat.{ℕ, zero, suc, ◌+◌, ◌/◌, ◌%◌, ◌^◌, ◌-◌, ◌≤◌, ◌<◌}
 use native.Mathlib.Nat.{not-suc-le-zero, le_refl}
 use native.Mathlib.Decide.{ℕ_discrete, le_ind}
 use native.Mathlib.Numerals.{add-one}
@@ -14,9 +14,7 @@ use lib.Bits.{bit_or, or_shr, or_step}
 use lib.Dec.{T, eqb, leb, ltb}
 use borrow.Author.Tests.{eq-eqb, ne_eqb}
 use Rattle.ir_records.specs.Result.{Result, err, ok, pick, require, and_then}
-use Rattle.ir_records.specs.Record.{member_type, member_offset}
-use Rattle.ir_records.specs.Serving.{Sourceless}
-use Rattle.ir_records.specs.BlendSource.{member_source, member_location}
+use Rattle.ir_records.specs.Record.{member_type, member_offset, member_source, member_location, Sourceless}
 use Rattle.ir_records.specs.declared.TypeInner.{TypeInner}
 use Rattle.ir_records.proofs.ResultLaws.{required, require_twice, and_then_ok, ok_inj, T_true}
 use Rattle.valid_flags.specs.Flags.{bit, io_shareable_bit, io_shareable_flag}

@@ -4,8 +4,7 @@
 use Rattle.std.specs.Prelude.{Bool, true, false, not, ◌&&◌, ◌||◌, List, ℕ, zero, suc, eqb, leb, ltb}
 use Rattle.std.specs.Int.Bits.{bit_or}
 use Rattle.ir_records.specs.Result.{Result, err, ok, pick, require, and_then}
-use Rattle.ir_records.specs.Record.{member_type, member_offset, struct_kind}
-use Rattle.ir_records.specs.BlendSource.{member_location, member_source}
+use Rattle.ir_records.specs.Record.{member_type, member_offset, member_location, member_source, struct_kind}
 use Rattle.ir_records.specs.declared.Words.{Words}
 use Rattle.ir_records.specs.declared.Leaf.{Leaf}
 use Rattle.ir_records.specs.declared.Leaf.TheVariants.{Scalar, Vector, Matrix, CooperativeMatrix, Atomic, RayQuery}

@@ -1,25 +1,24 @@
 // The blend sources of a struct, of validate_type in naga's valid/type.rs.
+#![tactic(auto)]
+
 ghost use Rattle.std.specs.Prelude.{◌≡◌, false, ℕ, ◌+◌, ◌*◌, ◌≤◌, ◌<◌, length};
-ghost use Rattle.ir_records.specs.Record.{member_words, member_count, type_inner, member_type};
-ghost use Rattle.ir_records.specs.Serving.{Sourceless};
+ghost use Rattle.ir_records.specs.Record.{member_words, member_count, type_inner, member_type, Sourceless};
 ghost use Rattle.valid_flags.specs.Flags.{bit};
 ghost use Rattle.valid_width.specs.Width.{dual_source_blending};
-ghost use Rattle.valid_type_info.specs.TypeInfo.{row_flags};
-ghost use Rattle.valid_type_info.specs.Serving.{rows_in};
-ghost use Rattle.valid_blend.specs.Blend.{source_at, source_result, sources_after, other_location, leaf_words, inner_words, same_words, same_type, pair_of};
-ghost use Rattle.valid_blend.specs.Blend.{struct_blend};
+ghost use Rattle.valid_type_info.specs.TypeInfo.{rows_in, row_flags};
+ghost use Rattle.valid_blend.specs.Blend.{source_at, source_result, sources_after, other_location, leaf_words, inner_words, same_words, same_type, pair_of, struct_blend};
 ghost use Rattle.valid_blend.specs.Serving.{sources_before, blended_flags, source_answer, blend_answer};
 
 use ir_records::{Leaf, TypeInner, Words};
 
-#[derive(Drop)]
+#[derive(Clone, Copy)]
 pub enum Source {
     Fine,
     Refused { number: u32, detail: u32 },
 }
 
 // The flags of the struct, or its refusal.
-#[derive(Drop)]
+#[derive(Clone, Copy)]
 pub enum Blend {
     Flags(u32),
     Refused { number: u32, detail: u32 },
@@ -183,8 +182,7 @@ pub fn pair_of(
     b: u32,
 ) -> Blend
     requires { count * member_words ≤ length part.now }
-    ensures { (before : ℕ → ℕ) → before (member_type part.now a) ≡ own
-        → blend_answer result ≡ pair_of (type_inner types.now) before part.now (other_location part.now count) flags a b }
+    ensures { (before : ℕ → ℕ) → before (member_type part.now a) ≡ own → blend_answer result ≡ pair_of (type_inner types.now) before part.now (other_location part.now count) flags a b }
 {
     if other_location(part, count) {
         return Blend::Refused {
@@ -255,9 +253,7 @@ pub fn blended_flags(
     requires part_len { length part.now ≡ count * member_words }
     requires by_index { (j : ℕ) → j < count → member_type part.now j < i }
     requires sourceless { sourced ≡ false → Sourceless part.now (member_count part.now) }
-    ensures { blend_answer result
-        ≡ blended_flags (bit capabilities dual_source_blending) (type_inner types.now) (row_flags (rows_in rows.now)) part.now
-        count flags }
+    ensures { blend_answer result ≡ blended_flags (bit capabilities dual_source_blending) (type_inner types.now) (row_flags (rows_in rows.now)) part.now count flags }
 {
     if !sourced {
         return Blend::Flags(flags);

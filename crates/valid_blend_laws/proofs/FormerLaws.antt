@@ -1,28 +1,22 @@
 -- 02, E9: where no member has a blend source, answer and rows are the former ones.
 -- Assumes nothing.
 use mathlib.Core.Path.{◌≡◌, refl, sym, ◌∙◌, ap, fun_ext}
-use mathlib.Core.Bool.{Bool}
 use mathlib.Core.List.{List, [], ◌∷◌}
 use Prim.Native.Nat.{ℕ, ◌+◌, ◌*◌, ◌/◌, ◌%◌, ◌≤◌, ◌<◌}
 use native.Mathlib.Decide.{dec_lt}
 use native.Mathlib.Omega.{arith}
-use lib.Dec.{eqb, leb, ltb}
 use lib.ListN.{length, get_or}
-use borrow.Author.Tests.{le-leb, le-ltb, eq-eqb}
-use Rattle.ir_records.specs.Result.{Result, ok, pick, require, and_then}
-use Rattle.ir_records.specs.Record.{decoded, type_count, type_word, type_inner, struct_members, member_words, member_count, member_type, member_offset}
-use Rattle.ir_records.specs.BlendSource.{member_source, sources_located}
+use borrow.Author.Tests.{le-leb, le-ltb}
+use Rattle.ir_records.specs.Result.{Result, ok, require, and_then}
+use Rattle.ir_records.specs.Record.{decoded, type_count, type_word, type_inner, struct_members, member_words, member_count, member_type, member_offset, member_source}
 use Rattle.ir_records.specs.Fields.{most_members, tables_fit, fields_ok, base_within, fields_at, record_at}
 use Rattle.ir_records.specs.Table.{result_at, value_at, also, first_refusal, flat}
-use Rattle.ir_records.specs.declared.Outcome.{Outcome}
-use Rattle.ir_records.specs.declared.Outcome.TheVariants.{Refused}
 use Rattle.ir_records.specs.declared.TypeInner.{TypeInner}
 use Rattle.ir_records.specs.declared.TypeInner.TheVariants.{Plain, Array, RuntimeArray, Struct, Other}
 use Rattle.ir_records.proofs.ResultLaws.{same_test}
 use Rattle.ir_records.proofs.RecordLaws.{sourceless_located}
 use Rattle.ir_records.proofs.TableLaws.{flat_length, flat_word}
 use Rattle.proc_layouter.specs.Layouter.{layout, layout_at, layout_outcome}
-use Rattle.proc_layouter.specs.Serving.{rows_after}
 use Rattle.valid_type_info.specs.declared.Row.{Row}
 use Rattle.valid_type_info.specs.declared.UniformRule.TheVariants.{Older}
 use Rattle.valid_type_info.specs.TypeInfo.{empty_row, words_of, row_sizes, row_flags}

@@ -7,12 +7,10 @@ use Prim.Native.Nat.{ℕ, ◌+◌, ◌*◌, ◌≤◌, ◌<◌}
 use native.Mathlib.Decide.{dec_lt}
 use native.Mathlib.Omega.{arith}
 use lib.Dec.{eqb, leb, ltb, leb→le}
-use lib.ListN.{length, get_or, take, drop, length-take, get_or-eq_default}
+use lib.ListN.{get_or, take, drop, length-take, get_or-eq_default}
 use lib.Seq.{get_or-take, get_or-drop}
 use Rattle.ir_records.specs.Result.{pick}
-use Rattle.ir_records.specs.Record.{type_count, type_word, struct_kind, member_words, member_count, member_type, member_offset, struct_members}
-use Rattle.ir_records.specs.Serving.{Sourceless}
-use Rattle.ir_records.specs.BlendSource.{member_source}
+use Rattle.ir_records.specs.Record.{type_count, type_word, struct_kind, member_words, member_count, member_type, member_offset, member_source, struct_members, Sourceless}
 use Rattle.ir_records.proofs.ResultLaws.{true_T, and_right}
 use Rattle.valid_blend_laws.specs.SameRows.{SameRows}
 

@@ -4,7 +4,7 @@ use mathlib.Core.Path.{◌≡◌, refl, ap, ◌∙◌, fun_ext}
 use mathlib.Core.List.{List}
 use Prim.Native.Nat.{ℕ, zero, suc}
 use Rattle.ir_records.specs.Result.{Result, ok, and_then}
-use Rattle.ir_records.specs.Record.{decoded, type_inner, struct_members, member_type, member_offset}
+use Rattle.ir_records.specs.Record.{decoded, type_inner, struct_members}
 use Rattle.ir_records.specs.Table.{result_at, value_at}
 use Rattle.ir_records.specs.declared.TypeInner.{TypeInner}
 use Rattle.ir_records.specs.declared.TypeInner.TheVariants.{Plain, Array, RuntimeArray, Struct, Other}
@@ -19,11 +19,10 @@ use Rattle.valid_member_bounds.specs.MemberBounds.{bounds_after}
 use Rattle.valid_member_rules.specs.MemberRules.{uniform_after, storage_after, immediates_after}
 use Rattle.valid_types.specs.ValidateType.{flags_of, uniform_of, storage_of, immediates_of, row_of}
 use Rattle.immediates_ranges.specs.declared.Slots.{Slots}
-use Rattle.immediates_walk.specs.Walk.{members_slots, slots_of, slots_step, no_slots, slots_at}
+use Rattle.immediates_walk.specs.Walk.{members_slots, slots_of, no_slots, slots_at}
 use Rattle.place_steps.specs.declared.Step.{Step}
 use Rattle.place_steps.specs.Steps.{step_of}
-use Rattle.place_descent.specs.declared.Place.{Place}
-use Rattle.place_descent.specs.Place.{walk, step_in, leaf_in, place_of}
+use Rattle.place_descent.specs.Place.{walk, leaf_in, place_of}
 use Rattle.valid_blend_laws.specs.SameRows.{SameRows}
 use Rattle.valid_blend_laws.specs.Former.{former_flags, former_step}
 use Rattle.valid_blend_laws.proofs.ReadLaws.{SameFields, same_fields}

@@ -3,8 +3,7 @@
 -- Assumes nothing.
 use Rattle.std.specs.Prelude.{Bool, ◌&&◌, List, [], ◌∷◌, ◌≡◌, ℕ, ◌+◌, ◌*◌, ◌/◌, ◌%◌, ◌<◌, eqb, leb, ltb, length, get_or}
 use Rattle.ir_records.specs.Result.{Result, ok, pick, require, and_then}
-use Rattle.ir_records.specs.Record.{Decoded, decoded, type_words, type_count, member_count, member_type, member_offset, struct_members}
-use Rattle.ir_records.specs.Serving.{Sourceless}
+use Rattle.ir_records.specs.Record.{Decoded, decoded, type_words, type_count, member_count, member_type, member_offset, struct_members, Sourceless}
 use Rattle.ir_records.specs.Fields.{most_types, most_members, row_words, fields_at}
 use Rattle.ir_records.specs.Table.{result_at, value_at, also, first_refusal, flat}
 use Rattle.ir_records.specs.declared.Outcome.{Outcome}
@@ -12,8 +11,7 @@ use Rattle.ir_records.specs.declared.Outcome.TheVariants.{Refused}
 use Rattle.ir_records.specs.declared.TypeInner.{TypeInner}
 use Rattle.ir_records.specs.declared.TypeInner.TheVariants.{Plain, Array, RuntimeArray, Struct, Other}
 use Rattle.proc_type_alignment.specs.declared.TypeLayout.{TypeLayout}
-use Rattle.proc_layouter.specs.Layouter.{layout, layout_at}
-use Rattle.proc_layouter.specs.LentRows.{lent_after}
+use Rattle.proc_layouter.specs.Layouter.{layout, layout_at, rows_after}
 use Rattle.valid_type_info.specs.declared.Row.{Row}
 use Rattle.valid_type_info.specs.TypeInfo.{empty_row, words_of, row_sizes, row_flags}
 use Rattle.valid_type_info.specs.Verdict.{min_uniform}
@@ -70,7 +68,9 @@ former_answer c ts pairs rows = pick (former_fits c ts pairs rows) (former_outco
 
 unfoldable pub former_words : (c : ℕ) (ts pairs rows : List ℕ) → List ℕ
 former_words c ts pairs rows =
-    lent_after row_words (former_fits c ts pairs rows) (former_outcome c ts (widened pairs)) (former_rows c ts (widened pairs) (type_count ts)) (type_count ts) rows
+    pick (former_fits c ts pairs rows)
+    (rows_after (former_outcome c ts (widened pairs)) (former_rows c ts (widened pairs) (type_count ts)) (type_count ts) rows)
+    rows
 
 -- ---- no member of a struct of the arena has a blend source
 abbrev pub NoSources : (ts ms : List ℕ) → Type 0

@@ -12,8 +12,8 @@ equal_test : (m n : ℕ) → m ≡ n → T (eqb m n)
 equal_test m n e = rw e (eqb_refl n)
 
 -- a bit of a meet is a bit of both words
-pub bit_and : (x y k : ℕ) → T (bit (bit_and x y) k) → T (bit x k) × T (bit y k)
-bit_and x y k t =
+pub bit-and : (x y k : ℕ) → T (bit (bit_and x y) k) → T (bit x k) × T (bit y k)
+bit-and x y k t =
     let e : bit_and x y / 2 ^ k % 2 ≡ 1 = eqb→eq (bit_and x y / 2 ^ k % 2) 1 t in
     let a = x / 2 ^ k in
     let b = y / 2 ^ k in

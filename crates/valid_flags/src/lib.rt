@@ -1,4 +1,6 @@
 // TypeFlags of naga's valid/type.rs, and bits of a word. Flags are numbers with 01's values.
+#![tactic(auto)]
+
 ghost use Rattle.std.specs.Prelude.{◌≡◌, ◌<◌};
 ghost use Rattle.std.specs.Int.Bits.{bit_and, bit_or};
 ghost use Rattle.valid_flags.specs.Flags.{bit, data_bit, sized_bit, io_shareable_bit, host_shareable_bit, creation_resolved_bit, is_sized_data, starting_flags, scalar_flags, space_flag, pointer_flags, array_flags, runtime_array_flags, binding_array_flags, not_host_shareable};

@@ -1,14 +1,12 @@
 -- The marked examples hold: one computed test over the whole table, and one law that turns it into what each row says.
 -- Assumes nothing.
-use mathlib.Core.Path.{◌≡◌, refl, ◌∙◌, sym}
+use mathlib.Core.Path.{◌≡◌, refl}
 use mathlib.Core.Bool.{Bool, true, false, ◌&&◌}
 use mathlib.Core.List.{List, [], ◌∷◌}
 use Prim.Native.Nat.{ℕ}
 use lib.Dec.{T, eqb, eqb→eq}
-use Rattle.ir_records.specs.Result.{pick, value_or}
 use Rattle.ir_records.specs.Record.{inner_of, type_inner, struct_members}
-use Rattle.ir_records.specs.Fields.{tables_fit, fields_ok, record_at}
-use Rattle.ir_records.specs.BlendSource.{located_to}
+use Rattle.ir_records.specs.Fields.{tables_fit, fields_ok, record_at, located_to}
 use Rattle.ir_records.specs.Table.{result_at, value_at}
 use Rattle.ir_records.specs.declared.Outcome.{Outcome}
 use Rattle.ir_records.specs.declared.Outcome.TheVariants.{Accepted, Refused}
@@ -16,8 +14,8 @@ use Rattle.ir_records.proofs.ResultLaws.{and_left, and_right}
 use Rattle.proc_type_methods.specs.TypeMethods.{try_size}
 use Rattle.proc_type_alignment.specs.TypeAlignment.{members_alignment, alignment_of}
 use Rattle.proc_type_layout.specs.TypeLayout.{layout_of}
-use Rattle.proc_layouter.specs.Layouter.{layout_outcome, layout_answer, layout_rows}
-use Rattle.valid_width.specs.Width.{integer_width, float_width, check_width, integer_atomic, atomic_width}
+use Rattle.proc_layouter.specs.Layouter.{layout_outcome}
+use Rattle.valid_width.specs.Width.{integer_width, float_width, check_width}
 use Rattle.valid_type_flags.specs.TypeFlags.{leaf_flags}
 use Rattle.valid_type_info.specs.TypeInfo.{words_of}
 use Rattle.valid_type_info.specs.Verdict.{array_verdict, share_verdict, member_verdict, distance_verdict, distance_ok, unsized_verdict, span_verdict}
@@ -30,9 +28,7 @@ use Rattle.valid_arena.specs.Arena.{judge_outcome, arena_outcome, arena_answer, 
 use Rattle.immediates_ranges.specs.declared.SlotsAnswer.{SlotsAnswer}
 use Rattle.immediates_ranges.specs.declared.SlotsAnswer.TheVariants as slots
 use Rattle.immediates_ranges.specs.declared.SlotsAnswer.TheVariants.{Slots}
-use Rattle.immediates_ranges.specs.Slots.{mask_of, range_slots, part_answer}
-use Rattle.immediates_ranges.specs.Bytes.{covers}
-use Rattle.immediates_ranges.specs.Partly.{covers_all}
+use Rattle.immediates_ranges.specs.Slots.{covers, covers_all, mask_of, range_slots, part_answer}
 use Rattle.immediates_walk.specs.Walk.{members_slots, slots_of}
 use Rattle.immediates_slots.specs.Immediates.{slots_answer}
 use Rattle.valid_marked.specs.Marked.{Words, Example, lent, made, left, AllLeft, Holds, Case, arena_case, slots_case, range_case, CaseHolds, AllHold, marked, blends, newer}

@@ -16,7 +16,7 @@ use Rattle.ir_records.specs.declared.TypeInner.{TypeInner}
 use Rattle.ir_records.proofs.ResultLaws.{required, and_then_ok, ok_inj, and_left, and_right, or_cases, T_true}
 use Rattle.proc_alignment.specs.Alignment.{most}
 use Rattle.valid_flags.specs.Flags.{bit, data_bit, sized_bit, host_shareable_bit, creation_resolved_bit, not_host_shareable}
-use Rattle.valid_flags.proofs.BitLaws.{bit_and, bit_and_both}
+use Rattle.valid_flags.proofs.BitLaws.{bit-and, bit_and_both}
 use Rattle.valid_type_info.specs.declared.Previous.{Previous}
 use Rattle.valid_type_info.specs.Verdict.{previous_of, distance_ok}
 use Rattle.valid_member_bounds.specs.declared.Bounds.{Bounds}
@@ -58,13 +58,13 @@ member_taken count span previous inner offset j size flags so_far next e =
 
 -- a flag that is left after a member was there before, and is one of the member's type
 flag_left : (ordered : Bool) (x y k : ℕ) → T (bit (pick ordered (bit_and x y) (not_host_shareable (bit_and x y))) k) → T (bit x k) × T (bit y k)
-flag_left true x y k t = bit_and x y k t
-flag_left false x y k t = bit_and x y k (bit_and (bit_and x y) 239 k t).0
+flag_left true x y k t = bit-and x y k t
+flag_left false x y k t = bit-and x y k (bit-and (bit_and x y) 239 k t).0
 
 -- HOST_SHAREABLE is left only where the member starts at the running end or past it
 host_ordered : (ordered : Bool) (x y : ℕ) → T (bit (pick ordered (bit_and x y) (not_host_shareable (bit_and x y))) host_shareable_bit) → T ordered
 host_ordered true x y t = tt
-host_ordered false x y t = (bit_and (bit_and x y) 239 host_shareable_bit t).1
+host_ordered false x y t = (bit-and (bit_and x y) 239 host_shareable_bit t).1
 
 -- DATA stays
 data_stays : (ordered : Bool) (x y : ℕ) → T (bit x data_bit) → T (bit y data_bit) → T (bit (pick ordered (bit_and x y) (not_host_shareable (bit_and x y))) data_bit)

@@ -1,4 +1,6 @@
 // The rules of one member of a struct on what is accepted and on flags, of the member loop of validate_type in naga's valid/type.rs.
+#![tactic(auto)]
+
 ghost use Rattle.std.specs.Prelude.{◌≡◌};
 ghost use Rattle.ir_records.specs.Record.{type_inner};
 ghost use Rattle.valid_type_info.specs.Serving.{is_within};
@@ -8,13 +10,13 @@ ghost use Rattle.valid_member_bounds.specs.Serving.{bounded_result};
 use valid_type_info::Distance;
 
 // The running end and the flags after some members.
-#[derive(Drop)]
+#[derive(Clone, Copy)]
 pub struct Bounds {
     pub end: u32,
     pub flags: u32,
 }
 
-#[derive(Drop)]
+#[derive(Clone, Copy)]
 pub enum Bounded {
     Within(Bounds),
     Refused(u32),

@@ -9,7 +9,6 @@ use Rattle.ir_records.specs.Record.{member_type}
 use Rattle.ir_records.specs.declared.TypeInner.{TypeInner}
 use Rattle.valid_flags.specs.Flags.{bit, creation_resolved_bit}
 use Rattle.valid_type_info.specs.declared.Row.{Row}
-use Rattle.valid_type_info.specs.Verdict.{previous_of}
 use Rattle.valid_type_info.proofs.VerdictLaws.{previous_inner}
 use Rattle.valid_member_rules.specs.MemberRules.{uniform_after, storage_after, immediates_after}
 

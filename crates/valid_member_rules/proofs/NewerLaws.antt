@@ -12,7 +12,7 @@ use Rattle.valid_flags.specs.Flags.{bit, sized_bit}
 use Rattle.valid_type_info.specs.declared.Row.{Row}
 use Rattle.valid_type_info.specs.Verdict.{min_storage, unless_ok, unsized_member, unsized_verdict, previous_of}
 use Rattle.valid_type_info.proofs.DistanceLaws.{no_distance}
-use Rattle.valid_member_rules.specs.MemberRules.{member_storage, uniform_after, storage_after}
+use Rattle.valid_member_rules.specs.MemberRules.{uniform_after, storage_after}
 
 module _ (inner : ℕ → TypeInner) (rows : ℕ → Row) (i : ℕ) (members : List ℕ) where
   -- one member more, whose own uniform verdict is its storage verdict

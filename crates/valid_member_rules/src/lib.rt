@@ -1,4 +1,6 @@
 // The verdicts after one member of a struct, of the member loop of validate_type in naga's valid/type.rs.
+#![tactic(auto)]
+
 ghost use Rattle.std.specs.Prelude.{◌≡◌, ◌+◌, ◌<◌};
 ghost use Rattle.ir_records.specs.Record.{type_inner};
 ghost use Rattle.valid_type_info.specs.Verdict.{struct_at};

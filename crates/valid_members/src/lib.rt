@@ -1,9 +1,11 @@
 // The members of a struct, one after the other: the member loop of validate_type in naga's valid/type.rs.
+#![tactic(auto)]
+
 ghost use Rattle.std.specs.Prelude.{◌≡◌, true, ℕ, ◌+◌, ◌*◌, ◌≤◌, ◌<◌, length, false};
 ghost use Rattle.ir_records.specs.Record.{member_words, member_type, type_inner};
 ghost use Rattle.ir_records.specs.Result.{ok};
 ghost use Rattle.valid_type_info.specs.declared.UniformRule as rule;
-ghost use Rattle.valid_type_info.specs.Serving.{rows_in, verdict_in};
+ghost use Rattle.valid_type_info.specs.TypeInfo.{rows_in, verdict_in};
 ghost use Rattle.valid_type_info.specs.Verdict.{least_for, ok_verdict, is_ok, share_verdict, member_verdict, struct_at, previous_of};
 ghost use Rattle.valid_members_plain.specs.Serving.{least_of};
 ghost use Rattle.valid_member_bounds.specs.MemberBounds.{is_array};
@@ -14,7 +16,7 @@ use valid_members_plain::PlainState;
 use valid_type_info::{Previous, Row, UniformRule, Verdict};
 
 // What is known after some members.
-#[derive(Drop)]
+#[derive(Clone, Copy)]
 pub struct State {
     pub bounds: Bounds,
     pub uniform: Verdict,
@@ -23,35 +25,35 @@ pub struct State {
     pub previous: Previous,
 }
 
-#[derive(Drop)]
+#[derive(Clone, Copy)]
 pub enum Stepped {
     Took(State),
     Refused(u32),
 }
 
 // The step of a member in order, or a member for `member`.
-#[derive(Drop)]
+#[derive(Clone, Copy)]
 pub enum Ordered {
     Took(State),
     Other,
 }
 
 // How many members have been taken, and what is known after them.
-#[derive(Drop)]
+#[derive(Clone, Copy)]
 pub struct Reached {
     pub taken: u32,
     pub state: State,
 }
 
 // How the next members are taken: with all that is known of both verdicts, or by a loop of valid_members_plain.
-#[derive(Drop)]
+#[derive(Clone, Copy)]
 pub enum Way {
     Ordered,
     Plain,
     Storage,
 }
 
-#[derive(Drop)]
+#[derive(Clone, Copy)]
 pub enum Members {
     Taken(State),
     Refused { number: u32, member: u32 },

@@ -1,20 +1,16 @@
 -- A member that breaks no rule: what each test gives, and what each rule then makes of the state so far.
 -- Assumes nothing.
-use mathlib.Core.Path.{◌≡◌, refl, sym, ◌∙◌}
-use mathlib.Core.Bool.{Bool, true, false, ◌&&◌, ◌||◌}
-use Prim.Native.Nat.{ℕ, ◌+◌, ◌-◌, ◌*◌, ◌/◌, ◌≤◌, max}
-use native.Mathlib.Nat.{max-eq_left, max-eq_right}
+use mathlib.Core.Path.{◌≡◌, refl}
+use mathlib.Core.Bool.{true, false, ◌&&◌}
+use Prim.Native.Nat.{ℕ, ◌+◌, ◌-◌, ◌≤◌, max}
 use native.Mathlib.Omega.{arith}
 use lib.Bits.{bit_and}
-use lib.Dec.{T, eqb, leb, eqb→eq}
+use lib.Dec.{eqb, eqb→eq}
 use borrow.Author.Tests.{le-leb}
 use Rattle.ir_records.specs.Result.{ok}
 use Rattle.ir_records.specs.declared.TypeInner.{TypeInner}
 use Rattle.ir_records.proofs.ResultLaws.{true_T, T_true, and_left, and_right}
-use Rattle.proc_alignment.specs.Alignment.{most, is_aligned}
-use Rattle.proc_alignment.specs.Serving.{is_mask}
-use Rattle.proc_alignment.specs.RoundUp.{round_up}
-use Rattle.proc_alignment.proofs.PowerLaws.{le_cases}
+use Rattle.proc_alignment.specs.Alignment.{most, is_mask, is_aligned, round_up}
 use Rattle.proc_alignment.proofs.RoundLaws.{sum_within}
 use Rattle.valid_flags.specs.Flags.{bit, data_bit, sized_bit, host_shareable_bit, creation_resolved_bit}
 use Rattle.valid_type_info.specs.declared.Verdict.{Verdict}

@@ -5,9 +5,7 @@
 use Rattle.std.specs.Prelude.{Bool, ◌&&◌, List, ◌≡◌, ℕ, ◌+◌, max, eqb}
 use Rattle.ir_records.specs.Result.{ok}
 use Rattle.ir_records.specs.declared.TypeInner.{TypeInner}
-use Rattle.proc_alignment.specs.Alignment.{is_aligned}
-use Rattle.proc_alignment.specs.Serving.{is_mask}
-use Rattle.proc_alignment.specs.RoundUp.{round_up}
+use Rattle.proc_alignment.specs.Alignment.{is_mask, is_aligned, round_up}
 use Rattle.valid_type_info.specs.declared.Previous.{Previous}
 use Rattle.valid_type_info.specs.declared.Previous.TheVariants.{NoStruct, StructBefore}
 use Rattle.valid_type_info.specs.declared.Row.{Row}

@@ -1,12 +1,14 @@
 // Members of a struct one after the other, as long as none breaks a rule: the member loop of validate_type in naga's valid/type.rs,
 // in fewer tests than `members` takes. One loop carries both verdicts, which stay Ok, the other the storage verdict alone.
+#![tactic(auto)]
+
 ghost use Rattle.std.specs.Prelude.{◌≡◌, ℕ, ◌+◌, ◌*◌, ◌≤◌, ◌<◌, length, false};
 ghost use Rattle.ir_records.specs.Record.{struct_kind, member_words, member_type, type_inner};
 ghost use Rattle.valid_flags.specs.Flags.{starting_flags};
 ghost use Rattle.valid_type_info.specs.declared.Previous as previous;
 ghost use Rattle.valid_type_info.specs.declared.UniformRule as rule;
 ghost use Rattle.valid_type_info.specs.declared.Verdict as verdict;
-ghost use Rattle.valid_type_info.specs.Serving.{rows_in};
+ghost use Rattle.valid_type_info.specs.TypeInfo.{rows_in};
 ghost use Rattle.valid_type_info.specs.Verdict.{min_storage, least_for, ok_verdict, is_ok, struct_at};
 ghost use Rattle.valid_members_plain.specs.Serving.{least_of, keeps_verdicts, keeps_storage, Stepped, StorageStepped, PlainAfter};
 
@@ -17,7 +19,7 @@ pub const LONG: u32 = 16;
 
 // What is known after them: the running end, the flags, the alignment in each verdict that is Ok,
 // and where the next member may begin at the earliest.
-#[derive(Drop)]
+#[derive(Clone, Copy)]
 pub struct PlainState {
     pub end: u32,
     pub flags: u32,
@@ -26,14 +28,14 @@ pub struct PlainState {
     pub least: u64,
 }
 
-#[derive(Drop)]
+#[derive(Clone, Copy)]
 pub enum Plain {
     Took(PlainState),
     Other,
 }
 
 // How many members have been taken, and what is known after them.
-#[derive(Drop)]
+#[derive(Clone, Copy)]
 pub struct Reached {
     pub taken: u32,
     pub state: PlainState,

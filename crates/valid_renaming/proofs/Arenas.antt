@@ -8,8 +8,7 @@ use Prim.Native.Nat.{ℕ, zero, suc, ◌<◌}
 use native.Mathlib.Omega.{arith}
 use lib.ListN.{get_or}
 use Rattle.ir_records.specs.Record.{Decoded, decoded, inner_of, type_inner, struct_members}
-use Rattle.ir_records.specs.Fields.{tables_fit, fields_ok, record_at}
-use Rattle.ir_records.specs.BlendSource.{located_to}
+use Rattle.ir_records.specs.Fields.{tables_fit, fields_ok, located_to, record_at}
 use Rattle.ir_records.specs.Table.{result_at, value_at}
 use Rattle.ir_records.specs.declared.Outcome.TheVariants.{Accepted}
 use Rattle.ir_records.specs.declared.TypeInner.TheVariants.{Struct}
@@ -29,9 +28,7 @@ use Rattle.valid_types.specs.ValidateType.{non_data_flags, flags_of, uniform_of,
 use Rattle.valid_arena.specs.Arena.{row, judge_outcome, arena_outcome, arena}
 use Rattle.valid_arena.proofs.ArenaLaws.{accepted_types}
 use Rattle.immediates_ranges.specs.declared.Slots.TheVariants.{Mask}
-use Rattle.immediates_ranges.specs.Slots.{mask_of, range_slots}
-use Rattle.immediates_ranges.specs.Bytes.{covers}
-use Rattle.immediates_ranges.specs.Partly.{covers_all}
+use Rattle.immediates_ranges.specs.Slots.{covers, covers_all, mask_of, range_slots}
 use Rattle.immediates_walk.specs.Walk.{members_slots, slots_of, slots_at}
 use Rattle.place_steps.specs.Steps.{step_of}
 use Rattle.place_descent.specs.declared.Place.TheVariants.{At}

@@ -7,7 +7,7 @@ use Prim.Native.Nat.{ℕ, zero, suc, ◌≤◌, ◌<◌}
 use native.Mathlib.Nat.{le_refl}
 use native.Mathlib.Omega.{arith}
 use Rattle.ir_records.specs.Result.{ok}
-use Rattle.ir_records.specs.BlendSource.{member_source}
+use Rattle.ir_records.specs.Record.{member_source}
 use Rattle.ir_records.specs.declared.TypeInner.{TypeInner}
 use Rattle.ir_records.proofs.ResultLaws.{ok_inj}
 use Rattle.valid_blend.specs.Blend.{source_at, other_location, pair_result, struct_blend}

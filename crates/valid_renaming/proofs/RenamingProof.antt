@@ -15,7 +15,7 @@ use Rattle.valid_type_info.specs.Verdict.{least_for}
 use Rattle.valid_arena.specs.Arena.{arena}
 use Rattle.valid_arena.proofs.AcceptedLaws.{row_more, accepted_more}
 use Rattle.valid_arena.proofs.ArenaLaws.{accepted_types, arena_pointer_base, arena_binding_array_base}
-use Rattle.place_descent.proofs.WalkLaws.{place-from}
+use Rattle.place_descent.proofs.WalkLaws.{place_from}
 use Rattle.valid_renaming.specs.Renaming.{Reaches, itself, renamed_inner, renamed_row, renamed_place, ReachedAgree, Renaming, OneToOneRenaming}
 use Rattle.valid_renaming.proofs.ReachLaws.{Closed, reaches_on, reaches_earlier}
 use Rattle.valid_renaming.proofs.RowRenamed.{same}
@@ -41,9 +41,9 @@ renaming f rule c c' ts ms ts' ms' t a a' r =
           ∙ ap (renamed_row f) (sym (row_more c types n acc d (bit_or_left c c') (least_for rule) t r.within));
       slots = slots_renamed f types types' n' d n both both' t r.within closed;
       places = λ steps.
-          place-from ts' ms' (f t) (r.within' t itself) steps
+          place_from ts' ms' (f t) (r.within' t itself) steps
           ∙ place_renamed f types types' n' steps t 0 closed
-          ∙ ap (renamed_place f) (sym (place-from ts ms t r.within steps));
+          ∙ ap (renamed_place f) (sym (place_from ts ms t r.within steps));
     }
 
 -- what a type of an accepted arena reaches is a type of the arena

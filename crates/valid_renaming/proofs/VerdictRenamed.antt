@@ -5,8 +5,7 @@ use mathlib.Core.Bool.{Bool, true, false, ◌||◌}
 use Prim.Native.Nat.{ℕ, ◌-◌, max}
 use lib.Dec.{leb}
 use Rattle.ir_records.specs.Result.{pick}
-use Rattle.proc_alignment.specs.Alignment.{is_aligned}
-use Rattle.proc_alignment.specs.RoundUp.{round_up}
+use Rattle.proc_alignment.specs.Alignment.{is_aligned, round_up}
 use Rattle.valid_type_info.specs.declared.Verdict.{Verdict}
 use Rattle.valid_type_info.specs.declared.Previous.{Previous}
 use Rattle.valid_type_info.specs.declared.Previous.TheVariants.{NoStruct, StructBefore}

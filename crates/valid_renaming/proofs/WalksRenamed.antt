@@ -13,7 +13,7 @@ use Rattle.ir_records.specs.Table.{table}
 use Rattle.ir_records.specs.declared.TypeInner.{TypeInner}
 use Rattle.ir_records.specs.declared.TypeInner.TheVariants.{Plain, Array, RuntimeArray, Struct, Other}
 use Rattle.ir_records.proofs.ResultLaws.{true_T}
-use Rattle.proc_type_methods.specs.Columns.{leaf_column_step}
+use Rattle.proc_type_methods.specs.TypeMethods.{leaf_column_step}
 use Rattle.valid_type_info.specs.Verdict.{min_storage}
 use Rattle.valid_arena.proofs.AcceptedLaws.{AcceptedTypes, member_earlier}
 use Rattle.immediates_ranges.specs.declared.Slots.{Slots}

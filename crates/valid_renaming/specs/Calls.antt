@@ -3,7 +3,7 @@
 use Rattle.std.specs.Prelude.{◌≡◌, List, ℕ}
 use Rattle.ir_records.specs.declared.Outcome.TheVariants.{Accepted}
 use Rattle.valid_type_info.specs.declared.UniformRule.{UniformRule}
-use Rattle.valid_type_info.specs.Serving.{rows_in}
+use Rattle.valid_type_info.specs.TypeInfo.{rows_in}
 use Rattle.valid_arena.specs.Arena.{arena_answer, arena_words}
 use Rattle.immediates_slots.specs.Immediates.{slots_answer}
 use Rattle.place_lookup.specs.declared.PlaceAnswer.{PlaceAnswer}

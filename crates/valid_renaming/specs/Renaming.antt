@@ -2,8 +2,7 @@
 -- Assumes nothing.
 use Rattle.std.specs.Prelude.{◌≡◌, List, ℕ, ◌<◌}
 use Rattle.ir_records.specs.Result.{pick}
-use Rattle.ir_records.specs.Record.{Decoded, decoded, type_count, member_type, member_offset}
-use Rattle.ir_records.specs.BlendSource.{member_location, member_source}
+use Rattle.ir_records.specs.Record.{Decoded, decoded, type_count, member_type, member_offset, member_location, member_source}
 use Rattle.ir_records.specs.declared.Outcome.TheVariants.{Accepted}
 use Rattle.ir_records.specs.declared.NonData.{NonData}
 use Rattle.ir_records.specs.declared.NonData.TheVariants.{Pointer, ValuePointer, Image, Sampler, AccelerationStructure, BindingArray}

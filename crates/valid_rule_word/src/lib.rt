@@ -1,4 +1,6 @@
 // The uniform rule as a word, for callers that have no name for it.
+#![tactic(auto)]
+
 ghost use Rattle.std.specs.Prelude.{◌≡◌};
 ghost use Rattle.valid_rule_word.specs.RuleWord.{rule_of, capabilities_by};
 

@@ -9,8 +9,7 @@ use lib.ListN.{length, take, drop}
 use Rattle.ir_records.specs.Result.{ok, err, require}
 use Rattle.ir_records.specs.Record.{member_words, member_count, type_count, type_word, struct_kind, inner_of, type_inner, struct_members}
 use Rattle.ir_records.specs.Serving.{record_words}
-use Rattle.ir_records.specs.Fields.{fields_ok}
-use Rattle.ir_records.specs.BlendSource.{sources_located}
+use Rattle.ir_records.specs.Fields.{fields_ok, sources_located}
 use Rattle.ir_records.specs.declared.Words.{Words}
 use Rattle.ir_records.specs.declared.TypeInner.{TypeInner}
 use Rattle.ir_records.specs.declared.TypeInner.TheVariants.{Struct}
@@ -22,7 +21,7 @@ use Rattle.proc_type_alignment.specs.Serving.{layouts_in}
 use Rattle.proc_type_layout.specs.TypeLayout.{layout_of}
 use Rattle.proc_type_layout.specs.Serving.{record_layout}
 use Rattle.proc_type_layout.proofs.TypeLayoutLaws.{members-within}
-use Rattle.valid_type_info.specs.Serving.{rows_in}
+use Rattle.valid_type_info.specs.TypeInfo.{rows_in}
 use Rattle.valid_types.specs.ValidateType.{judge}
 use Rattle.valid_types.specs.Serving.{words_row, record_row}
 

@@ -1,11 +1,12 @@
 // validate_type of naga's valid/type.rs: the row of a struct, and of any type by its kind, with numbers 2 to 7 of its record before it.
+#![tactic(auto)]
+
 ghost use Rattle.std.specs.Prelude.{◌≡◌, false, ℕ, ◌+◌, ◌*◌, ◌≤◌, ◌<◌, length, take, drop};
-ghost use Rattle.ir_records.specs.Record.{struct_kind, member_words, member_count, type_inner, member_type};
-ghost use Rattle.ir_records.specs.Serving.{Sourceless};
+ghost use Rattle.ir_records.specs.Record.{struct_kind, member_words, member_count, type_inner, member_type, Sourceless};
 ghost use Rattle.ir_records.specs.Result.{require};
-ghost use Rattle.ir_records.specs.BlendSource.{sources_located};
+ghost use Rattle.ir_records.specs.Fields.{sources_located};
 ghost use Rattle.ir_records.specs.declared.TypeInner.TheVariants.{Struct};
-ghost use Rattle.valid_type_info.specs.Serving.{rows_in};
+ghost use Rattle.valid_type_info.specs.TypeInfo.{rows_in};
 ghost use Rattle.valid_type_info.specs.Verdict.{least_for};
 ghost use Rattle.valid_members.specs.Serving.{Told};
 ghost use Rattle.valid_types.specs.ValidateType.{judge};

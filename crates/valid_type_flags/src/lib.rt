@@ -1,4 +1,6 @@
 // What validate_type of naga's valid/type.rs says of a type's flags, by its kind.
+#![tactic(auto)]
+
 ghost use Rattle.std.specs.Prelude.{◌≡◌};
 ghost use Rattle.ir_records.specs.Result.{err, ok};
 ghost use Rattle.ir_records.specs.Record.{atomic_kind, value_pointer_kind, sampler_kind, type_inner};
@@ -11,7 +13,7 @@ ghost use Rattle.valid_type_flags.specs.Serving.{flagged_result};
 use valid_width::Width;
 
 // The flags of a type, or its refusal.
-#[derive(Drop)]
+#[derive(Clone, Copy)]
 pub enum Flagged {
     Flags(u32),
     Refused {

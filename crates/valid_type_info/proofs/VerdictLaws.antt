@@ -9,8 +9,7 @@ use lib.Dec.{T, leb}
 use Rattle.ir_records.specs.Result.{pick}
 use Rattle.ir_records.specs.Record.{member_type, member_offset}
 use Rattle.ir_records.specs.declared.TypeInner.{TypeInner}
-use Rattle.proc_alignment.specs.Alignment.{Power, is_aligned}
-use Rattle.proc_alignment.specs.RoundUp.{round_up}
+use Rattle.proc_alignment.specs.Alignment.{Power, is_aligned, round_up}
 use Rattle.proc_alignment.proofs.PowerLaws.{aligned_divides, power_max}
 use Rattle.valid_type_info.specs.declared.Verdict.{Verdict}
 use Rattle.valid_type_info.specs.declared.Previous.{Previous}

@@ -1,4 +1,3 @@
 pub mod TypeInfo
 pub mod Verdict
-pub mod Common
 pub mod Serving

@@ -1,13 +1,14 @@
 // TypeInfo of naga's valid/type.rs: what a result row has, verdicts and the rules that make them.
+#![tactic(auto)]
+
 ghost use Rattle.std.specs.Prelude.{◌≡◌, Bool, true, ℕ};
 ghost use Rattle.valid_type_info.specs.declared.Verdict as verdict;
 ghost use Rattle.valid_type_info.specs.declared.UniformRule as rule;
-ghost use Rattle.valid_type_info.specs.Verdict.{min_uniform, least_for, ok_verdict, array_verdict, share_verdict, offset_verdict, member_verdict};
-ghost use Rattle.valid_type_info.specs.Verdict.{distance_verdict, distance_ok, unsized_verdict, span_verdict};
+ghost use Rattle.valid_type_info.specs.Verdict.{min_uniform, least_for, ok_verdict, array_verdict, share_verdict, offset_verdict, member_verdict, distance_verdict, distance_ok, unsized_verdict, span_verdict};
 ghost use Rattle.valid_type_info.specs.Serving.{after_distance, is_within};
 
 // naga's LayoutCompatibility: code 0 is Ok, with the alignment in ty.
-#[derive(Drop)]
+#[derive(Clone, Copy)]
 pub struct Verdict {
     pub code: u32,
     pub ty: u32,
@@ -17,7 +18,7 @@ pub struct Verdict {
 }
 
 // The fourteen words of a result row.
-#[derive(Drop)]
+#[derive(Clone, Copy)]
 pub struct Row {
     pub size: u32,
     pub alignment: u32,
@@ -28,21 +29,21 @@ pub struct Row {
 }
 
 // The rule by which uniform verdicts are worked out: naga 30.0.1's, or the storage rules.
-#[derive(Drop)]
+#[derive(Clone, Copy)]
 pub enum UniformRule {
     Older,
     Newer,
 }
 
 // The struct that the member right before is, with its offset.
-#[derive(Drop)]
+#[derive(Clone, Copy)]
 pub enum Previous {
     NoStruct,
     StructBefore { span: u32, offset: u32 },
 }
 
 // The distance from a struct to the member right after it.
-#[derive(Drop)]
+#[derive(Clone, Copy)]
 pub enum Distance {
     Enough,
     Short(u32),
@@ -147,8 +148,7 @@ pub fn member_verdict(i: u32, j: u32, offset: u32, so_far: Verdict, member: Verd
 // The distance rule; Overflow where a sum or the difference of the Rust leaves 32 bits.
 pub fn distance_to(previous: Previous, offset: u32) -> Distance
     ensures within { is_within result ≡ distance_ok previous offset }
-    ensures verdict { (rule : rule.UniformRule) (i j : ℕ) (v : verdict.Verdict) → is_within result ≡ true
-        → after_distance (least_for rule) result i j offset v ≡ distance_verdict (least_for rule) i j offset previous v }
+    ensures verdict { (rule : rule.UniformRule) (i j : ℕ) (v : verdict.Verdict) → is_within result ≡ true → after_distance (least_for rule) result i j offset v ≡ distance_verdict (least_for rule) i j offset previous v }
 {
     match previous {
         Previous::NoStruct => Distance::Enough,

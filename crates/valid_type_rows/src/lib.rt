@@ -1,8 +1,9 @@
 // Result rows, read from words and written to them.
+#![tactic(auto)]
+
 ghost use Rattle.std.specs.Prelude.{◌≡◌, ◌+◌, ◌*◌, ◌%◌, ◌≤◌, ◌<◌, length};
 ghost use Rattle.ir_rows.specs.Serving.{with_row};
-ghost use Rattle.valid_type_info.specs.TypeInfo.{words_of, empty_row};
-ghost use Rattle.valid_type_info.specs.Serving.{rows_in, verdict_in};
+ghost use Rattle.valid_type_info.specs.TypeInfo.{words_of, rows_in, empty_row, verdict_in};
 ghost use Rattle.valid_type_info.specs.Verdict.{member_verdict};
 
 use valid_type_info::{Row, Verdict};
@@ -73,9 +74,7 @@ pub fn put(
     immediates: u32,
 )
     requires { i * 14 + 14 ≤ length rows.old }
-    ensures { rows.new
-        ≡ with_row rows.old (i * 14)
-        (words_of (record { size = size; alignment = alignment; flags = flags; uniform = «uniform»; storage = «storage»; immediates = immediates })) }
+    ensures { rows.new ≡ with_row rows.old (i * 14) (words_of (record { size = size; alignment = alignment; flags = flags; uniform = «uniform»; storage = «storage»; immediates = immediates })) }
 {
     let at = (i as usize) * ir_records::ROW_WORDS;
     let words = [

@@ -10,8 +10,7 @@ use Rattle.ir_records.specs.declared.TypeInner.TheVariants.{Plain, Array, Runtim
 use Rattle.proc_type_alignment.specs.declared.TypeLayout.{TypeLayout}
 use Rattle.valid_type_info.specs.declared.Row.{Row}
 use Rattle.valid_type_info.specs.Verdict.{span_verdict}
-use Rattle.valid_type_info.specs.TypeInfo.{row_sizes, row_flags}
-use Rattle.valid_type_info.specs.Common.{without_uniform}
+use Rattle.valid_type_info.specs.TypeInfo.{without_uniform, row_sizes, row_flags}
 use Rattle.valid_member_rules.specs.MemberRules.{storage_after, immediates_after}
 use Rattle.valid_types.specs.ValidateType.{flags_of, storage_of, immediates_of, row_of, judge, judge_common}
 

@@ -5,8 +5,8 @@ use mathlib.Core.Bool.{Bool, true, false, not, ◌&&◌, ◌||◌}
 use mathlib.Core.List.{List}
 use Prim.Native.Nat.{ℕ, ◌<◌}
 use lib.Bits.{bit_and, bit_or}
-use lib.Dec.{T, eqb, leb, ltb}
-use Rattle.ir_records.specs.Result.{Result, ok, pick, require, and_then}
+use lib.Dec.{T, eqb, leb}
+use Rattle.ir_records.specs.Result.{ok, pick}
 use Rattle.ir_records.specs.Record.{member_type}
 use Rattle.ir_records.specs.declared.Leaf.{Leaf}
 use Rattle.ir_records.specs.declared.Leaf.TheVariants.{Scalar, Vector, Matrix, CooperativeMatrix, Atomic, RayQuery}
@@ -17,7 +17,7 @@ use Rattle.ir_records.specs.declared.TypeInner.TheVariants.{Plain, Array, Runtim
 use Rattle.ir_records.proofs.ResultLaws.{required, and_then_ok, ok_inj, T_true, and_left}
 use Rattle.proc_type_alignment.specs.declared.TypeLayout.{TypeLayout}
 use Rattle.valid_flags.specs.Flags.{bit, data_bit, sized_bit, creation_resolved_bit, scalar_flags, binding_array_flags, is_sized_data}
-use Rattle.valid_flags.proofs.BitLaws.{bit_and, bit_and_both}
+use Rattle.valid_flags.proofs.BitLaws.{bit-and, bit_and_both}
 use Rattle.valid_width.specs.Width.{float, cooperative_matrix, cube_array_textures, texture_external, ray_query, ray_tracing_pipeline, ray_hit_vertex_position, check_width, atomic_width}
 use Rattle.valid_type_flags.specs.TypeFlags.{leaf_flags, is_struct, is_external_image}
 use Rattle.valid_type_info.specs.declared.Row.{Row}
@@ -99,8 +99,8 @@ pointer_no_data false = refl
 
 -- the flags of binding arrays have no DATA
 binding_no_data : (b : Bool) (base : ℕ) → T (bit (bit_and base (pick b 146 144)) data_bit) → ⊥
-binding_no_data true base t = (bit_and base 146 data_bit t).1
-binding_no_data false base t = (bit_and base 144 data_bit t).1
+binding_no_data true base t = (bit-and base 146 data_bit t).1
+binding_no_data false base t = (bit-and base 144 data_bit t).1
 
 -- the flags of what is no data have no DATA
 other_no_data : (c : ℕ) (inner : ℕ → TypeInner) (flags : ℕ → ℕ) (o : NonData) (f : ℕ) → non_data_flags c inner flags o ≡ ok f → bit f data_bit ≡ false

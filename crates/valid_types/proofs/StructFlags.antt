@@ -6,7 +6,7 @@ use Prim.Native.Nat.{ℕ, ◌<◌}
 use native.Mathlib.Nat.{le_refl}
 use lib.Dec.{T, ltb}
 use Rattle.ir_records.specs.Result.{Result, err, ok, require, and_then}
-use Rattle.ir_records.specs.BlendSource.{member_source}
+use Rattle.ir_records.specs.Record.{member_source}
 use Rattle.ir_records.specs.declared.TypeInner.{TypeInner}
 use Rattle.ir_records.specs.declared.TypeInner.TheVariants.{Struct}
 use Rattle.ir_records.proofs.ResultLaws.{required, and_then_ok, T_true}

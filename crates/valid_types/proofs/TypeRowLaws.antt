@@ -20,8 +20,7 @@ use Rattle.proc_type_layout.specs.TypeLayout.{layout_of}
 use Rattle.proc_type_layout.specs.Serving.{words_layout}
 use Rattle.proc_type_layout.proofs.AcceptedParts.{layout_parts}
 use Rattle.valid_type_flags.specs.TypeFlags.{leaf_flags}
-use Rattle.valid_type_info.specs.TypeInfo.{row_flags}
-use Rattle.valid_type_info.specs.Serving.{rows_in}
+use Rattle.valid_type_info.specs.TypeInfo.{rows_in, row_flags}
 use Rattle.valid_types.specs.declared.PlainRow.{PlainRow}
 use Rattle.valid_types.specs.ValidateType.{non_data_flags, leaf_verdict_alignment, leaf_immediates, judge}
 use Rattle.valid_types.specs.Serving.{plain_judged, plain_result, array_of}

@@ -7,8 +7,7 @@ use Rattle.valid_flags.specs.Flags.{array_flags, runtime_array_flags, is_sized_d
 use Rattle.valid_type_info.specs.declared.Row.{Row}
 use Rattle.valid_type_info.specs.Verdict.{min_storage, ok_verdict, array_verdict}
 use Rattle.ir_rows.specs.Serving.{with_row}
-use Rattle.valid_type_info.specs.TypeInfo.{words_of}
-use Rattle.valid_type_info.specs.Serving.{rows_in}
+use Rattle.valid_type_info.specs.TypeInfo.{words_of, rows_in}
 use Rattle.valid_types.specs.declared.PlainRow.{PlainRow}
 use Rattle.valid_types.specs.declared.PlainRow.TheVariants as plain
 use Rattle.valid_types.specs.declared.Judged.{Judged}

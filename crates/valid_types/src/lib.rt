@@ -1,5 +1,7 @@
 // validate_type of naga's valid/type.rs: the row of one type that is no struct. Numbers 2 to 7 of its record come first, as Layouter::update
 // has them, in the same choice by its kind.
+#![tactic(auto)]
+
 ghost use Rattle.std.specs.Prelude.{◌≡◌, List, ℕ, ◌+◌, ◌*◌, ◌≤◌, ◌<◌, eqb, length, take};
 ghost use Rattle.ir_records.specs.Result.{ok, pick, and_then};
 ghost use Rattle.ir_records.specs.Record.{scalar_kind, vector_kind, matrix_kind, cooperative_matrix_kind, atomic_kind, pointer_kind, value_pointer_kind, array_kind, struct_kind, image_kind, sampler_kind, acceleration_structure_kind, ray_query_kind, binding_array_kind, type_count, type_inner};
@@ -10,7 +12,7 @@ ghost use Rattle.proc_type_alignment.specs.declared.TypeLayout as layout;
 ghost use Rattle.proc_type_layout.specs.Serving.{laid_result};
 ghost use Rattle.valid_type_flags.specs.TypeFlags.{with_width};
 ghost use Rattle.valid_type_flags.specs.Serving.{flagged_result};
-ghost use Rattle.valid_type_info.specs.Serving.{rows_in};
+ghost use Rattle.valid_type_info.specs.TypeInfo.{rows_in};
 ghost use Rattle.valid_types.specs.Serving.{plain_judged, plain_result, array_of, Settled};
 ghost use Rattle.valid_types.specs.Serving.{words_row};
 
@@ -19,7 +21,7 @@ use proc_type_layout::Laid;
 use valid_type_flags::Flagged;
 
 // A type that is neither array nor struct: its row, both verdicts Ok with one alignment; or its refusal.
-#[derive(Drop)]
+#[derive(Clone, Copy)]
 pub enum PlainRow {
     Made {
         size: u32,
@@ -36,7 +38,7 @@ pub enum PlainRow {
 }
 
 // A row that has been written, or the refusal of its type.
-#[derive(Drop)]
+#[derive(Clone, Copy)]
 pub enum Judged {
     Made,
     Refused {

@@ -1,9 +1,11 @@
 // check_width of naga's valid/type.rs, and the widths of atomics.
+#![tactic(auto)]
+
 ghost use Rattle.std.specs.Prelude.{◌≡◌, ◌+◌, ◌≤◌};
 ghost use Rattle.valid_width.specs.Width.{allowed_with, allowed_only, integer_width, integer_atomic, float_width, check_width, atomic_width, immediates_word};
 ghost use Rattle.valid_width.specs.Serving.{width_result};
 
-#[derive(Drop)]
+#[derive(Clone, Copy)]
 pub enum Width {
     Allowed,
     Refused { number: u32, detail: u32 },

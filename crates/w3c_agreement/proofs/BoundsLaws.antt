@@ -16,7 +16,7 @@ use Rattle.ir_records.specs.declared.TypeInner.{TypeInner}
 use Rattle.ir_records.proofs.ResultLaws.{required, and_then_ok, ok_inj, true_T, and_left}
 use Rattle.proc_alignment.specs.Alignment.{most}
 use Rattle.valid_flags.specs.Flags.{bit, data_bit, sized_bit, host_shareable_bit, creation_resolved_bit, not_host_shareable}
-use Rattle.valid_flags.proofs.BitLaws.{bit_and, bit_and_both}
+use Rattle.valid_flags.proofs.BitLaws.{bit-and, bit_and_both}
 use Rattle.valid_type_info.specs.declared.Row.{Row}
 use Rattle.valid_type_info.specs.TypeInfo.{row_sizes, row_flags}
 use Rattle.valid_type_info.specs.Verdict.{distance_ok}
@@ -30,8 +30,8 @@ kept : (end offset x y : ℕ) → T (bit (member_flags end offset (bit_and x y))
 kept end offset x y = go (leb end offset)
   where
     go : (b : Bool) → T (bit (pick b (bit_and x y) (not_host_shareable (bit_and x y))) host_shareable_bit) → T (bit x host_shareable_bit) × T (bit y host_shareable_bit)
-    go true t = bit_and x y host_shareable_bit t
-    go false t = bit_and x y host_shareable_bit (bit_and (bit_and x y) 239 host_shareable_bit t).0
+    go true t = bit-and x y host_shareable_bit t
+    go false t = bit-and x y host_shareable_bit (bit-and (bit_and x y) 239 host_shareable_bit t).0
 
 -- and the member starts at the running end or later
 kept_apart : (end offset flags : ℕ) → T (bit (member_flags end offset flags) host_shareable_bit) → end ≤ offset
@@ -39,7 +39,7 @@ kept_apart end offset flags = go (leb end offset) refl
   where
     go : (b : Bool) → leb end offset ≡ b → T (bit (pick b flags (not_host_shareable flags)) host_shareable_bit) → end ≤ offset
     go true e t = leb→le end offset (true_T e)
-    go false e t = absurd (bit_and flags 239 host_shareable_bit t).1
+    go false e t = absurd (bit-and flags 239 host_shareable_bit t).1
 
 -- and it stays set after a member that starts at the running end or later, where both have it
 stays : (end offset x y : ℕ) → end ≤ offset → T (bit x host_shareable_bit) → T (bit y host_shareable_bit)

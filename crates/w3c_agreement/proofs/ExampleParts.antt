@@ -4,8 +4,7 @@ use mathlib.Core.List.{List}
 use Prim.Native.Nat.{ℕ, zero, suc, ◌<◌}
 use native.Mathlib.Omega.{arith}
 use Rattle.ir_records.specs.Record.{inner_of, type_inner, struct_members}
-use Rattle.ir_records.specs.Fields.{tables_fit, fields_ok, record_at}
-use Rattle.ir_records.specs.BlendSource.{located_to}
+use Rattle.ir_records.specs.Fields.{tables_fit, fields_ok, record_at, located_to}
 use Rattle.ir_records.specs.Table.{result_at, value_at}
 use Rattle.ir_records.specs.declared.Outcome.{Outcome}
 use Rattle.proc_type_methods.specs.TypeMethods.{try_size}

@@ -8,8 +8,8 @@ use native.Mathlib.Nat.{mul-le-mul_left, dvd-sub, le_of_dvd}
 use native.Mathlib.Decide.{ℕ_discrete}
 use native.Mathlib.Omega.{arith}
 use Rattle.proc_alignment.proofs.PowerLaws.{le_cases}
-use Rattle.proc_alignment.specs.RoundUp.{round_up}
-use Rattle.w3c_agreement.specs.Wgsl.{last_member, member_total, type_of_member, align_of, align_of_member, size_of, size_of_member, offset_by, offset_of_member}
+use Rattle.proc_alignment.specs.Alignment.{round_up}
+use Rattle.w3c_agreement.specs.Wgsl.{last_member, align_of, align_of_member, size_of, size_of_member, offset_by, offset_of_member}
 use Rattle.w3c_agreement.specs.Placed as placed
 use Rattle.w3c_agreement.specs.Placed.{Placed, plain, array, runtime_array, struct, PlacedMembers, last, member, storage, Apart, AllApart, MembersApart, Constraints, AllConstraints}
 use Rattle.w3c_agreement.specs.Written.{StridesCover, AllStridesCover, SpansReach, AllSpansReach, bare, bare_members}

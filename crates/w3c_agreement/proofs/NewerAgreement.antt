@@ -22,7 +22,7 @@ use Rattle.valid_arena.specs.UniformRules.{RuntimeMember}
 use Rattle.valid_arena.proofs.AcceptedLaws.{AcceptedTypes, member_earlier}
 use Rattle.valid_arena.proofs.ArenaLaws.{accepted_types}
 use Rattle.valid_arena.proofs.NewerLaws.{newer_same, newer_runtime, member_none, array_none, runtime_array_none}
-use Rattle.w3c_agreement.specs.Placed.{storage, Placed, plain, array, runtime_array, struct, PlacedMembers, last, member, last_member, member_total, type_of_member, FixedSize, FixedMembers, required_align_of, Constraints, IsPlaced, IsMember}
+use Rattle.w3c_agreement.specs.Placed.{storage, Placed, plain, array, runtime_array, struct, PlacedMembers, last, member, last_member, member_total, type_of_member, FixedSize, required_align_of, IsPlaced, IsMember}
 use Rattle.w3c_agreement.specs.StandardLayout.{NoneRuntime, AllNoneRuntime, StandardLayout}
 use Rattle.w3c_agreement.proofs.PlacedLaws.{member_is}
 use Rattle.w3c_agreement.proofs.PlacedAgreement.{storage_placed}

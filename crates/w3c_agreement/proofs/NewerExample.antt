@@ -11,7 +11,7 @@ use Rattle.valid_type_info.specs.declared.Row.{Row}
 use Rattle.valid_type_info.specs.declared.UniformRule.TheVariants.{Newer}
 use Rattle.valid_type_info.specs.Verdict.{least_for, ok_verdict, unsized_member, is_ok}
 use Rattle.valid_arena.specs.Arena.{row}
-use Rattle.w3c_agreement.specs.Placed.{storage, struct, last, type_of_member, offset_of_member, FixedSize, required_align_of, Constraints}
+use Rattle.w3c_agreement.specs.Placed.{storage, struct, last, type_of_member, offset_of_member, FixedSize, required_align_of}
 use Rattle.w3c_agreement.specs.StandardLayout.{NoneRuntime, StandardLayout}
 use Rattle.w3c_agreement.proofs.ExampleParts.{check, fit, below_one, below_two}
 use Rattle.w3c_agreement.proofs.PlacedExample.{number, close_members, tail_members, sheet_types, sheet_rows, sheet, sheet_accepted, close_is, tail_is}

@@ -23,7 +23,7 @@ use Rattle.valid_flags.specs.Flags.{bit, host_shareable_bit}
 use Rattle.valid_type_info.specs.declared.Row.{Row}
 use Rattle.valid_type_info.specs.declared.UniformRule.{UniformRule}
 use Rattle.valid_type_info.specs.declared.UniformRule.TheVariants.{Older}
-use Rattle.valid_type_info.specs.Common.{without_uniform}
+use Rattle.valid_type_info.specs.TypeInfo.{without_uniform}
 use Rattle.valid_type_info.specs.Verdict.{min_uniform, least_for, is_ok, alignment_in}
 use Rattle.valid_arena.specs.Arena.{judged_at, row, judge_outcome, arena_outcome, arena}
 use Rattle.valid_arena.proofs.CommonLaws.{refused_common, row_common}

@@ -7,8 +7,7 @@ use Prim.Native.Nat.{ℕ, zero, suc, ◌≤◌, ◌<◌, ◌∣◌, max}
 use native.Mathlib.Decide.{ℕ_discrete}
 use native.Mathlib.Omega.{arith}
 use Rattle.ir_records.specs.Record.{Decoded}
-use Rattle.proc_alignment.specs.Alignment.{Power}
-use Rattle.proc_alignment.specs.RoundUp.{round_up}
+use Rattle.proc_alignment.specs.Alignment.{Power, round_up}
 use Rattle.proc_alignment.proofs.PowerLaws.{power_positive}
 use Rattle.w3c_agreement.specs.Plain.{Plain, align_of_plain}
 use Rattle.w3c_agreement.specs.Placed.{Space, storage, uniform, Placed, plain, array, runtime_array, struct, PlacedMembers, last, member, last_member, member_total, type_of_member, offset_of_member, align_of, align_of_member, HostShareable, AllHostShareable, MembersApart, Apart, AllApart, required_align_of, StrideFits, StructDistance, DistancesFit, FixedSize, Constraints, AllConstraints, IsPlaced, IsMember}

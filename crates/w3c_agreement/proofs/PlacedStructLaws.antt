@@ -21,7 +21,7 @@ use Rattle.proc_type_alignment.specs.TypeAlignment.{members_alignment}
 use Rattle.proc_layouter.specs.Layouter.{no_layout, layout_step, layout_at, layout}
 use Rattle.proc_layouter.proofs.LayoutAccepted.{plain_layout, array_layout, runtime_array_layout, struct_layout, member_layout}
 use Rattle.valid_flags.specs.Flags.{bit, data_bit, sized_bit, host_shareable_bit, creation_resolved_bit, starting_flags, scalar_flags, is_sized_data}
-use Rattle.valid_flags.proofs.BitLaws.{bit_and, bit_and_both}
+use Rattle.valid_flags.proofs.BitLaws.{bit-and, bit_and_both}
 use Rattle.valid_width.specs.Width.{check_width, atomic_width}
 use Rattle.valid_type_flags.specs.TypeFlags.{leaf_flags}
 use Rattle.valid_type_info.specs.declared.Verdict.{Verdict}
@@ -201,7 +201,7 @@ module _ (c : ℕ) (types : ℕ → Decoded) (n : ℕ) (laid : first_refusal (la
         let f = array-flags c types n accepted t h is.0 count stride is.1 earlier in
         let base = (row min_uniform c types is.0).flags in
         let m = marked is.0 (omega arith) is.2 in
-        rw f.1 (λ s. bit_and_both base 247 host_shareable_bit (m.0 s) tt, λ t. m.1 (bit_and base 247 host_shareable_bit t).0)
+        rw f.1 (λ s. bit_and_both base 247 host_shareable_bit (m.0 s) tt, λ t. m.1 (bit-and base 247 host_shareable_bit t).0)
 
     -- so is a runtime-sized array
     pub runtime_array_marked : (element : Placed) (stride : ℕ) → IsPlaced (runtime_array element stride) types t
@@ -212,7 +212,7 @@ module _ (c : ℕ) (types : ℕ → Decoded) (n : ℕ) (laid : first_refusal (la
         let f = runtime-array-flags c types n accepted t h is.0 stride is.1 earlier in
         let base = (row min_uniform c types is.0).flags in
         let m = marked is.0 (omega arith) is.2 in
-        rw f.1 (λ s. bit_and_both base 149 host_shareable_bit (m.0 s) tt, λ t. m.1 (bit_and base 149 host_shareable_bit t).0)
+        rw f.1 (λ s. bit_and_both base 149 host_shareable_bit (m.0 s) tt, λ t. m.1 (bit-and base 149 host_shareable_bit t).0)
 
     -- an array agrees where its element does
     pub array_agrees : (element : Placed) (count stride : ℕ) → HostShareable element → (is : IsPlaced (array element count stride) types t) → (space : Space)
@@ -257,7 +257,7 @@ module _ (c : ℕ) (types : ℕ → Decoded) (n : ℕ) (laid : first_refusal (la
     sized_same (runtime_array element stride) is final placed =
         let earlier = (runtime_array_layout types n laid t h is.0 stride is.1).1 in
         let f = runtime-array-flags c types n accepted t h is.0 stride is.1 earlier in
-        rw f.1 (λ s. (bit_and (row min_uniform c types is.0).flags 149 sized_bit s).1, λ u. absurd u)
+        rw f.1 (λ s. (bit-and (row min_uniform c types is.0).flags 149 sized_bit s).1, λ u. absurd u)
     sized_same (struct members span) is final placed = plain_sized (Struct (member_total members) span) is.0 refl final placed
 
   -- ---- structs

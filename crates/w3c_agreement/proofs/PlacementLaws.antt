@@ -7,8 +7,7 @@ use mathlib.Core.Option.{Option, none, some}
 use Prim.Native.Nat.{ℕ, zero, suc, ◌+◌, ◌≤◌, ◌<◌, ◌∣◌, max}
 use native.Mathlib.Nat.{dvd_refl, dvd-zero, dvd_trans, le_of_dvd}
 use native.Mathlib.Omega.{arith}
-use Rattle.proc_alignment.specs.Alignment.{Power}
-use Rattle.proc_alignment.specs.RoundUp.{round_up}
+use Rattle.proc_alignment.specs.Alignment.{Power, round_up}
 use Rattle.proc_alignment.proofs.PowerLaws.{power_positive, power_divides}
 use Rattle.w3c_agreement.specs.Wgsl.{WgslType, plain, array, runtime_array, struct, Members, last, member, last_member, member_total, type_of_member, max_over, given_or, align_of, align_of_member, size_of, size_of_member, stride_of, offset_by, offset_of_member, HostShareable, AllHostShareable, FixedSize, AlignFits, SizeFits, WellFormed, AllWellFormed, NoneGiven, Unaligned, AllUnaligned}
 use Rattle.w3c_agreement.specs.Placed as placed

@@ -5,8 +5,7 @@ use mathlib.Core.Logic.{◌↔◌, ◌⊎◌, inl, inr}
 use Prim.Native.Nat.{ℕ, zero, suc, ◌*◌, ◌≤◌, ◌∣◌, max}
 use native.Mathlib.Nat.{mul_comm, dvd_trans, mod-eq-zero_of_dvd}
 use native.Mathlib.Omega.{arith}
-use Rattle.proc_alignment.specs.Alignment.{Power, vector_alignment}
-use Rattle.proc_alignment.specs.RoundUp.{round_up}
+use Rattle.proc_alignment.specs.Alignment.{Power, vector_alignment, round_up}
 use Rattle.proc_alignment.proofs.PowerLaws.{le_cases, power_max, power_divides, power_positive}
 use Rattle.proc_type_methods.specs.TypeMethods.{leaf_size}
 use Rattle.proc_type_alignment.specs.TypeAlignment.{leaf_width, leaf_factor}

@@ -4,7 +4,7 @@ use mathlib.Core.Path.{◌≡◌, refl, sym, ◌∙◌, ap}
 use mathlib.Core.List.{List}
 use Prim.Native.Nat.{ℕ, ◌<◌}
 use lib.Dec.{T, ltb}
-use Rattle.ir_records.specs.Result.{ok, and_then}
+use Rattle.ir_records.specs.Result.{ok}
 use Rattle.ir_records.specs.Record.{Decoded}
 use Rattle.ir_records.specs.Table.{table, result_at, first_refusal}
 use Rattle.ir_records.specs.declared.Outcome.TheVariants.{Accepted}

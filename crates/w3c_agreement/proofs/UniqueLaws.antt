@@ -1,14 +1,13 @@
 -- A record is at most one placed type.
 -- Assumes nothing.
 use mathlib.Core.Path.{◌≡◌, refl, sym, ◌∙◌, ap}
-use Prim.Native.Nat.{ℕ, zero, suc, ◌<◌}
+use Prim.Native.Nat.{ℕ, suc, ◌<◌}
 use native.Mathlib.Omega.{arith}
 use lib.Dec.{eqb}
 use Rattle.ir_records.specs.Result.{pick}
 use Rattle.ir_records.specs.Record.{Decoded, member_type, member_offset}
 use Rattle.ir_records.specs.declared.Leaf.{Leaf}
 use Rattle.ir_records.specs.declared.Leaf.TheVariants.{Scalar as ScalarLeaf, Vector as VectorLeaf, Matrix as MatrixLeaf, CooperativeMatrix, Atomic as AtomicLeaf, RayQuery}
-use Rattle.ir_records.specs.declared.TypeInner.TheVariants.{Plain as PlainRecord, Array, RuntimeArray, Struct}
 use Rattle.w3c_agreement.specs.Plain.{Integer, i32, u32, Float, f32, f16, Scalar, bool, integer, float, Dimension, two, three, four, Plain, scalar, vector, matrix, atomic, number, kind_of, width_of, leaf_of}
 use Rattle.w3c_agreement.specs.Placed.{Placed, plain, array, runtime_array, struct, PlacedMembers, last, member, last_member, member_total, offset_of_member, IsPlaced, IsMember}
 

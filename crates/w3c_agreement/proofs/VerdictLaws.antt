@@ -9,8 +9,7 @@ use lib.Dec.{T, leb, leb→le}
 use borrow.Author.Tests.{eq-eqb, le-leb}
 use Rattle.ir_records.specs.Result.{pick}
 use Rattle.ir_records.proofs.ResultLaws.{true_T, T_true}
-use Rattle.proc_alignment.specs.Alignment.{is_aligned}
-use Rattle.proc_alignment.specs.RoundUp.{round_up}
+use Rattle.proc_alignment.specs.Alignment.{is_aligned, round_up}
 use Rattle.proc_alignment.proofs.PowerLaws.{aligned_divides}
 use Rattle.valid_type_info.specs.declared.Verdict.{Verdict}
 use Rattle.valid_type_info.specs.declared.Previous.{Previous}

@@ -4,7 +4,7 @@ use mathlib.Core.Path.{◌≡◌, refl, sym, ◌∙◌, ap}
 use Prim.Native.Nat.{ℕ, zero, suc, ◌+◌, ◌-◌, ◌≤◌, ◌<◌, ◌∣◌}
 use native.Mathlib.Nat.{le_antisymm}
 use native.Mathlib.Omega.{arith}
-use Rattle.proc_alignment.specs.RoundUp.{round_up}
+use Rattle.proc_alignment.specs.Alignment.{round_up}
 use Rattle.w3c_agreement.specs.Wgsl.{last_member, given_or, align_of, align_of_member, size_of, size_of_member, stride_of, offset_by, offset_of_member, FixedSize, SizeFits, WellFormed, AllWellFormed}
 use Rattle.w3c_agreement.specs.Placed as placed
 use Rattle.w3c_agreement.specs.Placed.{Placed, plain, array, runtime_array, struct, PlacedMembers, last, member, storage, Apart, AllApart, MembersApart, Constraints, AllConstraints}

@@ -3,7 +3,7 @@
 -- Assumes nothing.
 use Rattle.std.specs.Prelude.{ℕ, ◌+◌, ◌≤◌, ◌<◌}
 use Rattle.std.specs.Int.{◌∣◌}
-use Rattle.proc_alignment.specs.RoundUp.{round_up}
+use Rattle.proc_alignment.specs.Alignment.{round_up}
 use Rattle.w3c_agreement.specs.Wgsl.{WgslType, plain, array, runtime_array, struct, Members, last, member, member_total, type_of_member, align_of, size_of, stride_of, offset_of_member, FixedSize}
 use Rattle.w3c_agreement.specs.Placed.{Space, storage, uniform}
 

@@ -5,7 +5,7 @@ use Rattle.std.specs.Prelude.{◌≡◌, ℕ, zero, suc, ◌+◌, ◌*◌, ◌�
 use Rattle.std.specs.Int.{◌∣◌}
 use Rattle.ir_records.specs.Record.{Decoded, member_type, member_offset}
 use Rattle.ir_records.specs.declared.TypeInner.TheVariants.{Plain as PlainRecord, Array, RuntimeArray, Struct}
-use Rattle.proc_alignment.specs.RoundUp.{round_up}
+use Rattle.proc_alignment.specs.Alignment.{round_up}
 use Rattle.w3c_agreement.specs.Wgsl.{max_over}
 use Rattle.w3c_agreement.specs.Plain.{Plain, align_of_plain, size_of_plain, NumericPlain, leaf_of}
 

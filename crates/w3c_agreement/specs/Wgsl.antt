@@ -4,8 +4,7 @@
 use Rattle.std.proofs.Math.Option.{Option, none, some}
 use Rattle.std.specs.Prelude.{ℕ, zero, suc, ◌+◌, ◌*◌, ◌≤◌, max}
 use Rattle.std.specs.Int.{◌∣◌}
-use Rattle.proc_alignment.specs.Alignment.{Power}
-use Rattle.proc_alignment.specs.RoundUp.{round_up}
+use Rattle.proc_alignment.specs.Alignment.{Power, round_up}
 use Rattle.w3c_agreement.specs.Plain.{Plain, align_of_plain, size_of_plain, NumericPlain}
 
 -- ---- types

@@ -2,7 +2,7 @@
 -- Assumes nothing.
 use Rattle.std.specs.Prelude.{◌≡◌, ℕ, ◌+◌, ◌-◌, ◌≤◌}
 use Rattle.std.proofs.Math.Option.{Option, none, some}
-use Rattle.proc_alignment.specs.RoundUp.{round_up}
+use Rattle.proc_alignment.specs.Alignment.{round_up}
 use Rattle.w3c_agreement.specs.Wgsl as wgsl
 use Rattle.w3c_agreement.specs.Wgsl.{WgslType, Members}
 use Rattle.w3c_agreement.specs.Placed.{Placed, plain, array, runtime_array, struct, PlacedMembers, last, member, last_member, type_of_member, offset_of_member, align_of, size_of, FixedSize}

@@ -1,4 +1,6 @@
 // Tokens read one after the other: marks, names and numbers, from a position in the text on.
+#![tactic(auto)]
+
 ghost use Rattle.std.specs.Prelude.{◌≡◌};
 ghost use Rattle.wgsl_tokens.specs.Tokens.{from};
 ghost use Rattle.wgsl_grammar.specs.Grammar.{expect, skipping, name_of, number_of};
@@ -8,7 +10,7 @@ use wgsl_tokens::Lexed;
 
 // A refusal's number; beside it, for a message, a position before the token at which it stands, and what was wrong there.
 // No contract speaks of the last two.
-#[derive(Drop)]
+#[derive(Clone, Copy)]
 pub struct Refusal {
     pub number: u32,
     pub at: usize,
@@ -16,20 +18,20 @@ pub struct Refusal {
 }
 
 // Where the text goes on after a mark.
-#[derive(Drop)]
+#[derive(Clone, Copy)]
 pub enum Next {
     At(usize),
     Refused(Refusal),
 }
 
 // The bytes of a name; the text goes on at its end.
-#[derive(Drop)]
+#[derive(Clone, Copy)]
 pub enum NameAt {
     Name { start: usize, end: usize },
     Refused(Refusal),
 }
 
-#[derive(Drop)]
+#[derive(Clone, Copy)]
 pub enum NumberAt {
     Value { value: u32, at: usize },
     Refused(Refusal),

@@ -1,13 +1,12 @@
 -- Where a member grows, the members after it start later, by no more than what is a multiple of every alignment.
 -- Assumes nothing.
-use mathlib.Core.Path.{◌≡◌, refl, sym, ap, ◌∙◌}
+use mathlib.Core.Path.{◌≡◌, refl, ap, ◌∙◌}
 use mathlib.Core.List.{List, [], ◌∷◌}
-use Prim.Native.Nat.{ℕ, zero, suc, ◌+◌, ◌≤◌, ◌<◌, ◌∣◌, max}
+use Prim.Native.Nat.{ℕ, zero, suc, ◌+◌, ◌≤◌, ◌∣◌, max}
 use native.Mathlib.Nat.{le_refl, dvd_trans}
 use native.Mathlib.Omega.{arith}
 use lib.ListN.{length, get_or}
-use Rattle.proc_alignment.specs.Alignment.{Power}
-use Rattle.proc_alignment.specs.RoundUp.{round_up}
+use Rattle.proc_alignment.specs.Alignment.{Power, round_up}
 use Rattle.proc_alignment.proofs.PowerLaws.{power_positive, power_divides}
 use Rattle.wgsl_growth.specs.Written.{Each, Written, align_of, size_of}
 use Rattle.wgsl_growth.specs.Growth.{Alike, AllAlike, Grows}

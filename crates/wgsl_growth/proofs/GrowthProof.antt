@@ -1,16 +1,12 @@
 -- Growth: of members as the reader places them, and of the structs of texts.
 -- Assumes nothing.
-use mathlib.Core.Path.{◌≡◌, refl, sym, ◌∙◌}
-use mathlib.Core.Bool.{Bool, true, false}
+use mathlib.Core.Path.{refl}
 use mathlib.Core.List.{List, [], ◌∷◌}
 use mathlib.Core.Option.{Option}
-use Prim.Native.Nat.{ℕ, ◌+◌, ◌≤◌, ◌<◌, ◌∣◌}
+use Prim.Native.Nat.{ℕ, ◌≤◌}
 use native.Mathlib.Nat.{le_refl}
-use native.Mathlib.Omega.{arith}
-use lib.ListN.{get_or}
 use Rattle.ir_records.specs.Record.{type_words, member_words}
-use Rattle.proc_alignment.specs.Alignment.{Power, most}
-use Rattle.proc_alignment.specs.RoundUp.{round_up}
+use Rattle.proc_alignment.specs.Alignment.{Power, round_up, most}
 use Rattle.proc_alignment.proofs.PowerLaws.{power_positive, power_vector}
 use Rattle.proc_alignment.proofs.RoundLaws.{round_up_multiple, round_up_next}
 use Rattle.wgsl_tokens.specs.Tokens.{Token}
@@ -19,16 +15,14 @@ use Rattle.wgsl_names.specs.declared.Scalar.{Scalar}
 use Rattle.wgsl_names.specs.declared.Scalar.TheVariants.{Bool as BoolScalar, I32, U32, F32, F16}
 use Rattle.wgsl_names.specs.declared.Template.{Template}
 use Rattle.wgsl_names.specs.declared.Template.TheVariants.{Vector, Matrix, Atomic}
-use Rattle.wgsl_grammar.specs.Grammar.{read}
 use Rattle.wgsl_placement.specs.Placement.{shape, align_of_template}
 use Rattle.wgsl_placement.specs.declared.Shape.{Shape}
-use Rattle.wgsl_tables.specs.Tables.{Records, Named}
+use Rattle.wgsl_tables.specs.Tables.{Named}
 use Rattle.wgsl_structs.specs.Structs.{Declared, start_of, span_of}
-use Rattle.wgsl_read.specs.Text.{text_of}
 use Rattle.w3c_agreement.specs.Wgsl.{WgslType, struct, Members as WgslMembers}
 use Rattle.wgsl_growth.specs.Tree.{NamedTree, mapped}
 use Rattle.wgsl_growth.specs.Written.{Each, Written, align_of, with_record, Extends, fields_of, AllNamed}
-use Rattle.wgsl_growth.specs.Growth.{Grows, Growth, GrowthOfMembers, StructIn, StructsOfText, GrowthOfStructs}
+use Rattle.wgsl_growth.specs.Growth.{GrowthOfMembers, StructIn, StructsOfText, GrowthOfStructs}
 use Rattle.wgsl_growth.proofs.InductionLaws.{each_map, extends_same, extends_both, Whole, Claim, Fitting, Laws, text_held}
 use Rattle.wgsl_growth.proofs.PlacingLaws.{round_mono, round_shift, end_from, align_from, placed_end, placed_align, placed_offsets, align_power, written_power}
 use Rattle.wgsl_growth.proofs.RowLaws.{row_offset_is, all, words, span_is, struct_there, rows_there}

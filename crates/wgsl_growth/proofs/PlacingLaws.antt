@@ -1,19 +1,17 @@
 -- Members placed one after the other: the ends, the largest alignment and the offsets as sums over a list; rounding up in an order; and powers of two.
 -- Assumes nothing.
 use mathlib.Core.Path.{◌≡◌, refl, ap}
-use mathlib.Core.Bool.{Bool, true, false, ◌&&◌}
+use mathlib.Core.Bool.{true, ◌&&◌}
 use mathlib.Core.List.{List, [], ◌∷◌}
-use Prim.Native.Nat.{ℕ, zero, suc, ◌+◌, ◌-◌, ◌≤◌, ◌<◌, ◌∣◌, max}
-use native.Mathlib.Nat.{dvd-add, dvd-zero, dvd_trans}
+use Prim.Native.Nat.{ℕ, ◌+◌, ◌-◌, ◌≤◌, ◌∣◌, max}
+use native.Mathlib.Nat.{dvd-add, dvd-zero}
 use native.Mathlib.Omega.{arith}
-use lib.Dec.{T, eqb, ltb}
+use lib.Dec.{T, ltb}
 use lib.Bits.{bit_and}
 use borrow.Author.Tests.{ltb-true, eqb-true}
 use Rattle.ir_records.proofs.ResultLaws.{true_T, T_true, and_left, and_right}
-use Rattle.proc_alignment.specs.Alignment.{Power, is_aligned}
-use Rattle.proc_alignment.specs.Serving.{is_mask}
-use Rattle.proc_alignment.specs.RoundUp.{round_up}
-use Rattle.proc_alignment.proofs.PowerLaws.{power_positive, power_max, power_divides, aligned_divides}
+use Rattle.proc_alignment.specs.Alignment.{Power, round_up, is_mask, is_aligned}
+use Rattle.proc_alignment.proofs.PowerLaws.{power_max, aligned_divides}
 use Rattle.proc_alignment.proofs.RoundLaws.{round_up_multiple, round_up_next}
 use Rattle.proc_alignment.proofs.MaskLaws.{power_of_mask}
 use Rattle.w3c_agreement.proofs.LeastLaws.{next_least}

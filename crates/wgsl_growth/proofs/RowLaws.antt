@@ -2,7 +2,7 @@
 -- Assumes nothing.
 use mathlib.Core.Path.{◌≡◌, refl, sym, ap, ◌∙◌}
 use mathlib.Core.List.{List, [], ◌∷◌, ◌++◌, append_assoc, append-nil}
-use Prim.Native.Nat.{ℕ, zero, suc, ◌+◌, ◌-◌, ◌*◌, ◌/◌, ◌≤◌, ◌<◌, min}
+use Prim.Native.Nat.{ℕ, zero, suc, ◌+◌, ◌-◌, ◌*◌, ◌≤◌, ◌<◌, min}
 use native.Mathlib.Omega.{arith}
 use lib.ListN.{length, get_or, take, drop, length-append, get_or-append}
 use lib.Seq.{take_at, drop_at, get_or-append-add}
@@ -10,8 +10,7 @@ use Rattle.ir_records.specs.Record.{type_words, member_words, type_word, type_co
 use Rattle.ir_records.specs.declared.Words.{Words}
 use Rattle.ir_records.specs.declared.TypeInner.TheVariants.{Struct}
 use Rattle.ir_records.proofs.RecordLaws.{members-part}
-use Rattle.proc_alignment.specs.Alignment.{most}
-use Rattle.proc_alignment.specs.RoundUp.{round_up}
+use Rattle.proc_alignment.specs.Alignment.{round_up, most}
 use Rattle.proc_alignment.proofs.RoundLaws.{round_up_next}
 use Rattle.wgsl_tokens.specs.Tokens.{Token}
 use Rattle.wgsl_placement.specs.Placement.{words_of, struct_record}

@@ -4,8 +4,7 @@
 use Rattle.std.specs.Prelude.{◌≡◌, List, [], ◌∷◌, ℕ, zero, suc, ◌+◌, ◌≤◌, ◌<◌, length, get_or}
 use Rattle.ir_records.specs.Record.{member_offset, decoded}
 use Rattle.ir_records.specs.declared.TypeInner.TheVariants.{Struct}
-use Rattle.proc_alignment.specs.Alignment.{Power}
-use Rattle.proc_alignment.specs.RoundUp.{round_up}
+use Rattle.proc_alignment.specs.Alignment.{Power, round_up}
 use Rattle.wgsl_tokens.specs.Tokens.{Token}
 use Rattle.wgsl_grammar.specs.Grammar.{read}
 use Rattle.wgsl_placement.specs.declared.Shape.{Shape}

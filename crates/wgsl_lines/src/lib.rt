@@ -1,4 +1,6 @@
 // The answer to a WGSL text: a line for each record, or the refusal and a line that says where it stands and what is wrong.
+#![tactic(auto)]
+
 ghost use Rattle.std.specs.Prelude.{List, ℕ};
 ghost use Rattle.program_output.specs.Bytes.{Puts};
 ghost use Rattle.wgsl_lines.specs.Lines.{Answers};

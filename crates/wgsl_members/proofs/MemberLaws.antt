@@ -1,25 +1,21 @@
 -- Laws of the reading of members: attributes one by one, a member placed in the tables, and what is kept. Assumes nothing.
-use mathlib.Core.Path.{◌≡◌, refl, sym, ap, ◌∙◌}
+use mathlib.Core.Path.{◌≡◌, refl, sym, ap}
 use mathlib.Core.Bool.{Bool, true, false, ◌&&◌}
-use mathlib.Core.List.{List, [], ◌∷◌, ◌++◌}
-use Prim.Native.Nat.{ℕ, zero, suc, ◌+◌, ◌-◌, ◌*◌, ◌≤◌, ◌<◌, max, min}
+use mathlib.Core.List.{List, [], ◌∷◌}
+use Prim.Native.Nat.{ℕ, suc, ◌+◌, ◌-◌, ◌*◌, ◌≤◌, ◌<◌, max, min}
 use native.Mathlib.Omega.{arith}
-use lib.Dec.{ltb}
 use lib.ListN.{length, set, drop}
 use Rattle.ir_records.specs.Result.{pick}
 use Rattle.ir_records.specs.Record.{type_words, member_words}
 use Rattle.ir_rows.specs.Rows.{with_part}
-use Rattle.proc_alignment.specs.Alignment.{most}
-use Rattle.proc_alignment.specs.RoundUp.{round_up}
+use Rattle.proc_alignment.specs.Alignment.{round_up, most}
 use Rattle.program_words.specs.Words.{part}
 use Rattle.wgsl_tokens.specs.Tokens.{Token, from}
-use Rattle.wgsl_grammar.specs.Grammar.{Reading, refused, read, and_then, demand, expect}
+use Rattle.wgsl_grammar.specs.Grammar.{refused, read, and_then, demand, expect}
 use Rattle.wgsl_placement.specs.declared.Shape.{Shape}
-use Rattle.wgsl_tables.specs.Tables.{records_in, name_in, Named}
+use Rattle.wgsl_tables.specs.Tables.{records_in, name_in}
 use Rattle.wgsl_tables.proofs.TableLaws.{one_name, one_record, name_within}
-use Rattle.wgsl_types.specs.Types.{most_depth, Closing, closed, type_of}
-use Rattle.wgsl_types.specs.Serving.{Room}
-use Rattle.wgsl_members.specs.Members.{Attributed, attribute_of, after_at, attributes_of, attributes_fit, align_of_member, size_of_member, Rooms, Members, with_member, typed_member}
+use Rattle.wgsl_members.specs.Members.{attribute_of, after_at, attributes_of, align_of_member, size_of_member, Rooms, Members, with_member}
 use Rattle.wgsl_members.specs.Serving.{Tables, tables, members_in, Bounds, Kept, PlacedIn}
 use Rattle.wgsl_members.specs.declared.Attributes.{Attributes}
 use Rattle.wgsl_members.specs.declared.Body.{Body}

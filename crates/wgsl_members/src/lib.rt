@@ -1,13 +1,14 @@
 // A member of a struct in WGSL text: attributes, a name, a type; and where it is placed.
+#![tactic(auto)]
+
 ghost use Rattle.std.specs.Prelude.{◌≡◌, ◌&&◌, ltb, ◌*◌, ◌≤◌, min, length};
-ghost use Rattle.proc_alignment.specs.Serving.{is_mask};
+ghost use Rattle.proc_alignment.specs.Alignment.{is_mask};
 ghost use Rattle.ir_records.specs.Result.{pick};
 ghost use Rattle.program_words.specs.Words.{part};
 ghost use Rattle.wgsl_tokens.specs.Tokens.{from};
 ghost use Rattle.wgsl_grammar.specs.Serving.{number_read};
 ghost use Rattle.wgsl_tables.specs.Tables.{structs_in};
-ghost use Rattle.wgsl_members.specs.Members.{attributes, again, value_of, attribute_named, attribute_of, attributes_of, align_fits, size_fits, attributes_fit};
-ghost use Rattle.wgsl_members.specs.Members.{given_or, typed_member, named_member, member_of};
+ghost use Rattle.wgsl_members.specs.Members.{attributes, again, value_of, attribute_named, attribute_of, attributes_of, align_fits, size_fits, attributes_fit, given_or, typed_member, named_member, member_of};
 ghost use Rattle.wgsl_members.specs.Serving.{attributes_read, rooms, tables, members_in, Bounds, MemberRead, Placeable, PlacedIn};
 
 use wgsl_grammar::{NameAt, Next, NumberAt, Refusal};
@@ -16,20 +17,20 @@ use wgsl_tables::Found;
 use wgsl_types::Closed;
 
 // How often an attribute was given.
-#[derive(Drop)]
+#[derive(Clone, Copy)]
 pub enum Given {
     Absent,
     Once(u32),
     Twice,
 }
 
-#[derive(Drop)]
+#[derive(Clone, Copy)]
 pub struct Attributes {
     pub align: Given,
     pub size: Given,
 }
 
-#[derive(Drop)]
+#[derive(Clone, Copy)]
 pub enum AttributesAt {
     Given { attributes: Attributes, at: usize },
     Refused(Refusal),
@@ -37,7 +38,7 @@ pub enum AttributesAt {
 
 // The members of a struct read so far: how many names, the end of the last one, the struct's alignment, whether its footprint is fixed, how many
 // type and member records there are, and where the text goes on.
-#[derive(Drop)]
+#[derive(Clone, Copy)]
 pub struct Body {
     pub names: u32,
     pub end: u64,
@@ -48,7 +49,7 @@ pub struct Body {
     pub at: usize,
 }
 
-#[derive(Drop)]
+#[derive(Clone, Copy)]
 pub enum MemberAt {
     Placed(Body),
     Refused(Refusal),
@@ -149,8 +150,7 @@ fn attribute_at(s: &[u8], given: Attributes, at: usize) -> AttributesAt
 
 // Any number of attributes.
 fn attributes_at(s: &[u8], at: usize) -> AttributesAt
-    ensures { attributes_read s.now result
-        ≡ attributes_of (length s.now) (attributes Given.Absent Given.Absent) (from s.now at) }
+    ensures { attributes_read s.now result ≡ attributes_of (length s.now) (attributes Given.Absent Given.Absent) (from s.now at) }
 {
     let mut given = Attributes {
         align: Given::Absent,
@@ -250,8 +250,7 @@ fn place_member(
     at: usize,
 ) -> Body
     requires { Placeable names.old members.old body }
-    ensures { PlacedIn names.old names.new members.old members.new body attributes shape types start end at
-        result }
+    ensures { PlacedIn names.old names.new members.old members.new body attributes shape types start end at result }
 {
     let given_align = attributes.align;
     let given_size = attributes.size;
@@ -330,16 +329,8 @@ fn typed_member(
     end: usize,
     at: usize,
 ) -> MemberAt
-    requires { (n * 2 ≤ length structs.now)
-        × (n * 4 ≤ length shapes.now)
-        × (start ≤ end)
-        × (end ≤ length s.now)
-        × Bounds (rooms room rows) (tables names.old types.old members.old) body }
-    ensures { MemberRead s.now (rooms room rows) (tables names.old types.old members.old)
-        (tables names.new types.new members.new) body
-        (typed_member (rooms room rows) (structs_in s.now structs.now shapes.now n)
-        (members_in s.now (tables names.old types.old members.old) body) attributes
-        (part s.now start end) (from s.now at)) result }
+    requires { (n * 2 ≤ length structs.now) × (n * 4 ≤ length shapes.now) × (start ≤ end) × (end ≤ length s.now) × Bounds (rooms room rows) (tables names.old types.old members.old) body }
+    ensures { MemberRead s.now (rooms room rows) (tables names.old types.old members.old) (tables names.new types.new members.new) body (typed_member (rooms room rows) (structs_in s.now structs.now shapes.now n) (members_in s.now (tables names.old types.old members.old) body) attributes (part s.now start end) (from s.now at)) result }
 {
     let closed = wgsl_types::read_type(
         s, structs, shapes, n, types, room, body.types, at, MOST_DEPTH,
@@ -385,14 +376,8 @@ fn named_member(
     attributes: Attributes,
     at: usize,
 ) -> MemberAt
-    requires { (n * 2 ≤ length structs.now)
-        × (n * 4 ≤ length shapes.now)
-        × Bounds (rooms room rows) (tables names.old types.old members.old) body }
-    ensures { MemberRead s.now (rooms room rows) (tables names.old types.old members.old)
-        (tables names.new types.new members.new) body
-        (named_member (rooms room rows) (structs_in s.now structs.now shapes.now n)
-        (members_in s.now (tables names.old types.old members.old) body) attributes
-        (from s.now at)) result }
+    requires { (n * 2 ≤ length structs.now) × (n * 4 ≤ length shapes.now) × Bounds (rooms room rows) (tables names.old types.old members.old) body }
+    ensures { MemberRead s.now (rooms room rows) (tables names.old types.old members.old) (tables names.new types.new members.new) body (named_member (rooms room rows) (structs_in s.now structs.now shapes.now n) (members_in s.now (tables names.old types.old members.old) body) attributes (from s.now at)) result }
 {
     match wgsl_grammar::name_at(s, at) {
         NameAt::Refused(r) => MemberAt::Refused(r),
@@ -428,13 +413,8 @@ pub fn read_member(
     rows: u32,
     body: Body,
 ) -> MemberAt
-    requires { (n * 2 ≤ length structs.now)
-        × (n * 4 ≤ length shapes.now)
-        × Bounds (rooms room rows) (tables names.old types.old members.old) body }
-    ensures { MemberRead s.now (rooms room rows) (tables names.old types.old members.old)
-        (tables names.new types.new members.new) body
-        (member_of (length s.now) (rooms room rows) (structs_in s.now structs.now shapes.now n)
-        (members_in s.now (tables names.old types.old members.old) body)) result }
+    requires { (n * 2 ≤ length structs.now) × (n * 4 ≤ length shapes.now) × Bounds (rooms room rows) (tables names.old types.old members.old) body }
+    ensures { MemberRead s.now (rooms room rows) (tables names.old types.old members.old) (tables names.new types.new members.new) body (member_of (length s.now) (rooms room rows) (structs_in s.now structs.now shapes.now n) (members_in s.now (tables names.old types.old members.old) body)) result }
 {
     let at = body.at;
     match attributes_at(s, at) {

@@ -1,4 +1,6 @@
 // What is said of a WGSL text that is refused: the line and the column where the refusal stands, what stands there, and what is wrong with it.
+#![tactic(auto)]
+
 ghost use Rattle.std.specs.Prelude.{◌≡◌, length, List, ℕ, min};
 ghost use Rattle.program_output.specs.Bytes.{Puts};
 ghost use Rattle.wgsl_messages.specs.Position.{breaks_line, position_of};
@@ -10,7 +12,7 @@ use wgsl_grammar::Refusal;
 use wgsl_tokens::{Gap, Lexed};
 
 // Both count from 1, columns in bytes.
-#[derive(Drop)]
+#[derive(Clone, Copy)]
 pub struct Position {
     pub line: usize,
     pub column: usize,
@@ -166,9 +168,7 @@ fn put_broken(out: &mut Buffer, at: usize, text: &[u8], byte: usize) -> usize
 
 // A line about a refusal: its place, what stands there, and what is wrong.
 pub fn put_message(out: &mut Buffer, at: usize, text: &[u8], refusal: Refusal) -> usize
-    ensures { (message : List ℕ)
-        × Says text.now refusal.at refusal.why message
-        × Puts out.old at message out.new result }
+    ensures { (message : List ℕ) × Says text.now refusal.at refusal.why message × Puts out.old at message out.new result }
 {
     match wgsl_tokens::token_start(text, refusal.at) {
         Gap::Broken(byte) => put_broken(out, at, text, byte),

@@ -1,8 +1,10 @@
 // The names that WGSL has: its keywords, and the types that are declared before any text.
+#![tactic(auto)]
+
 ghost use Rattle.std.specs.Prelude.{◌≡◌, ◌≤◌};
 ghost use Rattle.wgsl_names.specs.Names.{same, first_keyword, middle_keyword, last_keyword, is_keyword, matrix_named, vector_named, predeclared, kind_of, width_of, bytes_of, number_of};
 
-#[derive(Drop)]
+#[derive(Clone, Copy)]
 pub enum Scalar {
     Bool,
     I32,
@@ -12,7 +14,7 @@ pub enum Scalar {
 }
 
 // Of a vector, and of a matrix's columns and rows.
-#[derive(Drop)]
+#[derive(Clone, Copy)]
 pub enum Dimension {
     Two,
     Three,
@@ -20,7 +22,7 @@ pub enum Dimension {
 }
 
 // The templates over a scalar.
-#[derive(Drop)]
+#[derive(Clone, Copy)]
 pub enum Template {
     Vector(Dimension),
     Matrix(Dimension, Dimension),
@@ -28,7 +30,7 @@ pub enum Template {
 }
 
 // What a predeclared name stands for.
-#[derive(Drop)]
+#[derive(Clone, Copy)]
 pub enum TypeName {
     OfScalar(Scalar),
     OfTemplate(Template),

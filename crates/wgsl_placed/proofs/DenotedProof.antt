@@ -2,19 +2,17 @@
 -- Assumes nothing.
 use mathlib.Core.Path.{◌≡◌, refl, sym, ap, subst, ◌∙◌}
 use mathlib.Core.Bool.{true}
-use mathlib.Core.List.{List, [], ◌∷◌, ◌++◌}
+use mathlib.Core.List.{List, ◌∷◌, ◌++◌}
 use mathlib.Core.Option.{Option, none, some}
 use Prim.Native.Nat.{ℕ, ◌≤◌}
 use lib.ListN.{length}
 use Rattle.ir_records.specs.Record.{type_words, member_words, decoded}
 use Rattle.ir_records.specs.declared.TypeInner.TheVariants.{Struct}
-use Rattle.proc_alignment.specs.Alignment.{most}
-use Rattle.proc_alignment.specs.RoundUp.{round_up}
+use Rattle.proc_alignment.specs.Alignment.{round_up, most}
 use Rattle.w3c_agreement.specs.Wgsl as wgsl
 use Rattle.w3c_agreement.proofs.Agreement.{tables_agreement}
 use Rattle.wgsl_tokens.specs.Tokens.{Token}
 use Rattle.wgsl_placement.specs.Placement.{shape, words_of, scalar_record, template_record, array_record}
-use Rattle.wgsl_placement.specs.declared.Shape.{Shape}
 use Rattle.wgsl_members.specs.Members.{Members, attributes_fit}
 use Rattle.wgsl_structs.specs.Structs.{Declared, start_of, span_of}
 use Rattle.wgsl_growth.specs.Tree.{mapped}

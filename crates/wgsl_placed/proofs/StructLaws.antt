@@ -1,6 +1,6 @@
 -- A struct whose members are measured is the standard's struct of them, as the standard places it.
 -- Assumes nothing.
-use mathlib.Core.Path.{◌≡◌, refl, sym, ap, ◌∙◌}
+use mathlib.Core.Path.{◌≡◌, sym, ap, ◌∙◌}
 use mathlib.Core.Bool.{Bool, true}
 use mathlib.Core.List.{List, [], ◌∷◌}
 use Prim.Native.Nat.{ℕ, suc, ◌+◌, ◌≤◌, ◌<◌, max}
@@ -8,8 +8,7 @@ use native.Mathlib.Omega.{arith}
 use lib.ListN.{length}
 use Rattle.ir_records.specs.Record.{member_offset, Decoded}
 use Rattle.ir_records.specs.declared.TypeInner.TheVariants.{Struct}
-use Rattle.proc_alignment.specs.Alignment.{most}
-use Rattle.proc_alignment.specs.RoundUp.{round_up}
+use Rattle.proc_alignment.specs.Alignment.{round_up, most}
 use Rattle.proc_alignment.proofs.PowerLaws.{power_positive}
 use Rattle.w3c_agreement.specs.Wgsl as wgsl
 use Rattle.w3c_agreement.specs.Wgsl.{max_over, offset_by}

@@ -1,18 +1,17 @@
 -- The members of a struct as a tree of the standard: its alignments, sizes and offsets are those that the reader works out.
 -- Assumes nothing.
 use mathlib.Core.Path.{◌≡◌, refl, sym, ap, ◌∙◌}
-use mathlib.Core.Bool.{Bool, true}
+use mathlib.Core.Bool.{true}
 use mathlib.Core.List.{List, [], ◌∷◌}
 use mathlib.Core.Option.{Option, none, some}
-use Prim.Native.Nat.{ℕ, zero, suc, ◌+◌, ◌*◌, ◌≤◌, ◌<◌, ◌∣◌, max, min}
+use Prim.Native.Nat.{ℕ, zero, suc, ◌+◌, ◌≤◌, ◌<◌, max, min}
 use native.Mathlib.Omega.{arith}
 use lib.Dec.{T, leb}
 use lib.ListN.{length, get_or}
 use borrow.Author.Tests.{leb-true}
 use Rattle.ir_records.specs.Record.{member_type, Decoded}
 use Rattle.ir_records.proofs.ResultLaws.{T_true, and_left, and_right}
-use Rattle.proc_alignment.specs.Alignment.{most}
-use Rattle.proc_alignment.specs.RoundUp.{round_up}
+use Rattle.proc_alignment.specs.Alignment.{round_up, most}
 use Rattle.w3c_agreement.specs.Wgsl as wgsl
 use Rattle.w3c_agreement.specs.Wgsl.{WgslType, max_over, offset_by}
 use Rattle.w3c_agreement.specs.Placed.{IsPlaced, IsMember}

@@ -3,8 +3,7 @@
 -- Assumes nothing.
 use Rattle.std.specs.Prelude.{Bool, true, false, ◌&&◌, List, [], ◌∷◌, ℕ, ◌*◌, leb}
 use Rattle.ir_records.specs.declared.Words.{Words}
-use Rattle.proc_alignment.specs.Alignment.{vector_alignment, most}
-use Rattle.proc_alignment.specs.RoundUp.{round_up}
+use Rattle.proc_alignment.specs.Alignment.{vector_alignment, round_up, most}
 use Rattle.wgsl_names.specs.Names.{kind_of, width_of, bytes_of, number_of}
 use Rattle.wgsl_names.specs.declared.Scalar.{Scalar}
 use Rattle.wgsl_names.specs.declared.Dimension.{Dimension}

@@ -1,6 +1,8 @@
 // The standard's placement of types: sizes, alignments and strides. Sums are wider than 32 bits, so that none wraps.
+#![tactic(auto)]
+
 ghost use Rattle.std.specs.Prelude.{◌≡◌, true, ◌≤◌, ◌+◌, ◌*◌};
-ghost use Rattle.proc_alignment.specs.RoundUp.{round_up};
+ghost use Rattle.proc_alignment.specs.Alignment.{round_up};
 ghost use Rattle.wgsl_names.specs.Names.{bytes_of, number_of};
 ghost use Rattle.wgsl_placement.specs.Placement.{shape, align_of_vector, size_of_vector, align_of_template, size_of_template, elements, is_counted, record_of, scalar_record, template_record, array_words};
 ghost use Rattle.wgsl_placement.specs.Serving.{Measured};
@@ -9,7 +11,7 @@ use ir_records::Words;
 use wgsl_names::{Dimension, Scalar, Template};
 
 // A type that has closed: its record's number, SizeOf, AlignOf, and whether its footprint is creation-fixed.
-#[derive(Drop)]
+#[derive(Clone, Copy)]
 pub struct Shape {
     pub number: u32,
     pub size: u32,
@@ -18,14 +20,14 @@ pub struct Shape {
 }
 
 // Of an array.
-#[derive(Drop)]
+#[derive(Clone, Copy)]
 pub enum Count {
     Of(u32),
     Runtime,
 }
 
 // SizeOf and StrideOf of an array, or that they leave 32 bits.
-#[derive(Drop)]
+#[derive(Clone, Copy)]
 pub enum Measure {
     Bytes { size: u32, stride: u32 },
     TooLarge,

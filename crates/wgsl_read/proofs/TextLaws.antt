@@ -1,9 +1,9 @@
 -- Laws of a text's reading: what the declarations leave is what the text's definition says. Assumes nothing.
-use mathlib.Core.Path.{◌≡◌, refl, sym, ap, ◌∙◌}
-use mathlib.Core.List.{List, [], ◌∷◌, ◌++◌, append-nil}
+use mathlib.Core.Path.{◌≡◌, sym}
+use mathlib.Core.List.{List, append-nil}
 use Prim.Native.Nat.{ℕ, ◌+◌, ◌*◌, ◌≤◌}
 use native.Mathlib.Omega.{arith}
-use lib.ListN.{length, take, drop, replicate, take-append-drop, drop_of_length-le}
+use lib.ListN.{length, drop, replicate, take-append-drop, drop_of_length-le}
 use lib.Seq.{length-take-le}
 use Rattle.ir_records.specs.Record.{type_words, member_words}
 use Rattle.ir_rows.specs.Rows.{cleared}

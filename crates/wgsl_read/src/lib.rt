@@ -1,4 +1,6 @@
 // The records of a WGSL text, in the caller's tables.
+#![tactic(auto)]
+
 ghost use Rattle.std.specs.Prelude.{◌≡◌, ◌+◌, ◌/◌, min, length};
 ghost use Rattle.ir_records.specs.Record.{type_words, member_words};
 ghost use Rattle.ir_records.specs.Fields.{most_types, most_members};
@@ -8,14 +10,14 @@ use wgsl_grammar::Refusal;
 use wgsl_structs::StructAt;
 
 // How many type and member records the text has, or the number of its refusal.
-#[derive(Drop)]
+#[derive(Clone, Copy)]
 pub enum TextAnswer {
     Records { types: u32, members: u32 },
     Refused(u32),
 }
 
 // The same, with what a message says of the refusal.
-#[derive(Drop)]
+#[derive(Clone, Copy)]
 pub enum TextAt {
     Records { types: u32, members: u32 },
     Refused(Refusal),
@@ -55,10 +57,8 @@ fn fill(text: &[u8], types: &mut [u32], members: &mut [u32]) -> StructAt
 // Reads a text, with the position and the reason of a refusal.
 pub fn read_at(text: &[u8], types: &mut [u32], members: &mut [u32]) -> TextAt
     ensures result_value { numbered_by result ≡ answer_of (text_of (length types.old) (length members.old) text.now) }
-    ensures types_after { types.new
-        ≡ types_left (text_of (length types.old) (length members.old) text.now) types.old }
-    ensures members_after { members.new
-        ≡ members_left (text_of (length types.old) (length members.old) text.now) members.old }
+    ensures types_after { types.new ≡ types_left (text_of (length types.old) (length members.old) text.now) types.old }
+    ensures members_after { members.new ≡ members_left (text_of (length types.old) (length members.old) text.now) members.old }
 {
     let found = fill(text, types, members);
     match found {
@@ -77,10 +77,8 @@ pub fn read_at(text: &[u8], types: &mut [u32], members: &mut [u32]) -> TextAt
 // Reads struct and empty declarations into records. A refusal has 1, 31, 32 or 33, and zeroes every word of both tables.
 pub fn read(text: &[u8], types: &mut [u32], members: &mut [u32]) -> TextAnswer
     ensures value { result ≡ answer_of (text_of (length types.old) (length members.old) text.now) }
-    ensures types_after { types.new
-        ≡ types_left (text_of (length types.old) (length members.old) text.now) types.old }
-    ensures members_after { members.new
-        ≡ members_left (text_of (length types.old) (length members.old) text.now) members.old }
+    ensures types_after { types.new ≡ types_left (text_of (length types.old) (length members.old) text.now) types.old }
+    ensures members_after { members.new ≡ members_left (text_of (length types.old) (length members.old) text.now) members.old }
 {
     let found = read_at(text, types, members);
     match found {

@@ -1,4 +1,6 @@
 // What is said of texts that are refused. `stdout` is written by hand: the number by 02, the place by counting.
+#![tactic(auto)]
+
 use wgsl_grammar::Refusal;
 use wgsl_read::TextAt;
 

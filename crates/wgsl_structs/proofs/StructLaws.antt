@@ -1,21 +1,21 @@
 -- Laws of the reading of structs: members and declarations one by one, what is kept over several, and a struct in the tables. Assumes nothing.
 use mathlib.Core.Path.{◌≡◌, refl, sym, ap, ◌∙◌}
-use mathlib.Core.Bool.{Bool, true, false}
-use mathlib.Core.List.{List, [], ◌∷◌, ◌++◌}
-use Prim.Native.Nat.{ℕ, zero, suc, ◌+◌, ◌-◌, ◌*◌, ◌≤◌, ◌<◌}
+use mathlib.Core.Bool.{true}
+use mathlib.Core.List.{List, [], ◌∷◌}
+use Prim.Native.Nat.{ℕ, suc, ◌+◌, ◌-◌, ◌*◌, ◌≤◌, ◌<◌}
 use native.Mathlib.Omega.{arith}
-use lib.ListN.{length, set, drop}
+use lib.ListN.{length, set}
 use Rattle.ir_records.specs.Record.{type_words, member_words}
 use Rattle.ir_rows.specs.Rows.{with_part}
 use Rattle.ir_rows.proofs.RowLaws.{drop_later}
-use Rattle.proc_alignment.specs.RoundUp.{round_up}
+use Rattle.proc_alignment.specs.Alignment.{round_up}
 use Rattle.wgsl_tokens.specs.Tokens.{Token, word, from}
 use Rattle.wgsl_names.specs.Names.{same, struct_word}
 use Rattle.wgsl_grammar.specs.Grammar.{Reading, refused, read, and_then}
 use Rattle.wgsl_placement.specs.Placement.{shape, words_of, struct_record}
 use Rattle.wgsl_placement.specs.declared.Shape.{Shape}
 use Rattle.program_words.specs.Words.{part}
-use Rattle.wgsl_tables.specs.Tables.{records_in, name_in, names_in, structs_in, flag, Named}
+use Rattle.wgsl_tables.specs.Tables.{name_in, names_in, structs_in, flag, Named}
 use Rattle.wgsl_tables.proofs.TableLaws.{one_struct, one_record, name_within}
 use Rattle.wgsl_members.specs.Members.{Members, Rooms, member_of}
 use Rattle.wgsl_members.specs.Serving.{rooms, Tables, tables, members_in, Bounds, Kept}

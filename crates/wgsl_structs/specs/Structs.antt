@@ -2,8 +2,7 @@
 -- Assumes nothing.
 use Rattle.std.specs.Prelude.{Bool, true, false, List, [], ◌∷◌, ◌++◌, ℕ, zero, suc, ◌+◌, ◌-◌, eqb, leb, ltb}
 use Rattle.ir_records.specs.Result.{pick}
-use Rattle.proc_alignment.specs.Alignment.{most}
-use Rattle.proc_alignment.specs.RoundUp.{round_up}
+use Rattle.proc_alignment.specs.Alignment.{round_up, most}
 use Rattle.wgsl_tokens.specs.Tokens.{Token, word, number, large, mark, bad}
 use Rattle.wgsl_names.specs.Names.{same, struct_word}
 use Rattle.wgsl_grammar.specs.Grammar.{Reading, refused, read, and_then, demand, expect, name_of}

@@ -1,4 +1,6 @@
 // The members of a struct, the struct, and the declarations of a WGSL text.
+#![tactic(auto)]
+
 ghost use Rattle.std.specs.Prelude.{◌≡◌, true, ◌*◌, ◌+◌, ◌≤◌, length};
 ghost use Rattle.program_words.specs.Words.{part};
 ghost use Rattle.wgsl_tokens.specs.Tokens.{from};
@@ -6,8 +8,7 @@ ghost use Rattle.wgsl_grammar.specs.Grammar.{expect};
 ghost use Rattle.wgsl_tables.specs.Tables.{structs_in};
 ghost use Rattle.wgsl_members.specs.Serving.{rooms, tables, members_in, Bounds};
 ghost use Rattle.wgsl_structs.specs.Structs.{goes, closes_or, member_end, members_of, is_unknown, struct_body, struct_of, declaration_of, declarations_of};
-ghost use Rattle.wgsl_structs.specs.Serving.{end_read, MembersRead, declarations, declared_in, StateBounds, StructRead, Closable, ClosedIn, first};
-ghost use Rattle.wgsl_structs.specs.Serving.{declared_at, DeclarationRead};
+ghost use Rattle.wgsl_structs.specs.Serving.{end_read, MembersRead, declarations, declared_in, StateBounds, StructRead, Closable, ClosedIn, first, declared_at, DeclarationRead};
 
 use wgsl_grammar::{NameAt, Next, Refusal};
 use wgsl_members::{Body, MemberAt};
@@ -16,7 +17,7 @@ use wgsl_tokens::Lexed;
 use wgsl_types::Known;
 
 // What follows a member: the struct closes, or there is another member.
-#[derive(Drop)]
+#[derive(Clone, Copy)]
 pub enum EndAt {
     Closes { at: usize, close: usize },
     Goes(usize),
@@ -24,14 +25,14 @@ pub enum EndAt {
 }
 
 // The members of a struct that has closed; `close` is a position before its `}`.
-#[derive(Drop)]
+#[derive(Clone, Copy)]
 pub enum MembersAt {
     Closed { body: Body, close: usize },
     Refused(Refusal),
 }
 
 // How many structs, type records and member records there are, and where the text goes on.
-#[derive(Drop)]
+#[derive(Clone, Copy)]
 pub struct State {
     pub structs: u32,
     pub types: u32,
@@ -39,7 +40,7 @@ pub struct State {
     pub at: usize,
 }
 
-#[derive(Drop)]
+#[derive(Clone, Copy)]
 pub enum StructAt {
     Declared(State),
     Refused(Refusal),
@@ -70,8 +71,7 @@ fn end_at(s: &[u8], at: usize) -> EndAt
 }
 
 fn at_position(body: Body, at: usize) -> Body
-    ensures { result
-        ≡ record { names = body.names; end = body.end; align = body.align; fixed = body.fixed; types = body.types; members = body.members; at = at } }
+    ensures { result ≡ record { names = body.names; end = body.end; align = body.align; fixed = body.fixed; types = body.types; members = body.members; at = at } }
 {
     Body {
         names: body.names,
@@ -97,14 +97,8 @@ fn read_members(
     rows: u32,
     first: Body,
 ) -> MembersAt
-    requires { (n * 2 ≤ length structs.now)
-        × (n * 4 ≤ length shapes.now)
-        × Bounds (rooms room rows) (tables names.old types.old members.old) first }
-    ensures { MembersRead s.now (rooms room rows) (tables names.old types.old members.old)
-        (tables names.new types.new members.new) first
-        (members_of (length s.now) (length s.now) (rooms room rows)
-        (structs_in s.now structs.now shapes.now n)
-        (members_in s.now (tables names.old types.old members.old) first)) result }
+    requires { (n * 2 ≤ length structs.now) × (n * 4 ≤ length shapes.now) × Bounds (rooms room rows) (tables names.old types.old members.old) first }
+    ensures { MembersRead s.now (rooms room rows) (tables names.old types.old members.old) (tables names.new types.new members.new) first (members_of (length s.now) (length s.now) (rooms room rows) (structs_in s.now structs.now shapes.now n) (members_in s.now (tables names.old types.old members.old) first)) result }
 {
     let mut body = first;
     let mut left = s.len();
@@ -155,8 +149,7 @@ fn close_struct(
     close: usize,
 ) -> StructAt
     requires { Closable structs.old shapes.old types.old room state body }
-    ensures { ClosedIn structs.old structs.new shapes.old shapes.new types.old types.new
-        room state body start end result }
+    ensures { ClosedIn structs.old structs.new shapes.old shapes.new types.old types.new room state body start end result }
 {
     let span = wgsl_placement::round_up(body.align, body.end);
     if MOST < span {
@@ -220,16 +213,8 @@ fn struct_body(
     end: usize,
     at: usize,
 ) -> StructAt
-    requires { (start ≤ end)
-        × (end ≤ length s.now)
-        × StateBounds (rooms room rows) (declarations structs.old shapes.old names.old types.old members.old) state }
-    ensures { StructRead s.now (rooms room rows)
-        (declarations structs.old shapes.old names.old types.old members.old)
-        (declarations structs.new shapes.new names.new types.new members.new) state
-        (struct_body (length s.now) (rooms room rows)
-        (declared_in s.now
-        (declarations structs.old shapes.old names.old types.old members.old) state)
-        (part s.now start end) (from s.now at)) result }
+    requires { (start ≤ end) × (end ≤ length s.now) × StateBounds (rooms room rows) (declarations structs.old shapes.old names.old types.old members.old) state }
+    ensures { StructRead s.now (rooms room rows) (declarations structs.old shapes.old names.old types.old members.old) (declarations structs.new shapes.new names.new types.new members.new) state (struct_body (length s.now) (rooms room rows) (declared_in s.now (declarations structs.old shapes.old names.old types.old members.old) state) (part s.now start end) (from s.now at)) result }
 {
     let first = Body {
         names: 0,
@@ -274,13 +259,7 @@ fn read_struct(
     at: usize,
 ) -> StructAt
     requires { StateBounds (rooms room rows) (declarations structs.old shapes.old names.old types.old members.old) state }
-    ensures { StructRead s.now (rooms room rows)
-        (declarations structs.old shapes.old names.old types.old members.old)
-        (declarations structs.new shapes.new names.new types.new members.new) state
-        (struct_of (length s.now) (rooms room rows)
-        (declared_in s.now
-        (declarations structs.old shapes.old names.old types.old members.old) state)
-        (from s.now at)) result }
+    ensures { StructRead s.now (rooms room rows) (declarations structs.old shapes.old names.old types.old members.old) (declarations structs.new shapes.new names.new types.new members.new) state (struct_of (length s.now) (rooms room rows) (declared_in s.now (declarations structs.old shapes.old names.old types.old members.old) state) (from s.now at)) result }
 {
     match wgsl_grammar::name_at(s, at) {
         NameAt::Refused(r) => StructAt::Refused(r),
@@ -303,7 +282,7 @@ fn read_struct(
 }
 
 // A declaration: an empty one, a struct, or the end of the text.
-#[derive(Drop)]
+#[derive(Clone, Copy)]
 pub enum DeclarationAt {
     Finished,
     After(State),
@@ -342,13 +321,7 @@ fn declaration_at(
     state: State,
 ) -> DeclarationAt
     requires { StateBounds (rooms room rows) (declarations structs.old shapes.old names.old types.old members.old) state }
-    ensures { DeclarationRead s.now (rooms room rows)
-        (declarations structs.old shapes.old names.old types.old members.old)
-        (declarations structs.new shapes.new names.new types.new members.new) state
-        (declaration_of (length s.now) (rooms room rows)
-        (declared_in s.now
-        (declarations structs.old shapes.old names.old types.old members.old) state)
-        (from s.now state.at)) result }
+    ensures { DeclarationRead s.now (rooms room rows) (declarations structs.old shapes.old names.old types.old members.old) (declarations structs.new shapes.new names.new types.new members.new) state (declaration_of (length s.now) (rooms room rows) (declared_in s.now (declarations structs.old shapes.old names.old types.old members.old) state) (from s.now state.at)) result }
 {
     let at = state.at;
     let other = DeclarationAt::Refused(Refusal {
@@ -390,12 +363,7 @@ pub fn read_declarations(
     rows: u32,
 ) -> StructAt
     requires { StateBounds (rooms room rows) (declarations structs.old shapes.old names.old types.old members.old) first }
-    ensures { StructRead s.now (rooms room rows)
-        (declarations structs.old shapes.old names.old types.old members.old)
-        (declarations structs.new shapes.new names.new types.new members.new) first
-        (declarations_of (length s.now) (length s.now + 1) (rooms room rows)
-        (declared_in s.now
-        (declarations structs.old shapes.old names.old types.old members.old) first)) result }
+    ensures { StructRead s.now (rooms room rows) (declarations structs.old shapes.old names.old types.old members.old) (declarations structs.new shapes.new names.new types.new members.new) first (declarations_of (length s.now) (length s.now + 1) (rooms room rows) (declared_in s.now (declarations structs.old shapes.old names.old types.old members.old) first)) result }
 {
     let mut state = State {
         structs: 0,

@@ -2,13 +2,13 @@
 use mathlib.Core.Path.{◌≡◌, refl, sym, ap, ◌∙◌}
 use mathlib.Core.Bool.{Bool, true, false, ◌&&◌, ◌||◌}
 use mathlib.Core.List.{List, [], ◌∷◌, ◌++◌}
-use mathlib.Core.Option.{Option, none, some}
+use mathlib.Core.Option.{some}
 use Prim.Native.Nat.{ℕ, zero, suc, ◌+◌, ◌-◌, ◌*◌, ◌≤◌, ◌<◌}
 use native.Mathlib.Omega.{arith}
 use native.Mathlib.Numerals.{add-one}
 use native.Mathlib.Nat.{suc-mul, add-zero}
 use lib.Dec.{eqb, leb}
-use lib.ListN.{length, get_or, take, drop, set, length-set}
+use lib.ListN.{length, get_or, take, set, length-set}
 use lib.Seq.{take_at, get_or-set_same, get_or-set_other, get_or-take, get_or-append-add, length-take-le}
 use borrow.Author.Tests.{le-leb, leb-true}
 use Rattle.ir_records.proofs.ResultLaws.{true_T, T_true, and_left, and_right}
@@ -17,11 +17,9 @@ use Rattle.program_words.specs.Words.{part}
 use Rattle.ir_rows.specs.Rows.{with_part}
 use Rattle.ir_rows.proofs.RowLaws.{take_part}
 use Rattle.wgsl_names.specs.Names.{same}
-use Rattle.wgsl_placement.specs.Placement.{shape}
 use Rattle.wgsl_placement.specs.declared.Shape.{Shape}
-use Rattle.wgsl_tables.specs.declared.Found.{Found}
-use Rattle.wgsl_tables.specs.declared.Found.TheVariants.{At, Nothing}
-use Rattle.wgsl_tables.specs.Tables.{Records, records_in, is_one_of, name_in, name_at, names_in, Named, shape_at, structs_in, entry_of, is_found, flag, lookup, shape_found}
+use Rattle.wgsl_tables.specs.declared.Found.TheVariants.{At}
+use Rattle.wgsl_tables.specs.Tables.{records_in, is_one_of, name_in, name_at, names_in, shape_at, structs_in, entry_of, is_found, flag, lookup, shape_found}
 
 -- ---- the entry of a name
 module _ (s w names : List ℕ) (i : ℕ) (positive : 0 < i) where

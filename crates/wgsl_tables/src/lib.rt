@@ -1,4 +1,6 @@
 // The tables that the reader of WGSL text fills.
+#![tactic(auto)]
+
 ghost use Rattle.std.specs.Prelude.{◌≡◌, [], ◌∷◌, ◌≤◌, ◌+◌, ◌*◌, length, set};
 ghost use Rattle.ir_rows.specs.Rows.{with_part};
 ghost use Rattle.ir_records.specs.Record.{type_words, member_words};
@@ -8,7 +10,7 @@ ghost use Rattle.wgsl_tables.specs.Tables.{name_in, name_at, shape_at, entry_of,
 use ir_records::{MEMBER_WORDS, TYPE_WORDS, Words};
 use wgsl_placement::Shape;
 
-#[derive(Drop)]
+#[derive(Clone, Copy)]
 pub enum Found {
     At(usize),
     Nothing,

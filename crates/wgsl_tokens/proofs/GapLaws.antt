@@ -1,19 +1,19 @@
 -- Blankspace and comments, byte by byte. Assumes nothing.
-use mathlib.Core.Path.{◌≡◌, refl, sym, ap, ◌∙◌}
-use mathlib.Core.Bool.{Bool, true, false, ◌||◌, ◌&&◌}
-use mathlib.Core.List.{List, [], ◌∷◌}
-use Prim.Native.Nat.{ℕ, zero, suc, ◌+◌, ◌-◌, ◌≤◌, ◌<◌}
+use mathlib.Core.Path.{◌≡◌, ap, ◌∙◌}
+use mathlib.Core.Bool.{Bool, true, false, ◌||◌}
+use mathlib.Core.List.{List}
+use Prim.Native.Nat.{ℕ, suc, ◌+◌, ◌-◌, ◌≤◌, ◌<◌}
 use native.Mathlib.Numerals.{add-one}
 use native.Mathlib.Omega.{arith}
 use lib.Dec.{eqb}
 use lib.ListN.{length, get_or, drop, drop_of_length-le, get_or-eq_default}
-use borrow.Author.Tests.{eqb-true, eq-eqb, ne_eqb}
-use Rattle.wgsl_tokens.specs.Tokens.{Token, bad, Mode, code, line, block, stopped, is_blank, ends_line, is_ascii, opens_line, opens_block, closes_block, code_step, block_step, step_of, tokens, from}
+use borrow.Author.Tests.{eqb-true, ne_eqb}
+use Rattle.wgsl_tokens.specs.Tokens.{Mode, code, line, block, stopped, is_blank, ends_line, is_ascii, opens_line, opens_block, closes_block, code_step, block_step, step_of, tokens, from}
 use Rattle.wgsl_tokens.specs.Lexed.{IsBad, starts_gap}
 use Rattle.wgsl_tokens.specs.Serving.{GapAt}
 use Rattle.wgsl_tokens.specs.declared.Gap.{Gap}
 use Rattle.wgsl_tokens.specs.declared.Gap.TheVariants.{At, Broken}
-use Rattle.wgsl_tokens.proofs.TokenLaws.{inside, both, neither, head_next, drop_two, code_skip, block_skip, tokens_at}
+use Rattle.wgsl_tokens.proofs.TokenLaws.{inside, both, head_next, drop_two, code_skip, block_skip, tokens_at}
 
 module _ (s : List ℕ) (i : ℕ) where
   -- ---- a line comment

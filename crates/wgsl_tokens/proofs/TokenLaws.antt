@@ -2,17 +2,15 @@
 use mathlib.Core.Path.{◌≡◌, refl, sym, ap, ◌∙◌}
 use mathlib.Core.Bool.{Bool, true, false, ◌||◌, ◌&&◌}
 use mathlib.Core.List.{List, [], ◌∷◌}
-use Prim.Native.Nat.{ℕ, zero, suc, ◌+◌, ◌-◌, ◌≤◌, ◌<◌}
+use Prim.Native.Nat.{ℕ, zero, suc, ◌+◌, ◌≤◌, ◌<◌}
 use native.Mathlib.Numerals.{add-one}
 use native.Mathlib.Nat.{add-zero}
 use native.Mathlib.Omega.{arith}
 use native.Mathlib.Decide.{dec_le}
-use lib.Dec.{eqb}
-use lib.ListN.{length, get_or, take, drop, drop_of_length-le, get_or-eq_default}
-use lib.Seq.{drop-cons, drop-drop, drop-nil, get_or-drop}
-use borrow.Author.Tests.{eqb-true}
+use lib.ListN.{length, get_or, drop, drop_of_length-le, get_or-eq_default}
+use lib.Seq.{drop-cons, drop-drop, get_or-drop}
 use Rattle.ir_records.proofs.ResultLaws.{true_T, T_true, and_left, and_right}
-use Rattle.wgsl_tokens.specs.Tokens.{Token, bad, Mode, code, line, block, stopped, head, code_step, step_of, followed, tokens, from}
+use Rattle.wgsl_tokens.specs.Tokens.{Mode, code, block, head, step_of, followed, tokens, from}
 
 -- a position with a byte other than 0 is inside
 pub inside : (s : List ℕ) (i b : ℕ) → get_or s i 0 ≡ suc b → i < length s

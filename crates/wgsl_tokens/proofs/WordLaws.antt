@@ -1,8 +1,8 @@
 -- Words, numbers and marks: the token that starts at a position. Assumes nothing.
-use mathlib.Core.Path.{◌≡◌, refl, sym, ap, ◌∙◌}
+use mathlib.Core.Path.{◌≡◌, ap, ◌∙◌}
 use mathlib.Core.Bool.{Bool, true, false, ◌||◌, ◌&&◌}
-use mathlib.Core.List.{List, [], ◌∷◌}
-use Prim.Native.Nat.{ℕ, zero, suc, ◌+◌, ◌-◌, ◌≤◌, ◌<◌}
+use mathlib.Core.List.{List, ◌∷◌}
+use Prim.Native.Nat.{ℕ, suc, ◌+◌, ◌-◌, ◌≤◌, ◌<◌}
 use native.Mathlib.Numerals.{add-one}
 use native.Mathlib.Nat.{add-zero}
 use native.Mathlib.Omega.{arith}
@@ -10,11 +10,11 @@ use native.Mathlib.Decide.{ℕ_discrete}
 use lib.Dec.{eqb, ltb}
 use lib.ListN.{length, get_or, take, drop, length-drop}
 use lib.Seq.{drop-cons, drop-drop, get_or-drop, get_or-take, length-take-le}
-use borrow.Author.Tests.{eq-eqb, ne_eqb}
+use borrow.Author.Tests.{eq-eqb}
 use Rattle.program_words.specs.Words.{run_of, part}
 use Rattle.program_words.specs.Number.{is_digit, number_of}
 use Rattle.program_words.specs.declared.Number as words-number
-use Rattle.wgsl_tokens.specs.Tokens.{number_token, Token, word, mark, bad, Mode, code, stopped, is_blank, starts_word, in_word, is_mark, opens_line, opens_block, head, word_of, digits_of, code_step, step_of, tokens, from}
+use Rattle.wgsl_tokens.specs.Tokens.{number_token, Token, word, mark, bad, code, stopped, is_blank, starts_word, in_word, is_mark, opens_line, opens_block, word_of, digits_of, code_step, step_of, tokens, from}
 use Rattle.wgsl_tokens.specs.Lexed.{IsBad, starts_gap, TokenAt}
 use Rattle.wgsl_tokens.specs.declared.Lexed.{Lexed}
 use Rattle.wgsl_tokens.specs.declared.Lexed.TheVariants.{Word, Number, Large, Mark, Bad, End}

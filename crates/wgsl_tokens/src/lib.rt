@@ -1,4 +1,6 @@
 // WGSL text as tokens: the next one from a position on, after blankspace and comments.
+#![tactic(auto)]
+
 ghost use Rattle.std.specs.Prelude.{◌≡◌, true, false, ◌+◌, ◌≤◌, ◌<◌, length, get_or, drop};
 ghost use Rattle.program_words.specs.Words.{run_of};
 ghost use Rattle.program_words.specs.Number.{is_digit};
@@ -9,7 +11,7 @@ ghost use Rattle.wgsl_tokens.specs.Serving.{is_in, GapAt, BlockAt};
 use program_words::Number;
 
 // The next token, and where the text goes on after it.
-#[derive(Drop)]
+#[derive(Clone, Copy)]
 pub enum Lexed {
     Word { start: usize, end: usize },
     Number { value: u32, end: usize },
@@ -21,14 +23,14 @@ pub enum Lexed {
 }
 
 // Where the text goes on after a comment, or the byte at which it is no text of WGSL.
-#[derive(Drop)]
+#[derive(Clone, Copy)]
 pub enum Gap {
     At(usize),
     Broken(usize),
 }
 
 // A byte later in block comments: in how many of them, or after the last one.
-#[derive(Drop)]
+#[derive(Clone, Copy)]
 pub enum Block {
     Inside { at: usize, depth: usize },
     Closed(usize),
@@ -36,7 +38,7 @@ pub enum Block {
 }
 
 // What a run consists of.
-#[derive(Drop)]
+#[derive(Clone, Copy)]
 pub enum Run {
     Name,
     Digits,
@@ -291,10 +293,7 @@ fn word_at(s: &[u8], start: usize) -> Lexed
 
 // A number that starts at a position: no leading zero, no suffix, no point.
 fn number_at(s: &[u8], start: usize) -> Lexed
-    requires { (start < length s.now)
-        × (starts_gap s.now start ≡ false)
-        × (starts_word (get_or s.now start 0) ≡ false)
-        × (is_digit (get_or s.now start 0) ≡ true) }
+    requires { (start < length s.now) × (starts_gap s.now start ≡ false) × (starts_word (get_or s.now start 0) ≡ false) × (is_digit (get_or s.now start 0) ≡ true) }
     ensures { TokenAt s.now start result }
 {
     let end = run_end(s, start + 1, Run::Digits);

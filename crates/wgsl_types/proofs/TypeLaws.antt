@@ -1,12 +1,9 @@
 -- Laws of the reading of types: a record more, and what is read on after a type inside. Assumes nothing.
-use mathlib.Core.Path.{◌≡◌, refl, sym, ap, ◌∙◌}
-use mathlib.Core.Bool.{Bool, true, false}
-use mathlib.Core.List.{List, [], ◌∷◌, ◌++◌}
-use Prim.Native.Nat.{ℕ, zero, suc, ◌+◌, ◌-◌, ◌*◌, ◌≤◌, ◌<◌}
+use mathlib.Core.Path.{◌≡◌, refl, ap, ◌∙◌}
+use mathlib.Core.List.{List}
+use Prim.Native.Nat.{ℕ, suc, ◌+◌, ◌-◌, ◌*◌, ◌≤◌, ◌<◌}
 use native.Mathlib.Omega.{arith}
-use native.Mathlib.Numerals.{add-one}
-use native.Mathlib.Nat.{suc-mul, mul-le-mul_right}
-use lib.ListN.{length, take, drop}
+use lib.ListN.{length, drop}
 use borrow.Author.Tests.{lt-ltb, le-ltb}
 use Rattle.ir_records.specs.Record.{type_words}
 use Rattle.ir_records.specs.declared.Words.{Words}
@@ -20,7 +17,7 @@ use Rattle.wgsl_placement.specs.Placement.{words_of}
 use Rattle.wgsl_placement.specs.declared.Shape.{Shape}
 use Rattle.wgsl_tables.specs.Tables.{Records, records_in, Named}
 use Rattle.wgsl_tables.proofs.TableLaws.{one_record}
-use Rattle.wgsl_types.specs.Types.{Closing, stopped, closing, make_type, scalar_of, template_of, template_type, type_after, type_of}
+use Rattle.wgsl_types.specs.Types.{Closing, closing, make_type, scalar_of, template_of, template_type, type_after, type_of}
 use Rattle.wgsl_types.specs.Serving.{TypeRead}
 use Rattle.wgsl_types.specs.declared.Closed.{Closed}
 use Rattle.wgsl_types.specs.declared.Closed.TheVariants.{Whole, Full, Refused}

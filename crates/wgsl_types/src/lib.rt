@@ -1,12 +1,13 @@
 // A type in WGSL text: the type reader and the template-argument reader call each other, and the levels left fall.
+#![tactic(auto)]
+
 ghost use Rattle.std.specs.Prelude.{◌≡◌, List, ℕ, ◌*◌, ◌≤◌, length};
 ghost use Rattle.std.proofs.Math.Option.{some};
 ghost use Rattle.ir_records.specs.Record.{type_words};
 ghost use Rattle.program_words.specs.Words.{part};
 ghost use Rattle.wgsl_tokens.specs.Tokens.{Token, from};
 ghost use Rattle.wgsl_tables.specs.Tables.{Records, records_in, structs_in};
-ghost use Rattle.wgsl_types.specs.Types.{known_type, Closing, make_type, scalar_type, close_template, template_of, template_type, number_count, comma_count};
-ghost use Rattle.wgsl_types.specs.Types.{count_of, close_array, array_of, arguments_of, type_named, type_after, type_of};
+ghost use Rattle.wgsl_types.specs.Types.{known_type, Closing, make_type, scalar_type, close_template, template_of, template_type, number_count, comma_count, count_of, close_array, array_of, arguments_of, type_named, type_after, type_of};
 ghost use Rattle.wgsl_types.specs.Serving.{count_read, opened_type, TypeRead, Room};
 
 use ir_records::Words;
@@ -16,7 +17,7 @@ use wgsl_placement::{Count, Measure, Shape};
 use wgsl_tables::Found;
 
 // What a name stands for.
-#[derive(Drop)]
+#[derive(Clone, Copy)]
 pub enum Known {
     OfScalar(Scalar),
     OfTemplate(Template),
@@ -26,7 +27,7 @@ pub enum Known {
 }
 
 // Of an array, and where the text goes on after its `>`. `close`, here and below, is a position before the token at which a type closes.
-#[derive(Drop)]
+#[derive(Clone, Copy)]
 pub enum CountAt {
     Counted {
         count: Count,
@@ -37,7 +38,7 @@ pub enum CountAt {
 }
 
 // A type after its name, and after the `<` of a template.
-#[derive(Drop)]
+#[derive(Clone, Copy)]
 pub enum Opened {
     Scalar {
         scalar: Scalar,
@@ -58,7 +59,7 @@ pub enum Opened {
 }
 
 // A type that has closed: what it is, how many type records there are then, and where the text goes on; or that there is no room for its record.
-#[derive(Drop)]
+#[derive(Clone, Copy)]
 pub enum Closed {
     Whole {
         shape: Shape,
@@ -101,9 +102,7 @@ pub fn known_type(
 // The name of a type, and the `<` of a template.
 fn open_type(s: &[u8], names: &[usize], shapes: &[u32], n: u32, at: usize) -> Opened
     requires { (n * 2 ≤ length names.now) × (n * 4 ≤ length shapes.now) }
-    ensures { (inner : Records → List Token → Closing) (room left : ℕ) (types : Records)
-        → type_after inner room left (structs_in s.now names.now shapes.now n) types (from s.now at)
-        ≡ opened_type inner room left types s.now result }
+    ensures { (inner : Records → List Token → Closing) (room left : ℕ) (types : Records) → type_after inner room left (structs_in s.now names.now shapes.now n) types (from s.now at) ≡ opened_type inner room left types s.now result }
 {
     match wgsl_grammar::name_at(s, at) {
         NameAt::Refused(r) => Opened::Refused(r),
@@ -132,8 +131,7 @@ fn open_type(s: &[u8], names: &[usize], shapes: &[u32], n: u32, at: usize) -> Op
 }
 
 fn open_template(s: &[u8], at: usize, template: Template) -> Opened
-    ensures { (inner : Records → List Token → Closing) (room left : ℕ) (types : Records)
-        → type_named inner room left types (Known.OfTemplate template) (from s.now at) ≡ opened_type inner room left types s.now result }
+    ensures { (inner : Records → List Token → Closing) (room left : ℕ) (types : Records) → type_named inner room left types (Known.OfTemplate template) (from s.now at) ≡ opened_type inner room left types s.now result }
 {
     match wgsl_grammar::expect(s, at, b'<') {
         Next::Refused(r) => Opened::Refused(r),
@@ -142,8 +140,7 @@ fn open_template(s: &[u8], at: usize, template: Template) -> Opened
 }
 
 fn open_array(s: &[u8], at: usize) -> Opened
-    ensures { (inner : Records → List Token → Closing) (room left : ℕ) (types : Records)
-        → type_named inner room left types Known.Array (from s.now at) ≡ opened_type inner room left types s.now result }
+    ensures { (inner : Records → List Token → Closing) (room left : ℕ) (types : Records) → type_named inner room left types Known.Array (from s.now at) ≡ opened_type inner room left types s.now result }
 {
     match wgsl_grammar::expect(s, at, b'<') {
         Next::Refused(r) => Opened::Refused(r),
@@ -162,9 +159,7 @@ fn make_type(
     close: usize,
 ) -> Closed
     requires { Room room made types.old }
-    ensures { (s : List ℕ)
-        → TypeRead s room made types.old types.new (make_type room (records_in type_words types.old made) shape w (from s at))
-        result }
+    ensures { (s : List ℕ) → TypeRead s room made types.old types.new (make_type room (records_in type_words types.old made) shape w (from s at)) result }
 {
     if made < room {
         wgsl_tables::put_type(types, made, w);
@@ -187,9 +182,7 @@ fn make_scalar(
     close: usize,
 ) -> Closed
     requires { Room room made types.old }
-    ensures { (s : List ℕ)
-        → TypeRead s room made types.old types.new (scalar_type room (records_in type_words types.old made) scalar (from s at))
-        result }
+    ensures { (s : List ℕ) → TypeRead s room made types.old types.new (scalar_type room (records_in type_words types.old made) scalar (from s at)) result }
 {
     let shape = wgsl_placement::scalar_shape(made, scalar);
     let w = wgsl_placement::scalar_record(scalar);
@@ -207,8 +200,7 @@ fn close_template(
     at: usize,
 ) -> Closed
     requires { Room room made types.old }
-    ensures { TypeRead s.now room made types.old types.new
-        (close_template room template scalar (records_in type_words types.old made) (from s.now at)) result }
+    ensures { TypeRead s.now room made types.old types.new (close_template room template scalar (records_in type_words types.old made) (from s.now at)) result }
 {
     let close = wgsl_grammar::skipping(s, at, b',');
     match wgsl_grammar::expect(s, close, b'>') {
@@ -233,8 +225,7 @@ fn template_of(
     close: usize,
 ) -> Closed
     requires { Room room made types.old }
-    ensures { TypeRead s.now room made types.old types.new
-        (template_of room (records_in type_words types.old made) template (some scalar) (from s.now at)) result }
+    ensures { TypeRead s.now room made types.old types.new (template_of room (records_in type_words types.old made) template (some scalar) (from s.now at)) result }
 {
     let inner = make_scalar(types, room, made, scalar, at, close);
     match inner {
@@ -267,8 +258,7 @@ fn template_type(
     at: usize,
 ) -> Closed
     requires { Room room made types.old }
-    ensures { TypeRead s.now room made types.old types.new
-        (template_type room left (records_in type_words types.old made) template (from s.now at)) result }
+    ensures { TypeRead s.now room made types.old types.new (template_type room left (records_in type_words types.old made) template (from s.now at)) result }
 {
     if left == 0 {
         return Closed::Refused(Refusal {
@@ -364,9 +354,7 @@ fn close_array(
     close: usize,
 ) -> Closed
     requires { Room room made types.old }
-    ensures { (s : List ℕ)
-        → TypeRead s room made types.old types.new
-        (close_array room element (records_in type_words types.old made) (record { count = count; rest = from s at })) result }
+    ensures { (s : List ℕ) → TypeRead s room made types.old types.new (close_array room element (records_in type_words types.old made) (record { count = count; rest = from s at })) result }
 {
     match wgsl_placement::array_measure(count, element) {
         Measure::TooLarge => Closed::Refused(Refusal {
@@ -391,8 +379,7 @@ fn close_array(
 // The end of an array, after its element.
 fn array_of(s: &[u8], types: &mut [u32], room: u32, made: u32, element: Shape, at: usize) -> Closed
     requires { Room room made types.old }
-    ensures { TypeRead s.now room made types.old types.new
-        (array_of room element (records_in type_words types.old made) (from s.now at)) result }
+    ensures { TypeRead s.now room made types.old types.new (array_of room element (records_in type_words types.old made) (from s.now at)) result }
 {
     match count_at(s, at) {
         CountAt::Refused(r) => Closed::Refused(r),
@@ -418,9 +405,7 @@ pub fn read_type(
     left: u32,
 ) -> Closed
     requires { (n * 2 ≤ length names.now) × (n * 4 ≤ length shapes.now) × Room room made types.old }
-    ensures { TypeRead s.now room made types.old types.new
-        (type_of room left (structs_in s.now names.now shapes.now n) (records_in type_words types.old made)
-        (from s.now at)) result }
+    ensures { TypeRead s.now room made types.old types.new (type_of room left (structs_in s.now names.now shapes.now n) (records_in type_words types.old made) (from s.now at)) result }
 {
     if left == 0 {
         return Closed::Refused(Refusal {
@@ -468,10 +453,7 @@ fn read_arguments(
     left: u32,
 ) -> Closed
     requires { (n * 2 ≤ length names.now) × (n * 4 ≤ length shapes.now) × Room room made types.old }
-    ensures { TypeRead s.now room made types.old types.new
-        (arguments_of room
-        (type_of room left (structs_in s.now names.now shapes.now n) (records_in type_words types.old made)
-        (from s.now at))) result }
+    ensures { TypeRead s.now room made types.old types.new (arguments_of room (type_of room left (structs_in s.now names.now shapes.now n) (records_in type_words types.old made) (from s.now at))) result }
 {
     let inner = read_type(s, names, shapes, n, types, room, made, at, left);
     match inner {

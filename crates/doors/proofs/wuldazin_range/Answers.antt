@@ -1,0 +1,4 @@
+use Rattle.doors.proofs.wuldazin_range.Goals as goal
+
+pub returns : goal.returns
+returns c = let r = c.range-found.ensures in record { mask_after = rw r at c.put_masks.ensures; answer_after = rw (c.slots_outcome.ensures, r) at c.put_answer.ensures }

@@ -1,0 +1,16 @@
+use mathlib.Core.Path.{refl}
+use borrow.Author.Tests.{le-leb, lt-leb}
+use Rattle.doors_words.specs.Words.{with_numbers}
+use Rattle.doors_words.proofs.put_numbers.Goals as goal
+
+pub returns-then-numbers-lt3 : goal.returns-then-numbers-lt3
+unfolding with_numbers
+returns-then-numbers-lt3 c = rw (lt-leb 3 _ c.if-numbers-lt3.true) refl
+
+pub returns-in-Found : goal.returns-in-Found
+unfolding with_numbers
+returns-in-Found c = rw (le-leb 3 _ c.if-numbers-lt3.false, c.in-Found.is) c.put_three.ensures
+
+pub returns-in-Refused : goal.returns-in-Refused
+unfolding with_numbers
+returns-in-Refused c = rw (le-leb 3 _ c.if-numbers-lt3.false, c.in-Refused.is) c.put_three-in-Refused.ensures

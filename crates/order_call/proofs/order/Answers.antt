@@ -1,0 +1,60 @@
+use mathlib.Core.Path.{sym, ap, ◌∙◌}
+use Prim.Native.Nat.{◌*◌, ◌≤◌}
+use native.Mathlib.Omega.{arith}
+use lib.ListN.{length, take}
+use Rattle.valid_arena.specs.Arena.{arena_words}
+use Rattle.order_call.specs.Call.{Left, after_check}
+use Rattle.order_call.proofs.CallLaws.{has_room, positive, ordered_short, ordered_after}
+use Rattle.order_call.proofs.order.Goals as goal
+
+pub returns-then-not-has_room : goal.returns-then-not-has_room
+returns-then-not-has_room c =
+    let s = c in
+    let a = s.args in
+    let e = ordered_short a.rule a.capabilities a.types.now a.n a.members.now a.m a.rows.now a.wanted.now a.span (sym c.has_room.ensures ∙ c.if-not-has_room.true) in
+    record { value = c.refused.ensures ∙ ap (λ (l : Left). l.answer) (sym e); types_after = ap (λ (l : Left). l.types) (sym e); members_after = ap (λ (l : Left). l.members) (sym e); rows_after = ap (λ (l : Left). l.rows) (sym e) }
+
+pub check_first-checked-requires : goal.check_first-checked-requires
+check_first-checked-requires c =
+    let s = c in
+    let a = s.args in
+    let roomy = sym c.has_room.ensures ∙ c.if-not-has_room.false in
+    let r = has_room (length a.types.now) (length a.members.now) (length a.rows.now) a.n a.m (length a.wanted.now) roomy in
+    record { t_in_bounds = omega (arith, r.record'); u_in_bounds = omega (arith, r.words) }
+
+pub choose-requires : goal.choose-requires
+choose-requires c =
+    let s = c in
+    let a = s.args in
+    let roomy = sym c.has_room.ensures ∙ c.if-not-has_room.false in
+    let r = has_room (length a.types.now) (length a.members.now) (length a.rows.now) a.n a.m (length a.wanted.now) roomy in
+    let k = c.check_first-checked in
+    let accepted = sym k.ensures.value ∙ c.in-Accepted.is in
+    let n6 : a.n * 6 ≤ length a.types.now = omega (arith, r.record') in
+    let aligned = positive a.rule a.capabilities a.types.now a.n (take (a.m * 4) a.members.now) a.rows.now n6 accepted in
+    record { wanted_len_bound = r.few; n_in_bounds = r.record'; wanted_bound = r.count; wanted_in_bounds = r.words; by_index = rw k.ensures.rows_after aligned }
+
+pub returns-in-Accepted : goal.returns-in-Accepted
+returns-in-Accepted c =
+    let s = c in
+    let a = s.args in
+    let roomy = sym c.has_room.ensures ∙ c.if-not-has_room.false in
+    let r = has_room (length a.types.now) (length a.members.now) (length a.rows.now) a.n a.m (length a.wanted.now) roomy in
+    let k = c.check_first-checked in
+    let accepted = sym k.ensures.value ∙ c.in-Accepted.is in
+    let words = arena_words a.rule a.capabilities (take (a.n * 6) a.types.now) (take (a.m * 4) a.members.now) a.rows.now in
+    let e = ordered_after a.rule a.capabilities a.types.now a.n a.members.now a.m a.rows.now a.wanted.now a.span roomy ∙ ap (after_check a.rule a.capabilities a.types.now a.n a.members.now a.m words a.wanted.now a.span) accepted in
+    let w = rw k.ensures.rows_after at c.choose.ensures in
+    record { value = w.value ∙ ap (λ (l : Left). l.answer) (sym e); types_after = w.types_after ∙ ap (λ (l : Left). l.types) (sym e); members_after = w.members_after ∙ ap (λ (l : Left). l.members) (sym e); rows_after = w.rows_after ∙ ap (λ (l : Left). l.rows) (sym e) }
+
+pub returns-in-Refused : goal.returns-in-Refused
+returns-in-Refused c =
+    let s = c in
+    let a = s.args in
+    let roomy = sym c.has_room.ensures ∙ c.if-not-has_room.false in
+    let r = has_room (length a.types.now) (length a.members.now) (length a.rows.now) a.n a.m (length a.wanted.now) roomy in
+    let k = c.check_first-checked in
+    let refusal = sym k.ensures.value ∙ c.in-Refused.is in
+    let words = arena_words a.rule a.capabilities (take (a.n * 6) a.types.now) (take (a.m * 4) a.members.now) a.rows.now in
+    let e = ordered_after a.rule a.capabilities a.types.now a.n a.members.now a.m a.rows.now a.wanted.now a.span roomy ∙ ap (after_check a.rule a.capabilities a.types.now a.n a.members.now a.m words a.wanted.now a.span) refusal in
+    record { value = ap (λ (l : Left). l.answer) (sym e); types_after = ap (λ (l : Left). l.types) (sym e); members_after = ap (λ (l : Left). l.members) (sym e); rows_after = k.ensures.rows_after ∙ ap (λ (l : Left). l.rows) (sym e) }

@@ -1,9 +1,0 @@
-use borrow.Author.Rules.{rules}
-use Rattle.order_words.proofs.order_outcome.Statement.{statement}
-use Rattle.order_words.proofs.order_outcome.Tie as tie
-
-returns-2 : tie.Need-returns-2
-returns-2 c = rw c.before.found.given.1
-
-pub order_outcome_spec : {M : Type 1} → statement M
-order_outcome_spec = tie.close (tie.spec (λ c. search rules) (λ c. search rules) (λ c. search rules) returns-2)

@@ -1,0 +1,59 @@
+-- `place_short::layout_all` meets its contract. The invariant: the first i types pass numbers 4 to 7, their layouts stand in their words, and what stands
+-- behind the words of n types is as it was. Assumes nothing.
+use borrow.Author.Rules.{rules}
+use mathlib.Core.Path.{◌≡◌, refl, sym, ◌∙◌}
+use Prim.Native.Nat.{◌≤◌, ◌+◌, ◌*◌}
+use native.Mathlib.Nat.{le_antisymm}
+use native.Mathlib.Numerals.{add-one}
+use native.Mathlib.Omega.{arith}
+use lib.ListN.{length, take}
+use Rattle.ir_records.specs.Record.{decoded}
+use Rattle.ir_records.specs.Fields.{record_at}
+use Rattle.ir_records.proofs.TableLaws.{stays, all_ok}
+use Rattle.proc_layouter.specs.Layouter.{layout_at}
+use Rattle.place_short.specs.Serving.{laid_from}
+use Rattle.place_short.proofs.ShortLaws.{laid_at, laid_wide, laid_outcome, laid_three, three_written, rest_kept}
+use Rattle.place_short.proofs.layout_all.Goals as goal
+
+pub loop-i-init : goal.loop-i-init
+loop-i-init c = (search rules, refl, refl, refl, refl)
+
+pub layout_at-found-requires : goal.layout_at-found-requires
+layout_at-found-requires c =
+    let a = c.args in
+    let l = c.loop-i in
+    record { i_in_bounds = omega (arith, c.requires.n_in_bounds, c.loop-i-test.true, l.invariant.4); i_value = (all_ok (record_at a.types.now a.members.now) a.n c.requires.n_value l.i c.loop-i-test.true).1 }
+
+pub returns-in-Refused : goal.returns-in-Refused
+returns-in-Refused c =
+    let a = c.args in
+    let ts = a.types.now in
+    let ms = a.members.now in
+    let l = c.loop-i in
+    let at = c.layout_at-found in
+    let below = c.loop-i-test.true in
+    let refused = sym (laid_outcome ts ms (take (l.i * 3) l.words) l.i l.invariant.2) ∙ sym at.ensures.value ∙ c.in-Refused.is in record { value = c.in-Refused.is ∙ sym (stays (layout_at (decoded ts ms)) l.i l.invariant.1 refused a.n below); words_unchanged = rest_kept (laid_at ts ms) (laid_wide ts ms) l.i l.words _ (laid_from ts ms (take (l.i * 3) l.words) l.i) l.invariant.2 at.ensures.words_after (laid_three ts ms (take (l.i * 3) l.words) l.i l.invariant.2) (omega (arith, c.requires.n_in_bounds, below, l.invariant.4)) a.n below ∙ l.invariant.3 }
+
+pub loop-i-preserved : goal.loop-i-preserved
+loop-i-preserved c =
+    let a = c.args in
+    let ts = a.types.now in
+    let ms = a.members.now in
+    let l = c.loop-i in
+    let at = c.layout_at-found in
+    let below = c.loop-i-test.true in
+    let room : l.i * 3 + 3 ≤ length l.words = omega (arith, c.requires.n_in_bounds, below, l.invariant.4) in
+    let told = sym at.ensures.value ∙ c.in-Accepted.is in
+    let passed = sym (laid_outcome ts ms (take (l.i * 3) l.words) l.i l.invariant.2) ∙ told in (
+      omega (arith, below),
+      rw (add-one, l.invariant.1, passed) refl,
+      three_written (laid_at ts ms) (laid_wide ts ms) l.i l.words _ (laid_from ts ms (take (l.i * 3) l.words) l.i) l.invariant.2 at.ensures.words_after (laid_three ts ms (take (l.i * 3) l.words) l.i l.invariant.2) room told,
+      rest_kept (laid_at ts ms) (laid_wide ts ms) l.i l.words _ (laid_from ts ms (take (l.i * 3) l.words) l.i) l.invariant.2 at.ensures.words_after (laid_three ts ms (take (l.i * 3) l.words) l.i l.invariant.2) room a.n below ∙ l.invariant.3,
+      at.auto.words ∙ l.invariant.4,
+    )
+
+pub returns : goal.returns
+returns c =
+    let l = c.loop-i in
+    let end : l.i ≡ c.args.n = le_antisymm l.invariant.0 c.loop-i-test.false in
+    record { value = rw end at (sym l.invariant.1); words_unchanged = l.invariant.3 }

@@ -1,0 +1,23 @@
+use mathlib.Core.Path.{refl, sym, ◌∙◌}
+use native.Mathlib.Omega.{arith}
+use lib.ListN.{length}
+use Rattle.ir_records.proofs.RecordLaws.{tables_fitting}
+use Rattle.proc_layouter.specs.Layouter.{layout_answer, layout_words}
+use Rattle.proc_layouter.proofs.layout.Goals as goal
+
+pub overflow_cast-n : goal.overflow_cast-n
+overflow_cast-n c = let a = c.args in let f = tables_fitting (length a.types.now) (length a.members.now) (length a.rows.now) (sym c.tables_fit.ensures ∙ c.if-tables_fit.true) in omega arith
+
+pub layout_tables-requires : goal.layout_tables-requires
+layout_tables-requires c = let a = c.args in let f = tables_fitting (length a.types.now) (length a.members.now) (length a.rows.now) (sym c.tables_fit.ensures ∙ c.if-tables_fit.true) in record { n_in_bounds = f.rows; n_value = refl }
+
+pub returns-then-tables_fit : goal.returns-then-tables_fit
+unfolding layout_answer layout_words
+returns-then-tables_fit c =
+    let fits = sym c.tables_fit.ensures ∙ c.if-tables_fit.true in
+    let answer = c.layout_tables.ensures.value in
+    record { value = rw fits answer; rows_after = rw fits (rw (← answer) c.layout_tables.ensures.rows_after) }
+
+pub returns : goal.returns
+unfolding layout_answer layout_words
+returns c = let fits = sym c.tables_fit.ensures ∙ c.if-tables_fit.false in record { value = rw fits refl; rows_after = rw fits refl }

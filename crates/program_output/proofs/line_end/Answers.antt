@@ -1,0 +1,27 @@
+-- `program_output::line_end` meets its contract. The invariant: the line is what was passed and what is left of it from i on. Assumes nothing.
+use borrow.Author.Rules.{rules}
+use native.Mathlib.Omega.{arith}
+use lib.Seq.{slice_empty}
+use Rattle.program_output.proofs.TextLaws.{line_more, line_stop, line_done}
+use Rattle.program_output.proofs.line_end.Goals as goal
+
+pub loop-i-init : goal.loop-i-init
+loop-i-init c = let a = c.args in (search rules, search rules, rw (slice_empty a.start a.text.now))
+
+pub returns-then-text-i-eq-NEWLINE : goal.returns-then-text-i-eq-NEWLINE
+returns-then-text-i-eq-NEWLINE c =
+    let l = c.loop-i in
+    let a = c.args in
+    (omega arith, omega arith, line_stop a.text.now l.i a.start l.invariant.0 (omega arith) c.if-text-i-eq-NEWLINE.true l.invariant.2)
+
+pub loop-i-preserved : goal.loop-i-preserved
+loop-i-preserved c =
+    let l = c.loop-i in
+    let a = c.args in
+    (omega arith, omega arith, line_more a.text.now l.i a.start l.invariant.0 (omega arith) c.if-text-i-eq-NEWLINE.false l.invariant.2)
+
+pub returns : goal.returns
+returns c =
+    let l = c.loop-i in
+    let a = c.args in
+    (omega arith, omega arith, line_done a.text.now l.i a.start l.invariant.0 c.requires c.loop-i-test.false l.invariant.2)

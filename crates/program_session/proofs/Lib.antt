@@ -1,4 +1,0 @@
-pub mod LinesLaws
-pub mod AlikeLaws
-pub mod SessionLaws
-pub mod TurnLaws

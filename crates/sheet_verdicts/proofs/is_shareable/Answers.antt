@@ -1,0 +1,5 @@
+use Rattle.sheet_verdicts.proofs.is_shareable.Goals as goal
+
+pub returns : goal.returns
+returns c =
+    rw c.row_word.ensures

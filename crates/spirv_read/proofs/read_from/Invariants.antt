@@ -1,0 +1,12 @@
+-- `spirv_read::read_from` meets its contract. The invariant: the reading from `at` on, of the records that are held, is the whole reading. Assumes nothing.
+use Prim.Native.Nat.{◌-◌}
+use lib.ListN.{length}
+use Rattle.spirv_read.proofs.ReadLaws.{Reading}
+use Rattle.spirv_read.proofs.read_from.Given as goal
+
+abbrev pub invariant-loop-at : goal.invariant-loop-at
+invariant-loop-at l =
+    Reading l.room l.space l.words l.initial.types l.initial.members l.initial.alignments l.at l.types l.members l.alignments l.t l.m
+
+abbrev pub decreases-loop-at : goal.decreases-loop-at
+decreases-loop-at l = length l.words - l.at

@@ -1,0 +1,18 @@
+use mathlib.Core.Path.{◌≡◌, sym, ◌∙◌}
+use native.Mathlib.Numerals.{add-one}
+use native.Mathlib.Omega.{arith}
+use Rattle.ir_records.specs.Record.{type_inner, member_type}
+use Rattle.valid_type_info.specs.TypeInfo.{rows_in}
+use Rattle.valid_type_info.specs.Verdict.{least_for}
+use Rattle.valid_members.proofs.StateLaws.{state_step}
+use Rattle.valid_members.proofs.step.Goals as goal
+
+pub row_at-row-requires : goal.row_at-row-requires
+row_at-row-requires c = omega (arith, c.requires.rows_len)
+
+pub returns : goal.returns
+returns c =
+    let s = c in let a = s.args in
+    let type-read : c.member_type-ty.result ≡ member_type a.part.now a.j = c.member_type-ty.ensures in
+    let one = rw (c.row_at-row.ensures, c.struct_at-next.ensures, c.is_array-array.ensures, c.member_offset-offset.ensures, type-read) at c.member.ensures in
+    rw add-one (one ∙ sym (state_step (least_for a.rule) (type_inner a.types.now) (rows_in a.rows.now) a.i a.count a.span a.part.now a.j a.state s.requires.j_value))

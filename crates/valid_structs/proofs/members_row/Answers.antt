@@ -1,0 +1,98 @@
+use mathlib.Core.Path.{refl, sym, ◌∙◌, ap}
+use Prim.Native.Nat.{◌*◌, ◌<◌}
+use native.Mathlib.Omega.{arith}
+use lib.ListN.{take}
+use lib.Seq.{length-take-le}
+use borrow.Author.Tests.{lt-ltb}
+use Rattle.ir_records.specs.Record.{type_inner}
+use Rattle.valid_flags.specs.Flags.{bit}
+use Rattle.valid_width.specs.Width.{dual_source_blending}
+use Rattle.valid_type_info.specs.TypeInfo.{rows_in, row_sizes, row_flags}
+use Rattle.valid_blend.specs.Serving.{source_answer, blend_answer}
+use Rattle.valid_blend.proofs.BlendLaws.{blended_refused, flags_taken, flags_refused}
+use Rattle.valid_types.specs.ValidateType.{judge, flags_of, row_of, uniform_of, storage_of, immediates_of}
+use Rattle.valid_structs.proofs.members_row.Goals as goal
+
+pub returns-then-count-eq0 : goal.returns-then-count-eq0
+unfolding judge flags_of
+returns-then-count-eq0 c = rw c.if-count-eq0.true (refl, refl)
+
+pub slice_bounds-members_of-end-2 : goal.slice_bounds-members_of-end-2
+slice_bounds-members_of-end-2 c = let a = c.args in sym (length-take-le (a.i * 14) a.rows.now (omega (arith, c.requires.i_in_bounds)))
+
+pub members_of-requires : goal.members_of-requires
+members_of-requires c =
+    let a = c.args in
+    let p = c.requires in
+    record { rows_len = length-take-le (a.i * 14) a.rows.now (omega (arith, p.i_in_bounds)); i_in_bounds = p.i_in_bounds_2; part_len = p.part_len; by_index = p.by_index }
+
+pub slice_bounds-blended_flags-end-in-Taken : goal.slice_bounds-blended_flags-end-in-Taken
+slice_bounds-blended_flags-end-in-Taken c = let a = c.args in sym (length-take-le (a.i * 14) a.rows.now (omega (arith, c.requires.i_in_bounds)))
+
+pub blended_flags-requires : goal.blended_flags-requires
+blended_flags-requires c =
+    let a = c.args in
+    let p = c.requires in
+    record { rows_len = length-take-le (a.i * 14) a.rows.now (omega (arith, p.i_in_bounds)); part_len = p.part_len; by_index = p.by_index; sourceless = p.sourceless }
+
+pub put-requires : goal.put-requires
+put-requires c = c.requires.i_in_bounds
+
+pub source_before-requires : goal.source_before-requires
+source_before-requires c =
+    let a = c.args in
+    let p = c.requires in
+    let error = rw c.in-Refused.is at c.members_of.ensures in
+    let below = (blended_refused (bit a.capabilities dual_source_blending) (type_inner a.types.now) (row_sizes (rows_in (take (a.i * 14) a.rows.now))) (row_flags (rows_in (take (a.i * 14) a.rows.now))) a.count a.span a.part.now a.count _ _ _ error).0 in
+    record { member_words_in_bounds = omega (arith, below, p.part_len); member_bound = omega (arith, below); sourceless = p.sourceless }
+
+pub returns-in-Flags : goal.returns-in-Flags
+unfolding judge flags_of row_of uniform_of storage_of immediates_of
+returns-in-Flags c =
+    let a = c.args in
+    let some : 0 < a.count = omega (arith, c.if-count-eq0.false) in
+    let inner = type_inner a.types.now in
+    let rows = rows_in (take (a.i * 14) a.rows.now) in
+    let dual = bit a.capabilities dual_source_blending in
+    let parts = rw c.in-Taken.is at c.members_of.ensures in
+    let flags = flags_taken dual inner (row_sizes rows) (row_flags rows) a.count a.span a.part.now _ parts.0 ∙ sym c.blended_flags.ensures ∙ ap blend_answer c.in-Flags.is in
+    rw (lt-ltb 0 a.count some, flags, parts.1, parts.2, parts.3)
+    (refl, rw (c.span_verdict-uniform.ensures, c.span_verdict-storage.ensures) at c.put.ensures)
+
+pub returns-in-Refused-blended_flags : goal.returns-in-Refused-blended_flags
+unfolding judge flags_of
+returns-in-Refused-blended_flags c =
+    let a = c.args in
+    let some : 0 < a.count = omega (arith, c.if-count-eq0.false) in
+    let inner = type_inner a.types.now in
+    let rows = rows_in (take (a.i * 14) a.rows.now) in
+    let dual = bit a.capabilities dual_source_blending in
+    let parts = rw c.in-Taken.is at c.members_of.ensures in
+    let flags = flags_taken dual inner (row_sizes rows) (row_flags rows) a.count a.span a.part.now _ parts.0 ∙ sym c.blended_flags.ensures ∙ ap blend_answer c.in-Refused-blended_flags.is in
+    rw (lt-ltb 0 a.count some, flags) (refl, refl)
+
+pub returns-in-Fine : goal.returns-in-Fine
+unfolding judge flags_of
+returns-in-Fine c =
+    let a = c.args in
+    let some : 0 < a.count = omega (arith, c.if-count-eq0.false) in
+    let inner = type_inner a.types.now in
+    let rows = rows_in (take (a.i * 14) a.rows.now) in
+    let dual = bit a.capabilities dual_source_blending in
+    let error = rw c.in-Refused.is at c.members_of.ensures in
+    let source = sym c.source_before.ensures ∙ ap source_answer c.in-Fine.is in
+    let flags = flags_refused dual inner (row_sizes rows) (row_flags rows) a.count a.span a.part.now _ _ _ error in
+    rw (lt-ltb 0 a.count some, flags, source) (refl, refl)
+
+pub returns-in-Refused-source_before : goal.returns-in-Refused-source_before
+unfolding judge flags_of
+returns-in-Refused-source_before c =
+    let a = c.args in
+    let some : 0 < a.count = omega (arith, c.if-count-eq0.false) in
+    let inner = type_inner a.types.now in
+    let rows = rows_in (take (a.i * 14) a.rows.now) in
+    let dual = bit a.capabilities dual_source_blending in
+    let error = rw c.in-Refused.is at c.members_of.ensures in
+    let source = sym c.source_before.ensures ∙ ap source_answer c.in-Refused-source_before.is in
+    let flags = flags_refused dual inner (row_sizes rows) (row_flags rows) a.count a.span a.part.now _ _ _ error in
+    rw (lt-ltb 0 a.count some, flags, source) (refl, refl)

@@ -1,0 +1,63 @@
+use mathlib.Core.Path.{refl, sym, ◌∙◌, ap}
+use Prim.Native.Nat.{◌*◌}
+use native.Mathlib.Omega.{arith}
+use lib.ListN.{take, drop}
+use lib.Seq.{length-take-le}
+use Rattle.ir_records.specs.Record.{member_words, member_count, type_inner}
+use Rattle.ir_records.specs.Fields.{sources_located}
+use Rattle.ir_records.proofs.ResultLaws.{required, refused_twice, T_true}
+use Rattle.proc_type_alignment.specs.TypeAlignment.{members_alignment}
+use Rattle.proc_type_alignment.specs.Serving.{layouts_in, located_result}
+use Rattle.proc_type_alignment.proofs.AcceptedAlignment.{members_earlier}
+use Rattle.proc_type_layout.proofs.TypeLayoutLaws.{members-within, part-length}
+use Rattle.valid_type_info.specs.Verdict.{least_for}
+use Rattle.valid_structs.proofs.RecordRowLaws.{struct_row_is, struct_row_refused}
+use Rattle.valid_structs.proofs.struct_row.Goals as goal
+
+pub returns-then-not-struct_fields : goal.returns-then-not-struct_fields
+returns-then-not-struct_fields c =
+    let a = c.args in
+    λ n. rw (sym (c.struct_fields.ensures a.span) ∙ c.if-not-struct_fields.true, refused_twice 2 0 0 (sources_located (take (a.count * member_words) (drop (a.first * member_words) a.members.now)))) (refl, refl)
+
+pub member_part-part-requires : goal.member_part-part-requires
+member_part-part-requires c =
+    let a = c.args in
+    members-within (member_count a.members.now) a.first a.count 0 a.d a.e (sym (c.struct_fields.ensures 0) ∙ c.if-not-struct_fields.false)
+
+pub slice_bounds-members_alignment-end-2 : goal.slice_bounds-members_alignment-end-2
+slice_bounds-members_alignment-end-2 c = let a = c.args in sym (length-take-le (a.i * 14) a.rows.now (omega (arith, c.requires.i_in_bounds)))
+
+pub members_alignment-requires : goal.members_alignment-requires
+members_alignment-requires c =
+    let a = c.args in
+    let h = members-within (member_count a.members.now) a.first a.count 0 a.d a.e (sym (c.struct_fields.ensures 0) ∙ c.if-not-struct_fields.false) in
+    record { rows_len = length-take-le (a.i * 14) a.rows.now (omega (arith, c.requires.i_in_bounds)); part_len = rw c.member_part-part.ensures (part-length a.members.now a.first a.count h) }
+
+pub members_row-requires : goal.members_row-requires
+members_row-requires c =
+    let s = c in
+    let a = s.args in
+    let h = members-within (member_count a.members.now) a.first a.count 0 a.d a.e (sym (c.struct_fields.ensures 0) ∙ c.if-not-struct_fields.false) in
+    let part = c.member_part-part.result.now in
+    let ls = layouts_in (take (a.i * 14) a.rows.now) in
+    let e = (required (sources_located part) 2 0 0 (members_alignment ls a.i part a.count) _ (sym c.members_alignment.ensures.result_value ∙ ap located_result c.in-To.is)).1 in
+    record { i_in_bounds = s.requires.i_in_bounds; i_in_bounds_2 = s.requires.i_in_bounds_2; part_len = rw c.member_part-part.ensures (part-length a.members.now a.first a.count h); by_index = members_earlier ls a.i part a.count _ e; sourceless = rw c.in-To.is at c.members_alignment.ensures.sources_told }
+
+pub returns-in-To : goal.returns-in-To
+returns-in-To c =
+    let a = c.args in
+    let m = member_count a.members.now in
+    let fit = sym (c.struct_fields.ensures a.span) ∙ c.if-not-struct_fields.false in
+    let e = rw c.member_part-part.ensures at (sym c.members_alignment.ensures.result_value ∙ ap located_result c.in-To.is) in
+    let part = take (a.count * member_words) (drop (a.first * member_words) a.members.now) in
+    let r = required (sources_located part) 2 0 0 _ _ e in
+    λ n. rw (T_true (sources_located part) r.0, struct_row_is (least_for a.rule) a.capabilities m n (type_inner a.types.now) (take (a.i * 14) a.rows.now) a.i a.first a.count a.span a.d a.e _ fit _ r.1)
+    (rw c.member_part-part.ensures at c.members_row.ensures)
+
+pub returns-in-Refused : goal.returns-in-Refused
+returns-in-Refused c =
+    let a = c.args in
+    let m = member_count a.members.now in
+    let fit = sym (c.struct_fields.ensures a.span) ∙ c.if-not-struct_fields.false in
+    let e = rw c.member_part-part.ensures at (sym c.members_alignment.ensures.result_value ∙ ap located_result c.in-Refused.is) in
+    λ n. rw (struct_row_refused (least_for a.rule) a.capabilities m n (type_inner a.types.now) (take (a.i * 14) a.rows.now) a.i a.first a.count a.span a.d a.e _ fit (sources_located (take (a.count * member_words) (drop (a.first * member_words) a.members.now))) e) (refl, refl)

@@ -1,0 +1,7 @@
+use Rattle.ir_records.specs.Record.{type_inner}
+use Rattle.valid_type_flags.proofs.KindLaws.{external_by_words}
+use Rattle.valid_type_flags.proofs.is_external_image.Goals as goal
+
+pub returns : goal.returns
+unfolding type_inner
+returns c = rw (c.type_word-class.ensures, c.type_word-kind.ensures) (external_by_words _ _ _ _ _ _)

@@ -1,0 +1,16 @@
+use mathlib.Core.Path.{refl}
+use Rattle.ir_records.specs.Record.{inner_of}
+use Rattle.ir_records.specs.declared.Leaf.TheVariants.{CooperativeMatrix}
+use Rattle.proc_type_alignment.specs.Serving.{layouts_in}
+use Rattle.valid_type_flags.specs.TypeFlags.{leaf_flags}
+use Rattle.valid_types.proofs.TypeRowLaws.{leaf_row}
+use Rattle.valid_types.proofs.cooperative_row.Goals as goal
+
+pub returns : goal.returns
+unfolding inner_of leaf_flags
+returns c =
+    let a = c.args in
+    λ least m n i inner words members.
+    leaf_row least a.capabilities m n inner words i members 3 a.a a.b a.c a.d a.e c.joined.result _
+    (c.cooperative_layout-laid.ensures m n i (layouts_in words) members) a.d (CooperativeMatrix a.a a.b a.c a.d a.e) refl (λ l e. refl)
+    (rw c.cooperative_flags-flagged.ensures at c.joined.ensures)

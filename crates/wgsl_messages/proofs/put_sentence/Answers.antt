@@ -1,0 +1,7 @@
+-- `wgsl_messages::put_sentence` meets its contract: the text is that of the definition. Assumes nothing.
+use Rattle.wgsl_messages.specs.Message.{reasons}
+use Rattle.wgsl_messages.proofs.put_sentence.Goals as goal
+
+pub returns : goal.returns
+unfolding reasons
+returns c = c.put_line_of.ensures

@@ -1,0 +1,43 @@
+use mathlib.Core.Path.{sym, ◌∙◌}
+use Rattle.wgsl_names.specs.Names.{matrix_named}
+use Rattle.wgsl_names.proofs.matrix_named.Goals as goal
+
+pub returns-then-same : goal.returns-then-same
+unfolding matrix_named
+returns-then-same c = rw (sym c.same.ensures ∙ c.if-same.true)
+
+pub returns-then-same-2 : goal.returns-then-same-2
+unfolding matrix_named
+returns-then-same-2 c = rw (sym c.same.ensures ∙ c.if-same.false, sym c.same-2.ensures ∙ c.if-same-2.true)
+
+pub returns-then-same-3 : goal.returns-then-same-3
+unfolding matrix_named
+returns-then-same-3 c = rw (sym c.same.ensures ∙ c.if-same.false, sym c.same-2.ensures ∙ c.if-same-2.false, sym c.same-3.ensures ∙ c.if-same-3.true)
+
+pub returns-then-same-4 : goal.returns-then-same-4
+unfolding matrix_named
+returns-then-same-4 c = rw (sym c.same.ensures ∙ c.if-same.false, sym c.same-2.ensures ∙ c.if-same-2.false, sym c.same-3.ensures ∙ c.if-same-3.false, sym c.same-4.ensures ∙ c.if-same-4.true)
+
+pub returns-then-same-5 : goal.returns-then-same-5
+unfolding matrix_named
+returns-then-same-5 c = rw (sym c.same.ensures ∙ c.if-same.false, sym c.same-2.ensures ∙ c.if-same-2.false, sym c.same-3.ensures ∙ c.if-same-3.false, sym c.same-4.ensures ∙ c.if-same-4.false, sym c.same-5.ensures ∙ c.if-same-5.true)
+
+pub returns-then-same-6 : goal.returns-then-same-6
+unfolding matrix_named
+returns-then-same-6 c = rw (sym c.same.ensures ∙ c.if-same.false, sym c.same-2.ensures ∙ c.if-same-2.false, sym c.same-3.ensures ∙ c.if-same-3.false, sym c.same-4.ensures ∙ c.if-same-4.false, sym c.same-5.ensures ∙ c.if-same-5.false, sym c.same-6.ensures ∙ c.if-same-6.true)
+
+pub returns-then-same-7 : goal.returns-then-same-7
+unfolding matrix_named
+returns-then-same-7 c = rw (sym c.same.ensures ∙ c.if-same.false, sym c.same-2.ensures ∙ c.if-same-2.false, sym c.same-3.ensures ∙ c.if-same-3.false, sym c.same-4.ensures ∙ c.if-same-4.false, sym c.same-5.ensures ∙ c.if-same-5.false, sym c.same-6.ensures ∙ c.if-same-6.false, sym c.same-7.ensures ∙ c.if-same-7.true)
+
+pub returns-then-same-8 : goal.returns-then-same-8
+unfolding matrix_named
+returns-then-same-8 c = rw (sym c.same.ensures ∙ c.if-same.false, sym c.same-2.ensures ∙ c.if-same-2.false, sym c.same-3.ensures ∙ c.if-same-3.false, sym c.same-4.ensures ∙ c.if-same-4.false, sym c.same-5.ensures ∙ c.if-same-5.false, sym c.same-6.ensures ∙ c.if-same-6.false, sym c.same-7.ensures ∙ c.if-same-7.false, sym c.same-8.ensures ∙ c.if-same-8.true)
+
+pub returns-then-same-9 : goal.returns-then-same-9
+unfolding matrix_named
+returns-then-same-9 c = rw (sym c.same.ensures ∙ c.if-same.false, sym c.same-2.ensures ∙ c.if-same-2.false, sym c.same-3.ensures ∙ c.if-same-3.false, sym c.same-4.ensures ∙ c.if-same-4.false, sym c.same-5.ensures ∙ c.if-same-5.false, sym c.same-6.ensures ∙ c.if-same-6.false, sym c.same-7.ensures ∙ c.if-same-7.false, sym c.same-8.ensures ∙ c.if-same-8.false, sym c.same-9.ensures ∙ c.if-same-9.true)
+
+pub returns : goal.returns
+unfolding matrix_named
+returns c = rw (sym c.same.ensures ∙ c.if-same.false, sym c.same-2.ensures ∙ c.if-same-2.false, sym c.same-3.ensures ∙ c.if-same-3.false, sym c.same-4.ensures ∙ c.if-same-4.false, sym c.same-5.ensures ∙ c.if-same-5.false, sym c.same-6.ensures ∙ c.if-same-6.false, sym c.same-7.ensures ∙ c.if-same-7.false, sym c.same-8.ensures ∙ c.if-same-8.false, sym c.same-9.ensures ∙ c.if-same-9.false)

@@ -1,0 +1,10 @@
+use Rattle.wgsl_placement.proofs.size_of_template.Goals as goal
+
+pub returns-in-Vector : goal.returns-in-Vector
+returns-in-Vector c = rw c.in-Vector.is c.size_of_vector.ensures.0
+
+pub returns-in-Matrix : goal.returns-in-Matrix
+returns-in-Matrix c = rw c.in-Matrix.is c.size_of_matrix.ensures
+
+pub returns-in-Atomic : goal.returns-in-Atomic
+returns-in-Atomic c = rw c.in-Atomic.is c.bytes_of.ensures.0

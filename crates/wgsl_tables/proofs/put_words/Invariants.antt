@@ -1,0 +1,13 @@
+-- `wgsl_tables::put_words` meets its contract: after j turns the first j words of the part are in place (`lib.Seq`'s `paste`).
+-- Assumes nothing.
+use mathlib.Core.Path.{◌≡◌}
+use Prim.Native.Nat.{◌≤◌, ◌-◌}
+use lib.ListN.{length}
+use lib.Seq.{paste}
+use Rattle.wgsl_tables.proofs.put_words.Given as goal
+
+abbrev pub invariant-loop-j : goal.invariant-loop-j
+invariant-loop-j l = (l.j ≤ length l.part) × (l.words ≡ paste l.initial.words l.at l.part l.j) × (length l.words ≡ length l.initial.words)
+
+abbrev pub decreases-loop-j : goal.decreases-loop-j
+decreases-loop-j l = length l.part - l.j

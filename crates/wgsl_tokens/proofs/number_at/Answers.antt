@@ -1,0 +1,44 @@
+use Prim.Native.Nat.{◌<◌}
+use native.Mathlib.Omega.{arith}
+use Rattle.wgsl_tokens.specs.Tokens.{from}
+use Rattle.wgsl_tokens.proofs.WordLaws.{digits_token, digits_bad, digits_good}
+use Rattle.wgsl_tokens.proofs.number_at.Goals as goal
+
+pub returns-then-s-start : goal.returns-then-s-start
+returns-then-s-start c =
+    let s = c.args.s.now in
+    let i = c.args.start in
+    let e = c.run_end-end.result in
+    let some_byte : i < e = omega (arith, c.run_end-end.ensures.lower_bound) in
+    let token = digits_token s i c.requires.0 c.requires.1 c.requires.2 c.requires.3 e c.run_end-end.ensures.value in
+    (from s e, rw (digits_bad s i e some_byte c.run_end-end.ensures.lower_bound.1 (rw (c.in_word.ensures, c.byte_at-next.ensures) at c.if-s-start.true)) at token)
+
+pub returns-in-Value : goal.returns-in-Value
+returns-in-Value c =
+    let s = c.args.s.now in
+    let i = c.args.start in
+    let e = c.run_end-end.result in
+    let some_byte : i < e = omega (arith, c.run_end-end.ensures.lower_bound) in
+    let token = digits_token s i c.requires.0 c.requires.1 c.requires.2 c.requires.3 e c.run_end-end.ensures.value in
+    let good = digits_good s i e some_byte c.run_end-end.ensures.lower_bound.1 (rw (c.in_word.ensures, c.byte_at-next.ensures) at c.if-s-start.false) c.number_of.result c.number_of.ensures in
+    rw (good, c.in-Value.is) at token
+
+pub returns-in-TooLarge : goal.returns-in-TooLarge
+returns-in-TooLarge c =
+    let s = c.args.s.now in
+    let i = c.args.start in
+    let e = c.run_end-end.result in
+    let some_byte : i < e = omega (arith, c.run_end-end.ensures.lower_bound) in
+    let token = digits_token s i c.requires.0 c.requires.1 c.requires.2 c.requires.3 e c.run_end-end.ensures.value in
+    let good = digits_good s i e some_byte c.run_end-end.ensures.lower_bound.1 (rw (c.in_word.ensures, c.byte_at-next.ensures) at c.if-s-start.false) c.number_of.result c.number_of.ensures in
+    rw (good, c.in-TooLarge.is) at token
+
+pub returns-in-NotANumber : goal.returns-in-NotANumber
+returns-in-NotANumber c =
+    let s = c.args.s.now in
+    let i = c.args.start in
+    let e = c.run_end-end.result in
+    let some_byte : i < e = omega (arith, c.run_end-end.ensures.lower_bound) in
+    let token = digits_token s i c.requires.0 c.requires.1 c.requires.2 c.requires.3 e c.run_end-end.ensures.value in
+    let good = digits_good s i e some_byte c.run_end-end.ensures.lower_bound.1 (rw (c.in_word.ensures, c.byte_at-next.ensures) at c.if-s-start.false) c.number_of.result c.number_of.ensures in
+    (from s e, rw (good, c.in-NotANumber.is) at token)
