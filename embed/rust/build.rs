@@ -3,7 +3,7 @@
 use std::env;
 use std::path::PathBuf;
 
-/// Where `rt staticlib doors` leaves it, seen from here; WULDAZIN_LIB_DIR overrides it.
+/// Where `bin/staticlib` leaves it, seen from here; WULDAZIN_LIB_DIR overrides it.
 const DEFAULT_LIB_DIR: &str = "../../target/staticlib";
 
 fn main() {
@@ -14,7 +14,7 @@ fn main() {
     println!("cargo::rerun-if-changed={}", library.display());
     if !library.exists() {
         panic!(
-            "no {}: run `rt staticlib doors`, or set WULDAZIN_LIB_DIR",
+            "no {}: run `bin/staticlib`, or set WULDAZIN_LIB_DIR",
             library.display()
         );
     }
