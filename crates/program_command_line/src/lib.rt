@@ -1,26 +1,44 @@
 // The program `inspect`: it answers its arguments, and without one the commands on standard input.
 #![tactic(auto)]
 
+ghost use Rattle.std.specs.Prelude.{◌≡◌, length, get_or};
+ghost use Rattle.program_output.specs.Bytes.{Puts};
+ghost use Rattle.program_command_line.specs.Arguments.{help_text, is_help, unknown_bytes, argument_bytes};
+
+use program_output::Buffer;
 use std::rt::Env;
 
-const STDOUT: i32 = 1;
-
-// Whether argument i is --help.
-fn is_help<R: Env>(rt: &R, i: usize) -> bool {
-    let mut word = [0u8; 6];
-    let length = program_files::argument(rt, i, &mut word);
-    (length == 6)
-        & (word[0] == b'-')
-        & (word[1] == b'-')
-        & (word[2] == b'h')
-        & (word[3] == b'e')
-        & (word[4] == b'l')
-        & (word[5] == b'p')
+fn byte_at(s: &[u8], at: usize) -> u8
+    ensures { result ≡ get_or s.now at 0 }
+{
+    if at < s.len() { s[at] } else { 0 }
 }
 
-fn put_help() {
-    io::write_all(
-        STDOUT,
+// Whether an argument is --help.
+fn is_help(name: &[u8]) -> bool
+    ensures { result ≡ is_help name.now }
+{
+    let a = byte_at(name, 0);
+    let b = byte_at(name, 1);
+    let c = byte_at(name, 2);
+    let d = byte_at(name, 3);
+    let e = byte_at(name, 4);
+    let f = byte_at(name, 5);
+    (name.len() == 6)
+        & (a == b'-')
+        & (b == b'-')
+        & (c == b'h')
+        & (d == b'e')
+        & (e == b'l')
+        & (f == b'p')
+}
+
+fn put_help(at: usize, out: &mut Buffer) -> usize
+    ensures { Puts out.old at help_text out.new result }
+{
+    program_output::put_text(
+        out,
+        at,
         b"inspect answers the commands on standard input, one to a line. Numbers are decimal; # starts a comment.
   caps N              sets the capability word
   rule N              sets the uniform rule: 0 the older, 1 the newer
@@ -45,23 +63,33 @@ fn put_help() {
   order SPAN T1 .. Tk order TYPE SPAN N1 .. Nk: the first order of these types that has at most the span, as a struct of the arena
 A refusal is refused NUMBER TYPE MEMBER DETAIL. A line that cannot be read ends the program.
 ",
-    );
+    )
+}
+
+fn put_unknown(name: &[u8], at: usize, out: &mut Buffer) -> usize
+    ensures { Puts out.old at (unknown_bytes name.now) out.new result }
+{
+    let end = program_output::put_text(out, at, name);
+    program_output::put_text(out, end, b": no such argument; there is --help\n")
+}
+
+// Puts the answer to an argument.
+pub fn put_argument(name: &[u8], at: usize, out: &mut Buffer) -> usize
+    ensures { Puts out.old at (argument_bytes name.now) out.new result }
+{
+    if is_help(name) {
+        return put_help(at, out);
+    }
+    put_unknown(name, at, out)
 }
 
 // The name of an argument that is longer than the buffer is left out.
-fn put_unknown<R: Env>(rt: &R, i: usize) {
-    let mut name = io::buffer();
-    let length = program_files::argument(rt, i, &mut name);
-    io::write_all(STDOUT, &name[..length]);
-    io::write_all(STDOUT, b": no such argument; there is --help\n");
-}
-
 fn answer<R: Env>(rt: &R, i: usize) {
-    if is_help(rt, i) {
-        put_help();
-    } else {
-        put_unknown(rt, i);
-    }
+    let mut name = io::buffer();
+    let mut out = [0u8; 1114112];
+    let length = program_files::argument(rt, i, &mut name);
+    let end = put_argument(&name[..length], 0, &mut out);
+    program_output::write_out(&out, end);
 }
 
 pub fn run<R: Env + Input>(rt: &R) {
