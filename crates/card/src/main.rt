@@ -9,11 +9,9 @@ const ROW_WORDS: u32 = 14;
 
 fn print_row(rows: &[u32], i: u32) {
     io::print_decimal(STDOUT, i as u64);
-    let mut j: u32 = 0;
-    while j < ROW_WORDS {
+    for j in 0..ROW_WORDS {
         io::write_all(STDOUT, b" ");
         io::print_decimal(STDOUT, ir_rows::row_word(rows, i, j) as u64);
-        j += 1;
     }
     io::write_all(STDOUT, b"\n");
 }
@@ -23,8 +21,10 @@ fn main() {
     let types = [0u32, 2, 4, 0, 0, 0, 1, 3, 2, 4, 0, 0, 8, 0, 2, 16, 0, 0];
     let members = [1u32, 0, 0, 0, 0, 12, 0, 0];
     let mut rows = [0u32; 14336];
-    valid_arena::check(&types, &members, 0, UniformRule::Older, &mut rows);
-    print_row(&rows, 0);
-    print_row(&rows, 1);
-    print_row(&rows, 2);
+    let judged = valid_arena::check(&types, &members, 0, UniformRule::Older, &mut rows);
+    if judged.is_ok() {
+        for i in 0..3 {
+            print_row(&rows, i);
+        }
+    }
 }

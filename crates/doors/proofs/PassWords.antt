@@ -7,10 +7,10 @@ use Prim.Native.Nat.{ℕ, ◌≤◌}
 use native.Mathlib.Omega.{arith}
 use lib.ListN.{length, drop}
 use borrow.Author.Tests.{le-leb}
-use Rattle.ir_records.specs.declared.Outcome.{Outcome}
-use Rattle.ir_records.specs.declared.Outcome.TheVariants.{Accepted, Refused}
+use Rattle.ir_records.specs.Outcome.{Outcome}
+use Rattle.ir_records.specs.Outcome.{Accepted, Refused}
 use Rattle.immediates_pass.specs.declared.Pass.{Pass}
-use Rattle.immediates_pass.specs.declared.Tried.{Tried}
+use Rattle.immediates_pass.specs.Pass.{Tried}
 use Rattle.immediates_pass.specs.Pass.{begin, PassStep, SetRange, Choose, Dispatch, tried}
 use Rattle.immediates_pass.specs.History.{Calls, started, called, Dispatched}
 use Rattle.immediates_pass.proofs.CallLaws.{refused_keeps, calls_dispatch}

@@ -1,14 +1,14 @@
 -- 02, E8: the word of the uniform rule. 0 and 1 leave the capability word as it is; another word is number 1 in each call, and touches no lent row and no report.
 -- Assumes nothing.
 use Rattle.std.specs.Prelude.{◌≡◌, List, ℕ, ◌≤◌, ◌<◌}
-use Rattle.ir_records.specs.declared.Outcome.TheVariants.{Refused}
-use Rattle.immediates_ranges.specs.declared.SlotsAnswer.TheVariants as slotsAnswers
+use Rattle.ir_records.specs.Outcome.{Refused}
+use Rattle.immediates_ranges.specs.Answer as slotsAnswers
 use Rattle.valid_arena.specs.Arena.{arena_answer, arena_words}
 use Rattle.immediates_slots.specs.Immediates.{slots_answer}
 use Rattle.immediates_pass.specs.Pass.{choose_answer}
-use Rattle.place_lookup.specs.declared.PlaceAnswer.TheVariants as placeAnswers
+use Rattle.place_lookup.specs.Answer as placeAnswers
 use Rattle.place_lookup.specs.Place.{lookup_answer}
-use Rattle.place_report.specs.declared.ReportAnswer.TheVariants as reportAnswers
+use Rattle.place_report.specs.Answer as reportAnswers
 use Rattle.place_report.specs.Report.{report_answer, report_rows, report_words}
 use Rattle.valid_rule_word.specs.RuleWord.{rule_of, capabilities_by}
 

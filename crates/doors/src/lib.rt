@@ -27,7 +27,7 @@ pub fn wuldazin_layout(types: &[u32], members: &[u32], rows: &mut [u32], answer:
     ensures answer_after { answer.new ≡ with_answer answer.old (layout_answer types.now members.now rows.old) }
 {
     let outcome = proc_layouter::layout(types, members, rows);
-    doors_words::put_answer(answer, outcome);
+    doors_words::put_answer(answer, &outcome);
 }
 
 // The arena check.
@@ -45,7 +45,7 @@ pub fn wuldazin_check(
     let known = valid_rule_word::capabilities_by(rule, capabilities);
     let by = valid_rule_word::rule_of(rule);
     let outcome = valid_arena::check(types, members, known, by, rows);
-    doors_words::put_answer(answer, outcome);
+    doors_words::put_answer(answer, &outcome);
 }
 
 // Judging: the same answer and words as the arena check, in one pass over rows that may hold anything.
@@ -63,7 +63,7 @@ pub fn wuldazin_judge(
     let known = valid_rule_word::capabilities_by(rule, capabilities);
     let by = valid_rule_word::rule_of(rule);
     let outcome = valid_arena::judge(types, members, known, by, rows);
-    doors_words::put_answer(answer, outcome);
+    doors_words::put_answer(answer, &outcome);
 }
 
 // The slots of a range given as two numbers: those touched, and those covered only in part.
@@ -73,7 +73,7 @@ pub fn wuldazin_range(offset: u32, size: u32, mask: &mut [u64], answer: &mut [u3
 {
     let found = immediates_ranges::range(offset, size);
     doors_words::put_masks(mask, found);
-    doors_words::put_answer(answer, doors_words::slots_outcome(found));
+    doors_words::put_answer(answer, &found);
 }
 
 // The slots of a type of an arena from an offset on: those touched, and those that a part covers only in part.
@@ -96,7 +96,7 @@ pub fn wuldazin_slots(
     let by = valid_rule_word::rule_of(rule);
     let found = immediates_slots::immediate_slots(types, members, known, by, rows, ty, offset);
     doors_words::put_masks(mask, found);
-    doors_words::put_answer(answer, doors_words::slots_outcome(found));
+    doors_words::put_answer(answer, &found);
 }
 
 // Whether every slot of other is one of this.
@@ -139,12 +139,8 @@ pub fn wuldazin_place(
     let known = valid_rule_word::capabilities_by(rule, capabilities);
     let by = valid_rule_word::rule_of(rule);
     let found = place_lookup::lookup(types, members, known, by, rows, start, steps);
-    doors_words::put_two(
-        place,
-        doors_words::byte_of(found),
-        doors_words::leaf_of(found) as u64,
-    );
-    doors_words::put_answer(answer, doors_words::place_outcome(found));
+    doors_words::put_place(place, found);
+    doors_words::put_answer(answer, &found);
 }
 
 // The same by three words for each type.
@@ -163,12 +159,8 @@ pub fn wuldazin_place_short(
     ensures answer_after { answer.new ≡ with_answer answer.old (place_outcome (short_lookup capabilities types.now members.now scratch.old start steps.now)) }
 {
     let found = place_short::lookup(types, members, capabilities, scratch, start, steps);
-    doors_words::put_two(
-        place,
-        doors_words::byte_of(found),
-        doors_words::leaf_of(found) as u64,
-    );
-    doors_words::put_answer(answer, doors_words::place_outcome(found));
+    doors_words::put_place(place, found);
+    doors_words::put_answer(answer, &found);
 }
 
 // The places of many runs of steps, two words for each in `found`.
@@ -186,7 +178,7 @@ pub fn wuldazin_places(
     ensures answer_after { answer.new ≡ with_answer answer.old (places_answer capabilities types.now members.now scratch.old runs.now found.old) }
 {
     let outcome = place_runs::places(types, members, capabilities, scratch, runs, found);
-    doors_words::put_answer(answer, outcome);
+    doors_words::put_answer(answer, &outcome);
 }
 
 // The bytes carried and the bytes wasted of each host-shareable struct, two words a type, and the totals over all.
@@ -208,12 +200,8 @@ pub fn wuldazin_report(
     let known = valid_rule_word::capabilities_by(rule, capabilities);
     let by = valid_rule_word::rule_of(rule);
     let found = place_report::report(types, members, known, by, rows, report);
-    doors_words::put_two(
-        totals,
-        doors_words::carried_of(found),
-        doors_words::wasted_of(found),
-    );
-    doors_words::put_answer(answer, doors_words::totals_outcome(found));
+    doors_words::put_totals(totals, found);
+    doors_words::put_answer(answer, &found);
 }
 
 // A pass with no slot set and no pipeline.
@@ -229,13 +217,13 @@ pub fn wuldazin_pass_set(pass: &mut [u64], offset: u32, size: u32, answer: &mut 
     ensures answer_after { answer.new ≡ with_answer answer.old (tried_in pass.old (SetRange offset size)).outcome }
 {
     if pass.len() < 3 {
-        doors_words::put_answer(answer, doors_words::short_pass());
+        doors_words::put_answer(answer, &doors_words::short_pass());
         return;
     }
     let tried = immediates_pass::set_range(doors_words::pass_of(pass), offset, size);
     let outcome = tried.outcome;
     doors_words::put_tried(pass, tried);
-    doors_words::put_answer(answer, outcome);
+    doors_words::put_answer(answer, &outcome);
 }
 
 // Chooses a pipeline by its immediate type.
@@ -254,7 +242,7 @@ pub fn wuldazin_pass_choose(
     ensures answer_after { answer.new ≡ with_answer answer.old (tried_in pass.old (Choose (capabilities_by rule capabilities) types.now members.now rows.old ty)).outcome }
 {
     if pass.len() < 3 {
-        doors_words::put_answer(answer, doors_words::short_pass());
+        doors_words::put_answer(answer, &doors_words::short_pass());
         return;
     }
     let known = valid_rule_word::capabilities_by(rule, capabilities);
@@ -270,7 +258,7 @@ pub fn wuldazin_pass_choose(
     );
     let outcome = tried.outcome;
     doors_words::put_tried(pass, tried);
-    doors_words::put_answer(answer, outcome);
+    doors_words::put_answer(answer, &outcome);
 }
 
 // Whether the pass may be dispatched, and the slots that it misses.
@@ -280,13 +268,13 @@ pub fn wuldazin_pass_dispatch(pass: &[u64], missing: &mut [u64], answer: &mut [u
 {
     if pass.len() < 3 {
         doors_words::put_one(missing, 0);
-        doors_words::put_answer(answer, doors_words::short_pass());
+        doors_words::put_answer(answer, &doors_words::short_pass());
         return;
     }
     let tried = immediates_pass::dispatch(doors_words::pass_of(pass));
     let outcome = tried.outcome;
     doors_words::put_one(missing, tried.missing);
-    doors_words::put_answer(answer, outcome);
+    doors_words::put_answer(answer, &outcome);
 }
 
 // Size, alignment and column step of a shape at a width.
@@ -296,7 +284,7 @@ pub fn wuldazin_plain(shape: u32, width: u32, numbers: &mut [u32], answer: &mut 
 {
     let found = proc_plain_types::plain(shape, width);
     doors_words::put_numbers(numbers, found);
-    doors_words::put_answer(answer, doors_words::plain_outcome(found));
+    doors_words::put_answer(answer, &found);
 }
 
 // The part of the member table that the rows of struct ty are: its first word and how many words it has.
@@ -331,12 +319,8 @@ pub fn wuldazin_read_spirv(
     ensures answer_after { answer.new ≡ with_answer answer.old (section_outcome (section_of (read_into words.now types.old members.old))) }
 {
     let section = spirv_reader::read_module(words, types, members);
-    doors_words::put_counts(
-        counts,
-        doors_words::types_read(section),
-        doors_words::members_read(section),
-    );
-    doors_words::put_answer(answer, doors_words::section_outcome(section));
+    doors_words::put_records(counts, section);
+    doors_words::put_read(answer, section);
 }
 
 // The records of a WGSL text, and how many there are of each.
@@ -353,12 +337,8 @@ pub fn wuldazin_read_wgsl(
     ensures answer_after { answer.new ≡ with_answer answer.old (text_outcome (answer_of (text_of (length types.old) (length members.old) text.now))) }
 {
     let found = wgsl_read::read(text, types, members);
-    doors_words::put_counts(
-        counts,
-        doors_words::text_types(found),
-        doors_words::text_members(found),
-    );
-    doors_words::put_answer(answer, doors_words::text_outcome(found));
+    doors_words::put_records(counts, found);
+    doors_words::put_read(answer, found);
 }
 
 // The first order of the wanted types that has at most the span, as a struct behind the records in use.

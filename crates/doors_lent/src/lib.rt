@@ -22,10 +22,8 @@ fn put_end() {
 // The words of a buffer.
 pub fn words(name: &[u8], words: &[u32]) {
     put_name(name);
-    let mut i = 0;
-    while i < words.len() {
-        put_number(ir_records::word_at(words, i) as u64);
-        i += 1;
+    for word in words {
+        put_number(*word as u64);
     }
     put_end();
 }
@@ -47,38 +45,27 @@ pub fn refusal(number: u32, answer: &[u32; 5]) {
 }
 
 // The words of a buffer of 64-bit words.
-pub fn three(name: &[u8], words: &[u64; 3]) {
+fn long_words(name: &[u8], words: &[u64]) {
     put_name(name);
-    put_number(words[0]);
-    put_number(words[1]);
-    put_number(words[2]);
+    for word in words {
+        put_number(*word);
+    }
     put_end();
 }
 
-pub fn seven(name: &[u8], words: &[u64; 7]) {
-    put_name(name);
-    put_number(words[0]);
-    put_number(words[1]);
-    put_number(words[2]);
-    put_number(words[3]);
-    put_number(words[4]);
-    put_number(words[5]);
-    put_number(words[6]);
-    put_end();
+pub fn three(name: &[u8], three: &[u64; 3]) {
+    long_words(name, three);
+}
+
+pub fn seven(name: &[u8], seven: &[u64; 7]) {
+    long_words(name, seven);
 }
 
 // How many words of a long buffer are n.
 pub fn count(name: &[u8], words: &[u32], n: u32) {
-    let mut found: u64 = 0;
-    let mut i = 0;
-    while i < words.len() {
-        if ir_records::word_at(words, i) == n {
-            found = std::num::wrapping_add_u64(found, 1);
-        }
-        i += 1;
-    }
+    let found = words.iter().filter(|word| **word == n).count();
     put_name(name);
-    put_number(found);
+    put_number(found as u64);
     put_end();
 }
 

@@ -30,5 +30,5 @@ pub fn order_into(
     let by = valid_rule_word::rule_of(rule);
     let made = order_call::order(types, n, members, m, known, by, rows, wanted, span);
     order_words::put_found(found, wanted.len(), made);
-    doors_words::put_answer(answer, order_words::order_outcome(made));
+    doors_words::put_answer(answer, &order_words::order_outcome(made));
 }

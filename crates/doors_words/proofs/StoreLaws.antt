@@ -5,7 +5,7 @@ use mathlib.Core.List.{List, [], ◌∷◌}
 use Prim.Native.Nat.{ℕ, ◌<◌, ◌≤◌}
 use native.Mathlib.Omega.{arith}
 use lib.ListN.{length, set, drop}
-use Rattle.immediates_ranges.specs.declared.SlotsAnswer.{SlotsAnswer}
+use Rattle.immediates_ranges.specs.Answer.{SlotsAnswer}
 use Rattle.doors_words.specs.Words.{touched_of, partly_of, with_masks, with_one}
 
 pub four_stores : (l : List ℕ) (a b c d : ℕ) → 4 ≤ length l → set (set (set (set l 0 a) 1 b) 2 c) 3 d ≡ a ∷ b ∷ c ∷ d ∷ drop 4 l

@@ -4,25 +4,25 @@
 use Rattle.std.specs.Prelude.{Bool, true, false, not, List, [], ◌∷◌, ◌++◌, ℕ, ◌*◌, eqb, leb, length, get_or, drop}
 use Rattle.ir_records.specs.Result.{pick}
 use Rattle.ir_records.specs.Record.{type_word, member_words, struct_members}
-use Rattle.ir_records.specs.declared.Outcome.{Outcome}
-use Rattle.ir_records.specs.declared.Outcome.TheVariants.{Accepted, Refused}
-use Rattle.immediates_ranges.specs.declared.SlotsAnswer.{SlotsAnswer}
-use Rattle.immediates_ranges.specs.declared.SlotsAnswer.TheVariants as slots
+use Rattle.ir_records.specs.Outcome.{Outcome}
+use Rattle.ir_records.specs.Outcome.{Accepted, Refused}
+use Rattle.immediates_ranges.specs.Answer.{SlotsAnswer}
+use Rattle.immediates_ranges.specs.Answer as slots
 use Rattle.valid_type_info.specs.declared.UniformRule.{UniformRule}
 use Rattle.valid_arena.specs.Arena.{arena_words}
 use Rattle.immediates_pass.specs.declared.Pass.{Pass}
-use Rattle.immediates_pass.specs.declared.Tried.{Tried}
+use Rattle.immediates_pass.specs.Pass.{Tried}
 use Rattle.immediates_pass.specs.Pass.{PassStep, tried}
-use Rattle.place_lookup.specs.declared.PlaceAnswer.{PlaceAnswer}
-use Rattle.place_lookup.specs.declared.PlaceAnswer.TheVariants as place
-use Rattle.proc_plain_types.specs.declared.PlainAnswer.{PlainAnswer}
-use Rattle.proc_plain_types.specs.declared.PlainAnswer.TheVariants as plain
-use Rattle.spirv_read.specs.declared.Section.{Section}
-use Rattle.spirv_read.specs.declared.Section.TheVariants as section
-use Rattle.place_report.specs.declared.ReportAnswer.{ReportAnswer}
-use Rattle.place_report.specs.declared.ReportAnswer.TheVariants as report
-use Rattle.wgsl_read.specs.declared.TextAnswer.{TextAnswer}
-use Rattle.wgsl_read.specs.declared.TextAnswer.TheVariants as text
+use Rattle.place_lookup.specs.Answer.{PlaceAnswer}
+use Rattle.place_lookup.specs.Answer as place
+use Rattle.proc_plain_types.specs.PlainTypes.{PlainAnswer}
+use Rattle.proc_plain_types.specs.PlainTypes as plain
+use Rattle.spirv_read.specs.Section.{Section}
+use Rattle.spirv_read.specs.Section as section
+use Rattle.place_report.specs.Answer.{ReportAnswer}
+use Rattle.place_report.specs.Answer as report
+use Rattle.wgsl_read.specs.TextAnswer.{TextAnswer}
+use Rattle.wgsl_read.specs.TextAnswer as text
 
 -- ---- 01's number and values for each answer
 abbrev pub answer_words : Outcome → List ℕ

@@ -2,17 +2,22 @@
 #![tactic(auto)]
 
 ghost use Rattle.std.specs.Prelude.{◌≡◌, ◌∷◌, ◌≤◌, length, drop};
-ghost use Rattle.ir_records.specs.declared.Outcome.TheVariants.{Refused};
-ghost use Rattle.doors_words.specs.Words.{slots_outcome, place_outcome, totals_outcome, plain_outcome, touched_of, partly_of, byte_of, leaf_of, carried_of, wasted_of, with_answer, with_two, with_numbers, with_masks, pass_of, chosen_word, with_pass, with_tried, with_one, section_outcome, types_read, members_read, text_outcome, text_types, text_members};
+ghost use Rattle.ir_records.specs.Outcome.{Refused};
+ghost use Rattle.ir_records.specs.Refusal.{outcome_of};
+ghost use Rattle.immediates_ranges.specs.Slots.{slots_answer_of};
+ghost use Rattle.immediates_pass.specs.Pass.{tried_of};
+ghost use Rattle.place_lookup.specs.Answer.{place_answer_of};
+ghost use Rattle.place_report.specs.Answer.{report_answer_of};
+ghost use Rattle.proc_plain_types.specs.PlainTypes.{plain_answer_of};
+ghost use Rattle.doors_words.specs.Words.{byte_of, leaf_of, carried_of, wasted_of, with_answer, with_two, with_numbers, with_masks, pass_of, chosen_word, with_pass, with_tried, with_one};
+ghost use Rattle.doors_words.specs.Read.{read_outcome, records_of};
 
 use immediates_pass::{Pass, Tried};
-use immediates_ranges::SlotsAnswer;
-use ir_records::Outcome;
-use place_lookup::PlaceAnswer;
-use place_report::ReportAnswer;
-use proc_plain_types::PlainAnswer;
-use spirv_read::Section;
-use wgsl_read::TextAnswer;
+use immediates_ranges::Slots;
+use ir_records::{Fault, Records, Refusal};
+use place_descent::Place;
+use place_report::Totals;
+use proc_plain_types::PlainLayout;
 
 fn put_four(answer: &mut [u32], a: u32, b: u32, c: u32, d: u32)
     requires { 4 ≤ length answer.old }
@@ -25,20 +30,21 @@ fn put_four(answer: &mut [u32], a: u32, b: u32, c: u32, d: u32)
 }
 
 // The answer as four words; an answer buffer of fewer is left as it was.
-pub fn put_answer(answer: &mut [u32], outcome: Outcome)
-    ensures { answer.new ≡ with_answer answer.old outcome }
+pub fn put_answer<T>(answer: &mut [u32], outcome: &Result<T, Refusal>)
+    ensures { answer.new ≡ with_answer answer.old (outcome_of outcome.now) }
 {
     if answer.len() < 4 {
         return;
     }
     match outcome {
-        Outcome::Accepted => put_four(answer, 0, 0, 0, 0),
-        Outcome::Refused {
-            number,
-            ty,
-            member,
-            detail,
-        } => put_four(answer, number, ty, member, detail),
+        Ok(_) => put_four(answer, 0, 0, 0, 0),
+        Err(refusal) => put_four(
+            answer,
+            u32::from(refusal.fault),
+            refusal.ty,
+            refusal.member,
+            refusal.detail,
+        ),
     }
 }
 
@@ -52,188 +58,41 @@ pub fn put_two(words: &mut [u64], a: u64, b: u64)
     words[1] = b;
 }
 
-pub fn slots_outcome(found: SlotsAnswer) -> Outcome
-    ensures { result ≡ slots_outcome found }
+// Both masks, zeros on a refusal; a buffer of one word gets the first.
+pub fn put_masks(mask: &mut [u64], found: Result<Slots, Refusal>)
+    ensures { mask.new ≡ with_masks mask.old (slots_answer_of found) }
 {
-    match found {
-        SlotsAnswer::Slots {
-            touched: _,
-            partly: _,
-        } => Outcome::Accepted,
-        SlotsAnswer::Refused {
-            number,
-            ty,
-            member,
-            detail,
-        } => Outcome::Refused {
-            number,
-            ty,
-            member,
-            detail,
-        },
-    }
-}
-
-fn touched_of(found: SlotsAnswer) -> u64
-    ensures { result ≡ touched_of found }
-{
-    match found {
-        SlotsAnswer::Slots { touched, partly: _ } => touched,
-        SlotsAnswer::Refused {
-            number: _,
-            ty: _,
-            member: _,
-            detail: _,
-        } => 0,
-    }
-}
-
-fn partly_of(found: SlotsAnswer) -> u64
-    ensures { result ≡ partly_of found }
-{
-    match found {
-        SlotsAnswer::Slots { touched: _, partly } => partly,
-        SlotsAnswer::Refused {
-            number: _,
-            ty: _,
-            member: _,
-            detail: _,
-        } => 0,
-    }
-}
-
-// Both masks; a buffer of one word gets the first.
-pub fn put_masks(mask: &mut [u64], found: SlotsAnswer)
-    ensures { mask.new ≡ with_masks mask.old found }
-{
+    let slots = found.unwrap_or(Slots {
+        touched: 0,
+        partly: 0,
+    });
     if mask.len() < 1 {
         return;
     }
-    mask[0] = touched_of(found);
+    mask[0] = slots.touched;
     if mask.len() < 2 {
         return;
     }
-    mask[1] = partly_of(found);
+    mask[1] = slots.partly;
 }
 
-pub fn place_outcome(place: PlaceAnswer) -> Outcome
-    ensures { result ≡ place_outcome place }
+// A leaf's byte place and its type, zeros on a refusal.
+pub fn put_place(words: &mut [u64], found: Result<Place, Refusal>)
+    ensures { words.new ≡ with_two words.old (byte_of (place_answer_of found)) (leaf_of (place_answer_of found)) }
 {
-    match place {
-        PlaceAnswer::Found { byte: _, leaf: _ } => Outcome::Accepted,
-        PlaceAnswer::Refused {
-            number,
-            ty,
-            member,
-            detail,
-        } => Outcome::Refused {
-            number,
-            ty,
-            member,
-            detail,
-        },
-    }
+    let place = found.unwrap_or(Place { byte: 0, leaf: 0 });
+    put_two(words, place.byte, place.leaf as u64);
 }
 
-pub fn byte_of(place: PlaceAnswer) -> u64
-    ensures { result ≡ byte_of place }
+// The bytes carried and wasted, zeros on a refusal.
+pub fn put_totals(words: &mut [u64], found: Result<Totals, Refusal>)
+    ensures { words.new ≡ with_two words.old (carried_of (report_answer_of found)) (wasted_of (report_answer_of found)) }
 {
-    match place {
-        PlaceAnswer::Found { byte, leaf: _ } => byte,
-        PlaceAnswer::Refused {
-            number: _,
-            ty: _,
-            member: _,
-            detail: _,
-        } => 0,
-    }
-}
-
-pub fn leaf_of(place: PlaceAnswer) -> u32
-    ensures { result ≡ leaf_of place }
-{
-    match place {
-        PlaceAnswer::Found { byte: _, leaf } => leaf,
-        PlaceAnswer::Refused {
-            number: _,
-            ty: _,
-            member: _,
-            detail: _,
-        } => 0,
-    }
-}
-
-pub fn totals_outcome(totals: ReportAnswer) -> Outcome
-    ensures { result ≡ totals_outcome totals }
-{
-    match totals {
-        ReportAnswer::Totals {
-            carried: _,
-            wasted: _,
-        } => Outcome::Accepted,
-        ReportAnswer::Refused {
-            number,
-            ty,
-            member,
-            detail,
-        } => Outcome::Refused {
-            number,
-            ty,
-            member,
-            detail,
-        },
-    }
-}
-
-pub fn carried_of(totals: ReportAnswer) -> u64
-    ensures { result ≡ carried_of totals }
-{
-    match totals {
-        ReportAnswer::Totals { carried, wasted: _ } => carried,
-        ReportAnswer::Refused {
-            number: _,
-            ty: _,
-            member: _,
-            detail: _,
-        } => 0,
-    }
-}
-
-pub fn wasted_of(totals: ReportAnswer) -> u64
-    ensures { result ≡ wasted_of totals }
-{
-    match totals {
-        ReportAnswer::Totals { carried: _, wasted } => wasted,
-        ReportAnswer::Refused {
-            number: _,
-            ty: _,
-            member: _,
-            detail: _,
-        } => 0,
-    }
-}
-
-pub fn plain_outcome(found: PlainAnswer) -> Outcome
-    ensures { result ≡ plain_outcome found }
-{
-    match found {
-        PlainAnswer::Found {
-            size: _,
-            alignment: _,
-            step: _,
-        } => Outcome::Accepted,
-        PlainAnswer::Refused {
-            number,
-            ty,
-            member,
-            detail,
-        } => Outcome::Refused {
-            number,
-            ty,
-            member,
-            detail,
-        },
-    }
+    let totals = found.unwrap_or(Totals {
+        carried: 0,
+        wasted: 0,
+    });
+    put_two(words, totals.carried, totals.wasted);
 }
 
 fn put_three(words: &mut [u32], a: u32, b: u32, c: u32)
@@ -246,24 +105,15 @@ fn put_three(words: &mut [u32], a: u32, b: u32, c: u32)
 }
 
 // Size, alignment and column step, zeros on a refusal; a buffer of fewer words is left as it was.
-pub fn put_numbers(numbers: &mut [u32], found: PlainAnswer)
-    ensures { numbers.new ≡ with_numbers numbers.old found }
+pub fn put_numbers(numbers: &mut [u32], found: Result<PlainLayout, Refusal>)
+    ensures { numbers.new ≡ with_numbers numbers.old (plain_answer_of found) }
 {
     if numbers.len() < 3 {
         return;
     }
     match found {
-        PlainAnswer::Found {
-            size,
-            alignment,
-            step,
-        } => put_three(numbers, size, alignment, step),
-        PlainAnswer::Refused {
-            number: _,
-            ty: _,
-            member: _,
-            detail: _,
-        } => put_three(numbers, 0, 0, 0),
+        Ok(plain) => put_three(numbers, plain.size, plain.alignment, plain.step),
+        Err(_) => put_three(numbers, 0, 0, 0),
     }
 }
 
@@ -302,18 +152,10 @@ pub fn put_pass(words: &mut [u64], pass: Pass)
 
 // The pass after an accepted step; a refused one leaves the words as they were.
 pub fn put_tried(words: &mut [u64], tried: Tried)
-    ensures { words.new ≡ with_tried words.old tried }
+    ensures { words.new ≡ with_tried words.old (tried_of tried) }
 {
-    let pass = tried.pass;
-    let outcome = tried.outcome;
-    match outcome {
-        Outcome::Accepted => put_pass(words, pass),
-        Outcome::Refused {
-            number: _,
-            ty: _,
-            member: _,
-            detail: _,
-        } => {}
+    if tried.outcome.is_ok() {
+        put_pass(words, tried.pass);
     }
 }
 
@@ -327,50 +169,31 @@ pub fn put_one(words: &mut [u64], a: u64)
 }
 
 // The answer to a step on fewer than three words.
-pub fn short_pass() -> Outcome
-    ensures { result ≡ Refused 1 0 0 0 }
+pub fn short_pass() -> Result<(), Refusal>
+    ensures { outcome_of result ≡ Refused 1 0 0 0 }
 {
-    Outcome::Refused {
-        number: 1,
-        ty: 0,
-        member: 0,
-        detail: 0,
+    Err(Refusal::of(Fault::TableLength))
+}
+
+// What a reader read as an answer of four words; a refusal names no type.
+pub fn put_read(answer: &mut [u32], read: Result<Records, Fault>)
+    ensures { answer.new ≡ with_answer answer.old (read_outcome read) }
+{
+    match read {
+        Ok(records) => put_answer(answer, &Ok(records)),
+        Err(fault) => put_answer::<Records>(answer, &Err(Refusal::of(fault))),
     }
 }
 
-pub fn section_outcome(section: Section) -> Outcome
-    ensures { result ≡ section_outcome section }
+// How many records were read, none on a refusal.
+pub fn put_records(words: &mut [u32], read: Result<Records, Fault>)
+    ensures { words.new ≡ with_two words.old (records_of read).types (records_of read).members }
 {
-    match section {
-        Section::Read {
-            types: _,
-            members: _,
-        } => Outcome::Accepted,
-        Section::Refused { number } => Outcome::Refused {
-            number,
-            ty: 0,
-            member: 0,
-            detail: 0,
-        },
-    }
-}
-
-pub fn types_read(section: Section) -> u32
-    ensures { result ≡ types_read section }
-{
-    match section {
-        Section::Read { types, members: _ } => types,
-        Section::Refused { number: _ } => 0,
-    }
-}
-
-pub fn members_read(section: Section) -> u32
-    ensures { result ≡ members_read section }
-{
-    match section {
-        Section::Read { types: _, members } => members,
-        Section::Refused { number: _ } => 0,
-    }
+    let records = read.unwrap_or(Records {
+        types: 0,
+        members: 0,
+    });
+    put_counts(words, records.types, records.members);
 }
 
 // Fewer than two words are left as they were.
@@ -382,39 +205,4 @@ pub fn put_counts(words: &mut [u32], a: u32, b: u32)
     }
     words[0] = a;
     words[1] = b;
-}
-
-pub fn text_outcome(found: TextAnswer) -> Outcome
-    ensures { result ≡ text_outcome found }
-{
-    match found {
-        TextAnswer::Records {
-            types: _,
-            members: _,
-        } => Outcome::Accepted,
-        TextAnswer::Refused(number) => Outcome::Refused {
-            number,
-            ty: 0,
-            member: 0,
-            detail: 0,
-        },
-    }
-}
-
-pub fn text_types(found: TextAnswer) -> u32
-    ensures { result ≡ text_types found }
-{
-    match found {
-        TextAnswer::Records { types, members: _ } => types,
-        TextAnswer::Refused(_) => 0,
-    }
-}
-
-pub fn text_members(found: TextAnswer) -> u32
-    ensures { result ≡ text_members found }
-{
-    match found {
-        TextAnswer::Records { types: _, members } => members,
-        TextAnswer::Refused(_) => 0,
-    }
 }

@@ -8,12 +8,12 @@ use lib.Dec.{leb}
 use lib.ListN.{length}
 use borrow.Author.Tests.{lt-leb}
 use Rattle.ir_records.specs.Fields.{tables_fit}
-use Rattle.ir_records.specs.declared.Outcome.TheVariants as outcome
+use Rattle.ir_records.specs.Outcome as outcome
 use Rattle.valid_type_info.specs.declared.UniformRule.{UniformRule}
 use Rattle.valid_arena.specs.Arena.{arena_fits, arena_answer, arena_words}
 use Rattle.place_lookup.specs.Place.{lookup_answer}
-use Rattle.place_lookup.specs.declared.PlaceAnswer.TheVariants as place
-use Rattle.immediates_ranges.specs.declared.SlotsAnswer.TheVariants as slots
+use Rattle.place_lookup.specs.Answer as place
+use Rattle.immediates_ranges.specs.Answer as slots
 use Rattle.immediates_slots.specs.Immediates.{slots_answer}
 
 module _ (c : ℕ) (ts rows ms : List ℕ) (long : 16384 < length ms) where

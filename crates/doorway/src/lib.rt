@@ -1,6 +1,9 @@
 // Members as a lent run of member records, taken apart for the word core. The uniform rule is a word, 0 the older and 1 the newer; another word is number 1.
 #![tactic(auto)]
 
+ghost use Rattle.ir_records.specs.Refusal.{outcome_of};
+ghost use Rattle.place_lookup.specs.Answer.{place_answer_of};
+ghost use Rattle.immediates_ranges.specs.Slots.{slots_answer_of};
 ghost use Rattle.std.specs.Prelude.{◌≡◌, ◌*◌, ◌≤◌, take};
 ghost use Rattle.ir_records.specs.Record.{member_words};
 ghost use Rattle.valid_arena.specs.Arena.{arena_answer, arena_words};
@@ -9,10 +12,10 @@ ghost use Rattle.place_lookup.specs.Place.{lookup_answer};
 ghost use Rattle.immediates_slots.specs.Immediates.{slots_answer};
 ghost use Rattle.ir_member_words.specs.Flat.{flat};
 
-use immediates_ranges::SlotsAnswer;
+use immediates_ranges::Slots;
 use ir_member_words::Member;
-use ir_records::Outcome;
-use place_lookup::PlaceAnswer;
+use ir_records::Refusal;
+use place_descent::Place;
 
 // The arena check on the words of n records.
 fn check_words(
@@ -22,9 +25,9 @@ fn check_words(
     capabilities: u32,
     rule: u32,
     rows: &mut [u32],
-) -> Outcome
+) -> Result<(), Refusal>
     requires { n ≤ 4097 }
-    ensures value { result ≡ arena_answer (capabilities_by rule capabilities) types.now (take (n * member_words) words) rows.old }
+    ensures value { outcome_of result ≡ arena_answer (capabilities_by rule capabilities) types.now (take (n * member_words) words) rows.old }
     ensures rows_after { rows.new ≡ arena_words (rule_of rule) (capabilities_by rule capabilities) types.now (take (n * member_words) words) rows.old }
 {
     let e = n * ir_records::MEMBER_WORDS;
@@ -40,8 +43,8 @@ pub fn check_members(
     capabilities: u32,
     rule: u32,
     rows: &mut [u32],
-) -> Outcome
-    ensures value { result ≡ arena_answer (capabilities_by rule capabilities) types.now (flat members.now) rows.old }
+) -> Result<(), Refusal>
+    ensures value { outcome_of result ≡ arena_answer (capabilities_by rule capabilities) types.now (flat members.now) rows.old }
     ensures rows_after { rows.new ≡ arena_words (rule_of rule) (capabilities_by rule capabilities) types.now (flat members.now) rows.old }
 {
     let n = ir_member_words::fit(members.len());
@@ -59,9 +62,9 @@ fn place_words(
     rows: &mut [u32],
     start: u32,
     steps: &[u32],
-) -> PlaceAnswer
+) -> Result<Place, Refusal>
     requires { n ≤ 4097 }
-    ensures value { result ≡ lookup_answer (capabilities_by rule capabilities) types.now (take (n * member_words) words) rows.old start steps.now }
+    ensures value { place_answer_of result ≡ lookup_answer (capabilities_by rule capabilities) types.now (take (n * member_words) words) rows.old start steps.now }
     ensures rows_after { rows.new ≡ arena_words (rule_of rule) (capabilities_by rule capabilities) types.now (take (n * member_words) words) rows.old }
 {
     let e = n * ir_records::MEMBER_WORDS;
@@ -79,8 +82,8 @@ pub fn place_members(
     rows: &mut [u32],
     start: u32,
     steps: &[u32],
-) -> PlaceAnswer
-    ensures value { result ≡ lookup_answer (capabilities_by rule capabilities) types.now (flat members.now) rows.old start steps.now }
+) -> Result<Place, Refusal>
+    ensures value { place_answer_of result ≡ lookup_answer (capabilities_by rule capabilities) types.now (flat members.now) rows.old start steps.now }
     ensures rows_after { rows.new ≡ arena_words (rule_of rule) (capabilities_by rule capabilities) types.now (flat members.now) rows.old }
 {
     let n = ir_member_words::fit(members.len());
@@ -98,9 +101,9 @@ fn slots_words(
     rows: &mut [u32],
     ty: u32,
     offset: u32,
-) -> SlotsAnswer
+) -> Result<Slots, Refusal>
     requires { n ≤ 4097 }
-    ensures value { result ≡ slots_answer (capabilities_by rule capabilities) types.now (take (n * member_words) words) rows.old ty offset }
+    ensures value { slots_answer_of result ≡ slots_answer (capabilities_by rule capabilities) types.now (take (n * member_words) words) rows.old ty offset }
     ensures rows_after { rows.new ≡ arena_words (rule_of rule) (capabilities_by rule capabilities) types.now (take (n * member_words) words) rows.old }
 {
     let e = n * ir_records::MEMBER_WORDS;
@@ -118,8 +121,8 @@ pub fn slots_members(
     rows: &mut [u32],
     ty: u32,
     offset: u32,
-) -> SlotsAnswer
-    ensures value { result ≡ slots_answer (capabilities_by rule capabilities) types.now (flat members.now) rows.old ty offset }
+) -> Result<Slots, Refusal>
+    ensures value { slots_answer_of result ≡ slots_answer (capabilities_by rule capabilities) types.now (flat members.now) rows.old ty offset }
     ensures rows_after { rows.new ≡ arena_words (rule_of rule) (capabilities_by rule capabilities) types.now (flat members.now) rows.old }
 {
     let n = ir_member_words::fit(members.len());

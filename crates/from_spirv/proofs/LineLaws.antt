@@ -4,8 +4,8 @@ use mathlib.Core.Path.{◌≡◌, sym, ◌∙◌, ap, subst}
 use mathlib.Core.List.{List}
 use Prim.Native.Nat.{ℕ}
 use Rattle.spirv_read.specs.Read.{read_into, section_of, types_after, members_after}
-use Rattle.spirv_read.specs.declared.Section.{Section}
-use Rattle.spirv_read.specs.declared.Section.TheVariants as section
+use Rattle.spirv_read.specs.Section.{Section}
+use Rattle.spirv_read.specs.Section as section
 use Rattle.program_output.specs.Bytes.{Puts}
 use Rattle.program_output.specs.Answers.{refusal_line}
 use Rattle.program_record_lines.specs.Lines.{record_lines}

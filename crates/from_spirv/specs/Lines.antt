@@ -2,8 +2,8 @@
 -- Assumes nothing.
 use Rattle.std.specs.Prelude.{List, ℕ, replicate}
 use Rattle.spirv_read.specs.Read.{read_into, section_of, types_after, members_after}
-use Rattle.spirv_read.specs.declared.Section.{Section}
-use Rattle.spirv_read.specs.declared.Section.TheVariants as section
+use Rattle.spirv_read.specs.Section.{Section}
+use Rattle.spirv_read.specs.Section as section
 use Rattle.program_output.specs.Answers.{refusal_line}
 use Rattle.program_record_lines.specs.Lines.{record_lines}
 

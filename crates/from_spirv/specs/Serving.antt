@@ -2,10 +2,9 @@
 -- How many words are held: none fewer than before, and no more than there is room for.
 -- Assumes nothing.
 use Rattle.std.specs.Prelude.{ℕ, ◌≤◌}
-use Rattle.from_spirv.specs.declared.Held.{Held}
-use Rattle.from_spirv.specs.declared.Held.TheVariants.{Words, Odd, Long}
+use Rattle.std.specs.Prelude.{Result, Ok, Err}
+use Rattle.from_spirv.specs.declared.InputError.{InputError}
 
-abbrev pub HeldWithin : (least most : ℕ) → Held → Type 0
-HeldWithin least most (Words n) = (least ≤ n) × (n ≤ most)
-HeldWithin least most Odd = Unit {0}
-HeldWithin least most Long = Unit {0}
+abbrev pub HeldWithin : (least most : ℕ) → Result ℕ InputError → Type 0
+HeldWithin least most (Ok n) = (least ≤ n) × (n ≤ most)
+HeldWithin least most (Err error) = Unit {0}

@@ -8,17 +8,16 @@ ghost use Rattle.program_output.specs.Bytes.{Puts};
 ghost use Rattle.from_spirv.specs.Serving.{HeldWithin};
 ghost use Rattle.from_spirv.specs.Lines.{module_lines};
 
+use ir_records::Refusal;
 use program_output::Buffer;
-use spirv_read::Section;
 use std::io::Read;
 use std::rt::{Env, Files};
 
 const STDOUT: i32 = 1;
 
-// How the input ended: so many words, no whole number of words, or more than are held.
-#[derive(Clone, Copy)]
-enum Held {
-    Words(usize),
+// Why an input is no module: it has no whole number of words, or more than are held.
+#[derive(Clone, Copy, Debug, PartialEq, Eq)]
+enum InputError {
     Odd,
     Long,
 }
@@ -30,11 +29,15 @@ fn put_answer(out: &mut Buffer, at: usize, words: &[u32]) -> usize
     let mut types = [0u32; 6144];
     let mut members = [0u32; 16384];
     match spirv_reader::read_module(words, &mut types, &mut members) {
-        Section::Read {
-            types: t,
-            members: m,
-        } => program_record_lines::put_records(out, at, &types, t, &members, m),
-        Section::Refused { number } => program_output::put_refusal(out, at, number, 0, 0, 0),
+        Ok(records) => program_record_lines::put_records(
+            out,
+            at,
+            &types,
+            records.types,
+            &members,
+            records.members,
+        ),
+        Err(fault) => program_output::put_refusal(out, at, Refusal::of(fault)),
     }
 }
 
@@ -45,21 +48,21 @@ fn answer(words: &[u32]) {
 }
 
 // What is held with the bytes of one read.
-fn with_bytes(words: &mut [u32], held: usize, bytes: &[u8]) -> Held
+fn with_bytes(words: &mut [u32], held: usize, bytes: &[u8]) -> Result<usize, InputError>
     requires { held ≤ length words.old }
     ensures { HeldWithin held (length words.old) result }
 {
     let got = bytes.len();
     if got % 4 != 0 {
-        return Held::Odd;
+        return Err(InputError::Odd);
     }
     let more = got / 4;
     let free = words.len() - held;
     if free < more {
-        return Held::Long;
+        return Err(InputError::Long);
     }
     let now = spirv_input::append(words, held, bytes);
-    Held::Words(now)
+    Ok(now)
 }
 
 // Reads until the buffer is full, the input ends or a read fails, and says how many bytes stand at the start of the buffer.
@@ -67,6 +70,7 @@ fn read_full<S: Read>(source: &mut S, buffer: &mut [u8]) -> usize
     ensures { IsPrefixLen result buffer.new }
 {
     let mut held: usize = 0;
+    // Kept: a read gives as many bytes as it has, so no range counts it.
     while held < buffer.len() {
         match source.read(&mut buffer[held..]) {
             Ok(0) | Err(_) => return held,
@@ -77,7 +81,7 @@ fn read_full<S: Read>(source: &mut S, buffer: &mut [u8]) -> usize
 }
 
 // What one full buffer of the input adds to the words that are held.
-fn read_more<S: Read>(source: &mut S, words: &mut [u32], held: usize) -> Held
+fn read_more<S: Read>(source: &mut S, words: &mut [u32], held: usize) -> Result<usize, InputError>
     requires { held ≤ length words.old }
     ensures { HeldWithin held (length words.old) result }
 {
@@ -87,40 +91,32 @@ fn read_more<S: Read>(source: &mut S, words: &mut [u32], held: usize) -> Held
 }
 
 // All words of the input.
-fn read_all<S: Read>(source: &mut S, words: &mut [u32]) -> Held
+fn read_all<S: Read>(source: &mut S, words: &mut [u32]) -> Result<usize, InputError>
     ensures { HeldWithin 0 (length words.old) result }
 {
     let mut held: usize = 0;
+    // Kept: it ends where nothing more is held, after as many buffers as the input has.
     loop {
-        match read_more(source, words, held) {
-            Held::Words(now) => {
-                if now <= held {
-                    return Held::Words(held);
-                }
-                held = now;
-            }
-            Held::Odd => {
-                return Held::Odd;
-            }
-            Held::Long => {
-                return Held::Long;
-            }
+        let now = read_more(source, words, held)?;
+        if now <= held {
+            return Ok(held);
         }
+        held = now;
     }
 }
 
 // The module in the words that are held.
-fn answer_held(words: &[u32], held: Held) {
+fn answer_held(words: &[u32], held: Result<usize, InputError>) {
     match held {
-        Held::Words(n) => {
+        Ok(n) => {
             if n <= words.len() {
                 answer(&words[..n]);
             }
         }
-        Held::Odd => {
+        Err(InputError::Odd) => {
             program_files::tell(b"the module is no whole number of words\n");
         }
-        Held::Long => {
+        Err(InputError::Long) => {
             program_files::tell(b"the module is longer than 1048576 words\n");
         }
     }

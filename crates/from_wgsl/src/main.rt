@@ -4,7 +4,7 @@
 
 ghost use Rattle.std.specs.Prelude.{◌≡◌, length};
 
-use program_files::Held;
+use program_files::ReadError;
 
 fn answer(text: &[u8]) {
     let mut out = [0u8; 1114112];
@@ -13,17 +13,17 @@ fn answer(text: &[u8]) {
 }
 
 // The text in the bytes that are held.
-fn answer_held(bytes: &[u8], held: Held) {
+fn answer_held(bytes: &[u8], held: Result<usize, ReadError>) {
     match held {
-        Held::Bytes(n) => {
+        Ok(n) => {
             if n <= bytes.len() {
                 answer(&bytes[..n]);
             }
         }
-        Held::Long => {
+        Err(ReadError::Long) => {
             program_files::tell(b"the text is longer than 1048576 bytes\n");
         }
-        Held::Failed => {
+        Err(ReadError::Failed) => {
             program_files::tell(b"the text cannot be read\n");
         }
     }

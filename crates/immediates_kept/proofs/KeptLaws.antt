@@ -10,8 +10,8 @@ use lib.Dec.{ltb}
 use lib.ListN.{length, get_or, set, replicate, length-set, get_or-replicate, get_or-eq_default, length-replicate}
 use lib.Seq.{get_or-set_same, get_or-set_other}
 use Rattle.ir_records.proofs.ResultLaws.{true_T}
-use Rattle.immediates_part.specs.declared.Part.{Part}
-use Rattle.immediates_part.specs.declared.Part.TheVariants.{Within, Past}
+use Rattle.immediates_part.specs.Part.{Part}
+use Rattle.immediates_part.specs.Part.{Within, Past}
 use Rattle.immediates_kept.specs.Kept.{kept_word, is_kept, kept_part, with_kept, Keeps}
 
 -- equal words make equal parts

@@ -3,8 +3,8 @@
 -- Assumes nothing.
 use Rattle.std.specs.Prelude.{◌≡◌, Bool, true, List, ℕ, ◌+◌, ◌*◌, ◌<◌, eqb, ltb, get_or, set}
 use Rattle.ir_records.specs.Result.{pick}
-use Rattle.immediates_part.specs.declared.Part.{Part}
-use Rattle.immediates_part.specs.declared.Part.TheVariants.{Within, Past}
+use Rattle.immediates_part.specs.Part.{Part}
+use Rattle.immediates_part.specs.Part.{Within, Past}
 
 -- word k of the four of type ty at remainder low
 abbrev pub kept_word : (kept : List ℕ) (ty low k : ℕ) → ℕ

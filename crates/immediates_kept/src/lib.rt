@@ -2,9 +2,11 @@
 #![tactic(auto)]
 
 ghost use Rattle.std.specs.Prelude.{◌≡◌, ◌+◌, ◌*◌, ◌≤◌, ◌<◌, length, set};
+ghost use Rattle.immediates_part.specs.Part.{part_found};
 ghost use Rattle.immediates_kept.specs.Kept.{is_kept, kept_part, with_kept};
 
 use immediates_part::Part;
+use immediates_ranges::Slots;
 
 const TYPE_WORDS: usize = 16;
 
@@ -31,51 +33,45 @@ pub fn is_kept(kept: &[u64], ty: u32, low: u32) -> bool
     0 < kept[at]
 }
 
-// The part of type ty that is kept.
-pub fn kept_part(kept: &[u64], ty: u32, low: u32) -> Part
+// The part of type ty that is kept; None is kept as 25.
+pub fn kept_part(kept: &[u64], ty: u32, low: u32) -> Option<Part>
     requires ty_in_bounds { ty * 16 + 16 ≤ length kept.now }
     requires low_bound { low < 4 }
-    ensures { result ≡ kept_part kept.now ty low }
+    ensures { part_found result ≡ kept_part kept.now ty low }
 {
     let at = place(ty, low);
-    if kept[at] == KEPT_WITHIN {
-        return Part::Within {
+    if kept[at] != KEPT_WITHIN {
+        return None;
+    }
+    Some(Part {
+        slots: Slots {
             touched: kept[at + 1],
             partly: kept[at + 2],
-            room: kept[at + 3],
-        };
-    }
-    Part::Past
+        },
+        room: kept[at + 3],
+    })
 }
 
 // Stores the four words of a part.
-fn store(kept: &mut [u64], at: usize, touched: u64, partly: u64, room: u64)
+fn store(kept: &mut [u64], at: usize, part: Part)
     requires { at + 3 < length kept.old }
-    ensures { kept.new ≡ set (set (set (set kept.old (at + 3) room) (at + 2) partly) (at + 1) touched) at 2 }
+    ensures { kept.new ≡ set (set (set (set kept.old (at + 3) part.room) (at + 2) part.slots.partly) (at + 1) part.slots.touched) at 2 }
 {
-    kept[at + 3] = room;
-    kept[at + 2] = partly;
-    kept[at + 1] = touched;
+    kept[at + 3] = part.room;
+    kept[at + 2] = part.slots.partly;
+    kept[at + 1] = part.slots.touched;
     kept[at] = KEPT_WITHIN;
 }
 
 // Keeps a part of type ty.
-pub fn keep(kept: &mut [u64], ty: u32, low: u32, part: Part)
+pub fn keep(kept: &mut [u64], ty: u32, low: u32, part: Option<Part>)
     requires ty_in_bounds { ty * 16 + 16 ≤ length kept.old }
     requires low_bound { low < 4 }
-    ensures { kept.new ≡ with_kept kept.old ty low part }
+    ensures { kept.new ≡ with_kept kept.old ty low (part_found part) }
 {
     let at = place(ty, low);
     match part {
-        Part::Within {
-            touched,
-            partly,
-            room,
-        } => {
-            store(kept, at, touched, partly, room);
-        }
-        Part::Past => {
-            kept[at] = KEPT_PAST;
-        }
+        Some(part) => store(kept, at, part),
+        None => kept[at] = KEPT_PAST,
     }
 }

@@ -10,11 +10,11 @@ use borrow.Author.Tests.{le-leb, lt-leb, ne_eqb}
 use Rattle.ir_records.specs.Result.{pick}
 use Rattle.ir_records.proofs.ResultLaws.{pick_alike}
 use Rattle.proc_alignment.specs.Alignment.{most}
-use Rattle.immediates_ranges.specs.declared.Slots.{Slots}
-use Rattle.immediates_ranges.specs.declared.Slots.TheVariants as slots
+use Rattle.immediates_ranges.specs.Slots.{Slots}
+use Rattle.immediates_ranges.specs.Slots as slots
 use Rattle.immediates_ranges.specs.Slots.{slot_count, slot_bytes, covers, covers_partly, mask_of, range_slots, union, join}
-use Rattle.immediates_part.specs.declared.Part.{Part}
-use Rattle.immediates_part.specs.declared.Part.TheVariants.{Within, Past}
+use Rattle.immediates_part.specs.Part.{Part}
+use Rattle.immediates_part.specs.Part.{Within, Past}
 use Rattle.immediates_part.specs.Part.{slots_in, with_room, nothing_at, range_room, range_part, join_parts, moved}
 use Rattle.immediates_part.proofs.RaisedLaws.{raised_union, raised_nothing, raised_touched, raised_partly}
 

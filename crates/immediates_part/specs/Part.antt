@@ -1,14 +1,18 @@
 -- A part with its room: its two masks (immediates_ranges: Slots), and how many bytes further on it may stand before number 25. No term of 01 or 02: by it
 -- the slots of a type at one offset give those at every offset that is some fours further on.
 -- Assumes nothing.
-use Rattle.std.specs.Prelude.{ℕ, ◌+◌, ◌-◌, ◌*◌, ◌%◌, ◌^◌, min, eqb, leb}
+use Rattle.std.specs.Prelude.{ℕ, ◌+◌, ◌-◌, ◌*◌, ◌%◌, ◌^◌, min, eqb, leb, Option, Some, None}
 use Rattle.ir_records.specs.Result.{pick}
 use Rattle.proc_alignment.specs.Alignment.{most}
-use Rattle.immediates_ranges.specs.declared.Slots.{Slots}
-use Rattle.immediates_ranges.specs.declared.Slots.TheVariants as slots
+use Rattle.immediates_ranges.specs.Slots.{Slots}
+use Rattle.immediates_ranges.specs.Slots as slots
 use Rattle.immediates_ranges.specs.Slots.{slot_count, slot_bytes, range_slots, union}
-use Rattle.immediates_part.specs.declared.Part.{Part}
-use Rattle.immediates_part.specs.declared.Part.TheVariants.{Within, Past}
+use Rattle.immediates_part.specs.declared.Part as code
+
+-- Past: number 25
+pub data Part : Type 0 where
+  Within : (touched partly room : ℕ) → Part
+  Past : Part
 
 -- the slots of a part
 abbrev pub slots_in : Part → Slots
@@ -46,3 +50,13 @@ raised mask n = mask * 2 ^ n % 2 ^ slot_count
 abbrev pub moved : (n : ℕ) → Part → Part
 moved n (Within touched partly room) = pick (leb (4 * n) room) (Within (raised touched n) (raised partly n) (room - 4 * n)) Past
 moved n Past = Past
+
+-- ---- what the code's answers say
+-- a part that is found
+abbrev pub part_in : code.Part → Part
+part_in p = Within p.slots.touched p.slots.partly p.room
+
+-- None is number 25
+abbrev pub part_found : Option code.Part → Part
+part_found (Some p) = part_in p
+part_found None = Past

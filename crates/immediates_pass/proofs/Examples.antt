@@ -3,11 +3,11 @@
 use mathlib.Core.Path.{◌≡◌, refl}
 use mathlib.Core.Bool.{true, false}
 use mathlib.Core.List.{[], ◌∷◌}
-use Rattle.ir_records.specs.declared.Outcome.TheVariants as outcome
-use Rattle.immediates_ranges.specs.declared.SlotsAnswer.TheVariants as answer
+use Rattle.ir_records.specs.Outcome as outcome
+use Rattle.immediates_ranges.specs.Answer as answer
 use Rattle.immediates_ranges.specs.Slots.{covers, covers_all, mask_of, range_slots, contains_below}
 use Rattle.immediates_pass.specs.declared.Pass.{Pass}
-use Rattle.immediates_pass.specs.declared.Tried.{Tried}
+use Rattle.immediates_pass.specs.Pass.{Tried}
 use Rattle.immediates_pass.specs.Pass.{range_answer, SetRange, Dispatch, tried}
 use Rattle.immediates_pass.specs.History.{after}
 

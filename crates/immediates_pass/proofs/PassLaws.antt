@@ -10,10 +10,10 @@ use lib.Dec.{T, eqb}
 use Rattle.ir_records.specs.Result.{pick}
 use Rattle.ir_records.proofs.ResultLaws.{or_cases}
 use Rattle.valid_flags.specs.Flags.{bit}
-use Rattle.immediates_ranges.specs.declared.Slots.{Slots}
-use Rattle.immediates_ranges.specs.declared.Slots.TheVariants.{Mask, Past}
-use Rattle.immediates_ranges.specs.declared.SlotsAnswer.{SlotsAnswer}
-use Rattle.immediates_ranges.specs.declared.SlotsAnswer.TheVariants as answer
+use Rattle.immediates_ranges.specs.Slots.{Slots}
+use Rattle.immediates_ranges.specs.Slots.{Mask, Past}
+use Rattle.immediates_ranges.specs.Answer.{SlotsAnswer}
+use Rattle.immediates_ranges.specs.Answer as answer
 use Rattle.immediates_ranges.specs.Slots.{slot_count, covers, range_slots, part_answer, contains}
 use Rattle.immediates_ranges.proofs.RangeLaws.{or_left, or_right}
 use Rattle.immediates_ranges.proofs.SlotBits.{union_slot, difference_slot, contains_slots, slots_contains, zero_bit, range_slot}

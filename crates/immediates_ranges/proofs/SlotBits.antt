@@ -11,7 +11,7 @@ use borrow.Author.Tests.{eqb-true}
 use Rattle.ir_records.specs.Result.{pick}
 use Rattle.ir_records.proofs.ResultLaws.{and_left, and_right}
 use Rattle.valid_flags.specs.Flags.{bit}
-use Rattle.immediates_ranges.specs.declared.Slots.TheVariants.{Mask, Past}
+use Rattle.immediates_ranges.specs.Slots.{Mask, Past}
 use Rattle.immediates_ranges.specs.Slots.{slot_count, slot_bytes, covers, covers_partly, covers_by, mask_by, mask_of, range_slots, contains_below, contains, difference, union}
 use Rattle.immediates_ranges.proofs.MaskLaws.{bit_mask}
 use Rattle.immediates_ranges.proofs.RangeLaws.{covers_nothing}

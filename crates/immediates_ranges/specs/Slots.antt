@@ -1,13 +1,20 @@
 -- 01, 'The slot word' (`ImmediateSlots` of naga's valid/immediates.rs), and 02, E2: bit k of a mask is slot k, bytes 4k to 4k+3. A part has
 -- two masks: the slots that it touches, and those that it covers only in part.
 -- Assumes nothing.
-use Rattle.std.specs.Prelude.{Bool, true, false, ◌&&◌, ◌||◌, not, ℕ, zero, suc, ◌+◌, ◌*◌, ◌^◌, eqb, leb, ltb}
+use Rattle.std.specs.Prelude.{Bool, true, false, ◌&&◌, ◌||◌, not, ℕ, zero, suc, ◌+◌, ◌*◌, ◌^◌, eqb, leb, ltb, Option, Some, None, Result, Ok, Err}
 use Rattle.ir_records.specs.Result.{pick}
 use Rattle.valid_flags.specs.Flags.{bit}
-use Rattle.immediates_ranges.specs.declared.Slots.{Slots}
-use Rattle.immediates_ranges.specs.declared.Slots.TheVariants.{Mask, Past}
-use Rattle.immediates_ranges.specs.declared.SlotsAnswer.{SlotsAnswer}
-use Rattle.immediates_ranges.specs.declared.SlotsAnswer.TheVariants as answer
+use Rattle.ir_records.specs.Refusal.{number_of}
+use Rattle.ir_records.specs.declared.Refusal.{Refusal}
+use Rattle.immediates_ranges.specs.declared.Slots as code
+use Rattle.immediates_ranges.specs.Answer.{SlotsAnswer}
+use Rattle.immediates_ranges.specs.Answer as answer
+
+-- a part: the slots that it touches, and those that it covers only in part. Past: number 25, a nonempty part ends past byte 256 or an offset sum
+-- leaves 32 bits
+pub data Slots : Type 0 where
+  Mask : (touched partly : ℕ) → Slots
+  Past : Slots
 
 -- how many slots there are
 abbrev pub slot_count : ℕ
@@ -84,3 +91,18 @@ join Past other = Past
 abbrev pub part_answer : Slots → SlotsAnswer
 part_answer (Mask touched partly) = answer.Slots touched partly
 part_answer Past = answer.Refused 25 0 0 0
+
+-- ---- what the code's answers say
+-- slots that are found
+abbrev pub mask_in : code.Slots → Slots
+mask_in s = Mask s.touched s.partly
+
+-- a part; None is number 25
+abbrev pub slots_found : Option code.Slots → Slots
+slots_found (Some s) = mask_in s
+slots_found None = Past
+
+-- the answer of a call
+abbrev pub slots_answer_of : Result code.Slots Refusal → SlotsAnswer
+slots_answer_of (Ok s) = answer.Slots s.touched s.partly
+slots_answer_of (Err r) = answer.Refused (number_of r.fault) r.ty r.member r.detail

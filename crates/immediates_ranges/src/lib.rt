@@ -2,29 +2,28 @@
 #![tactic(auto)]
 
 ghost use Rattle.std.specs.Prelude.{◌≡◌, ◌≤◌};
-ghost use Rattle.immediates_ranges.specs.Slots.{slot_count, slot_bytes, mask_of, range_slots, contains, difference, union, join, part_answer};
+ghost use Rattle.immediates_ranges.specs.Slots.{slot_count, slot_bytes, mask_of, range_slots, contains, difference, union, join, part_answer, mask_in, slots_found, slots_answer_of};
 ghost use Rattle.immediates_ranges.specs.Serving.{cuts};
 
-// The slots that a part touches, and those that it covers only in part.
-// Past: number 25, a nonempty part ends past byte 256 or an offset sum leaves 32 bits.
-#[derive(Clone, Copy)]
-pub enum Slots {
-    Mask { touched: u64, partly: u64 },
-    Past,
+use ir_records::{Fault, Refusal};
+
+/// The slots that a part touches, and those that it covers only in part.
+#[derive(Clone, Copy, Debug, PartialEq, Eq)]
+pub struct Slots {
+    pub touched: u64,
+    pub partly: u64,
 }
 
-#[derive(Clone, Copy)]
-pub enum SlotsAnswer {
-    Slots {
-        touched: u64,
-        partly: u64,
-    },
-    Refused {
-        number: u32,
-        ty: u32,
-        member: u32,
-        detail: u32,
-    },
+impl Slots {
+    /// Two parts together: the union of each mask.
+    pub fn join(self, other: Slots) -> Slots
+        ensures { mask_in result ≡ join (mask_in self) (mask_in other) }
+    {
+        Slots {
+            touched: union_of(self.touched, other.touched),
+            partly: union_of(self.partly, other.partly),
+        }
+    }
 }
 
 const ALL: u64 = 18446744073709551615;
@@ -43,19 +42,20 @@ fn cut_slot(border: u64) -> u64
     1 << slot
 }
 
-// from_range: the slots of the bytes from offset on, and those that one of their two borders lies inside.
-pub fn range_slots(offset: u32, size: u32) -> Slots
-    ensures { result ≡ range_slots offset size }
+/// from_range: the slots of the bytes from offset on, and those that one of their two borders lies inside. None where a nonempty part ends
+/// past byte 256 or an offset sum leaves 32 bits.
+pub fn range_slots(offset: u32, size: u32) -> Option<Slots>
+    ensures { slots_found result ≡ range_slots offset size }
 {
     if size == 0 {
-        return Slots::Mask {
+        return Some(Slots {
             touched: 0,
             partly: 0,
-        };
+        });
     }
     let end = (offset as u64) + (size as u64);
     if SLOT_BYTES < end {
-        return Slots::Past;
+        return None;
     }
     let lo = (offset as u64) / 4;
     let hi = (end + 3) / 4;
@@ -64,15 +64,15 @@ pub fn range_slots(offset: u32, size: u32) -> Slots
     let below = ALL >> rest;
     let first = cut_slot(offset as u64);
     let last = cut_slot(end);
-    Slots::Mask {
+    Some(Slots {
         touched: from & below,
         partly: first | last,
-    }
+    })
 }
 
-// The slots of a range given as two numbers; it has no arena.
-pub fn range(offset: u32, size: u32) -> SlotsAnswer
-    ensures { result ≡ part_answer (range_slots offset size) }
+/// The slots of a range given as two numbers; it has no arena.
+pub fn range(offset: u32, size: u32) -> Result<Slots, Refusal>
+    ensures { slots_answer_of result ≡ part_answer (range_slots offset size) }
 {
     part_answer(range_slots(offset, size))
 }
@@ -98,39 +98,9 @@ pub fn union_of(this: u64, other: u64) -> u64
     this | other
 }
 
-// Two parts together: the union of each mask.
-pub fn join_parts(a: Slots, b: Slots) -> Slots
-    ensures { result ≡ join a b }
-{
-    match a {
-        Slots::Mask {
-            touched: x,
-            partly: p,
-        } => match b {
-            Slots::Mask {
-                touched: y,
-                partly: q,
-            } => Slots::Mask {
-                touched: union_of(x, y),
-                partly: union_of(p, q),
-            },
-            Slots::Past => Slots::Past,
-        },
-        Slots::Past => Slots::Past,
-    }
-}
-
 // A part as the answer of a call; 25 carries zeros only.
-pub fn part_answer(part: Slots) -> SlotsAnswer
-    ensures { result ≡ part_answer part }
+pub fn part_answer(part: Option<Slots>) -> Result<Slots, Refusal>
+    ensures { slots_answer_of result ≡ part_answer (slots_found part) }
 {
-    match part {
-        Slots::Mask { touched, partly } => SlotsAnswer::Slots { touched, partly },
-        Slots::Past => SlotsAnswer::Refused {
-            number: 25,
-            ty: 0,
-            member: 0,
-            detail: 0,
-        },
-    }
+    part.ok_or(Refusal::of(Fault::PastImmediates))
 }

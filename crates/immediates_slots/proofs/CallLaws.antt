@@ -11,8 +11,8 @@ use lib.ListN.{length}
 use borrow.Author.Tests.{lt-ltb, le-ltb}
 use Rattle.ir_records.specs.Result.{pick}
 use Rattle.ir_records.specs.Record.{decoded, type_count, type_inner}
-use Rattle.ir_records.specs.declared.Outcome.{Outcome}
-use Rattle.ir_records.specs.declared.Outcome.TheVariants.{Accepted, Refused}
+use Rattle.ir_records.specs.Outcome.{Outcome}
+use Rattle.ir_records.specs.Outcome.{Accepted, Refused}
 use Rattle.ir_records.specs.Fields.{most_types, capabilities_known, tables_fit}
 use Rattle.ir_records.proofs.ResultLaws.{T_true, and_right}
 use Rattle.ir_records.proofs.RecordLaws.{tables_fitting}
@@ -28,9 +28,9 @@ use Rattle.valid_arena.specs.Arena.{judge_outcome, arena_fits, arena_outcome, ar
 use Rattle.valid_arena.proofs.CommonLaws.{refused_common}
 use Rattle.valid_arena.proofs.AcceptedLaws.{AcceptedTypes, row_size}
 use Rattle.valid_arena.proofs.WordLaws.{word_left}
-use Rattle.immediates_ranges.specs.declared.Slots.{Slots}
-use Rattle.immediates_ranges.specs.declared.Slots.TheVariants.{Mask, Past}
-use Rattle.immediates_ranges.specs.declared.SlotsAnswer.TheVariants as answer
+use Rattle.immediates_ranges.specs.Slots.{Slots}
+use Rattle.immediates_ranges.specs.Slots.{Mask, Past}
+use Rattle.immediates_ranges.specs.Answer as answer
 use Rattle.immediates_ranges.specs.Slots.{slot_count, mask_by, part_answer}
 use Rattle.immediates_walk.specs.Walk.{CoveredBy, slots_at}
 use Rattle.immediates_walk.proofs.MeasuredLaws.{accepted_parts, layout_measured, layout_size}

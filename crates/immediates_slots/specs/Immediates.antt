@@ -3,11 +3,11 @@
 use Rattle.std.specs.Prelude.{List, ℕ, ltb}
 use Rattle.ir_records.specs.Result.{pick}
 use Rattle.ir_records.specs.Record.{decoded, type_count}
-use Rattle.ir_records.specs.declared.Outcome.{Outcome}
-use Rattle.ir_records.specs.declared.Outcome.TheVariants as outcome
+use Rattle.ir_records.specs.Outcome.{Outcome}
+use Rattle.ir_records.specs.Outcome as outcome
 use Rattle.valid_arena.specs.Arena.{arena_answer}
-use Rattle.immediates_ranges.specs.declared.SlotsAnswer.{SlotsAnswer}
-use Rattle.immediates_ranges.specs.declared.SlotsAnswer.TheVariants as answer
+use Rattle.immediates_ranges.specs.Answer.{SlotsAnswer}
+use Rattle.immediates_ranges.specs.Answer as answer
 use Rattle.immediates_ranges.specs.Slots.{part_answer}
 use Rattle.immediates_walk.specs.Walk.{slots_at}
 

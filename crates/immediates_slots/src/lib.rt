@@ -3,13 +3,14 @@
 
 ghost use Rattle.std.specs.Prelude.{◌≡◌};
 ghost use Rattle.valid_arena.specs.Arena.{arena_words};
+ghost use Rattle.immediates_ranges.specs.Slots.{slots_answer_of};
 ghost use Rattle.immediates_slots.specs.Immediates.{slots_answer};
 
-use immediates_ranges::SlotsAnswer;
-use ir_records::Outcome;
+use immediates_ranges::Slots;
+use ir_records::{Fault, Refusal};
 use valid_type_info::UniformRule;
 
-// The slots of a type of an arena from an offset on. The arena is judged first; nothing is asked of the caller.
+/// The slots of a type of an arena from an offset on. The arena is judged first; nothing is asked of the caller.
 pub fn immediate_slots(
     types: &[u32],
     members: &[u32],
@@ -18,34 +19,13 @@ pub fn immediate_slots(
     rows: &mut [u32],
     ty: u32,
     offset: u32,
-) -> SlotsAnswer
-    ensures value { result ≡ slots_answer capabilities types.now members.now rows.old ty offset }
+) -> Result<Slots, Refusal>
+    ensures value { slots_answer_of result ≡ slots_answer capabilities types.now members.now rows.old ty offset }
     ensures rows_after { rows.new ≡ arena_words rule capabilities types.now members.now rows.old }
 {
-    match valid_arena::check(types, members, capabilities, rule, rows) {
-        Outcome::Accepted => {
-            if types.len() / ir_records::TYPE_WORDS <= ty as usize {
-                return SlotsAnswer::Refused {
-                    number: 26,
-                    ty: 0,
-                    member: 0,
-                    detail: 0,
-                };
-            }
-            immediates_ranges::part_answer(immediates_walk::type_slots(
-                types, members, rows, ty, offset,
-            ))
-        }
-        Outcome::Refused {
-            number,
-            ty,
-            member,
-            detail,
-        } => SlotsAnswer::Refused {
-            number,
-            ty,
-            member,
-            detail,
-        },
+    valid_arena::check(types, members, capabilities, rule, rows)?;
+    if types.len() / ir_records::TYPE_WORDS <= ty as usize {
+        return Err(Refusal::of(Fault::NoSuchType));
     }
+    immediates_ranges::part_answer(immediates_walk::type_slots(types, members, rows, ty, offset))
 }

@@ -9,7 +9,7 @@ use Rattle.ir_records.specs.Result.{ok}
 use Rattle.ir_records.specs.Record.{decoded, type_count, type_inner}
 use Rattle.ir_records.specs.Fields.{record_at}
 use Rattle.ir_records.specs.Table.{table, result_at, first_refusal}
-use Rattle.ir_records.specs.declared.Outcome.TheVariants.{Accepted}
+use Rattle.ir_records.specs.Outcome.{Accepted}
 use Rattle.ir_records.specs.declared.TypeInner.{TypeInner}
 use Rattle.ir_records.specs.declared.TypeInner.TheVariants.{Plain, Array, RuntimeArray, Struct, Other}
 use Rattle.ir_records.proofs.ResultLaws.{required, ok_inj}

@@ -22,11 +22,11 @@ use Rattle.proc_alignment.specs.Alignment.{most}
 use Rattle.proc_type_methods.specs.TypeMethods.{size_of}
 use Rattle.valid_type_flags.specs.TypeFlags.{is_struct}
 use Rattle.valid_type_flags.proofs.KindLaws.{struct_by_kind}
-use Rattle.immediates_ranges.specs.declared.Slots.{Slots}
-use Rattle.immediates_ranges.specs.declared.Slots.TheVariants as slots
+use Rattle.immediates_ranges.specs.Slots.{Slots}
+use Rattle.immediates_ranges.specs.Slots as slots
 use Rattle.immediates_ranges.specs.Slots.{join}
-use Rattle.immediates_part.specs.declared.Part.{Part}
-use Rattle.immediates_part.specs.declared.Part.TheVariants.{Past}
+use Rattle.immediates_part.specs.Part.{Part}
+use Rattle.immediates_part.specs.Part.{Past}
 use Rattle.immediates_part.specs.Part.{slots_in, range_part, join_parts, moved}
 use Rattle.immediates_part.proofs.PartLaws.{join_past, join_slots, range-slots, nothing_slots, range_beyond, nothing_beyond, moved_join, moved_nothing, moved_range}
 use Rattle.immediates_walk.specs.Walk.{no_slots, slots_step, slots_of, slots_at, members_slots}
@@ -231,6 +231,10 @@ module _ (types : ℕ → Decoded) (ty : ℕ) (rows : List ℕ) (offset j : ℕ)
             (λ w. part_beyond types ty t o (ltb-true most o (T_true (ltb most o) w)))
             (λ w. later_part types ty t o (leb-true ty t (T_true (leb ty t) w)))
             (or_cases (ltb most o) (leb ty t) (true_T e))
+
+    -- its part is refused, and so are all
+    pub part_refused : t < ty → Past ≡ part_at types t o → (n : ℕ) → j < n → Past ≡ members_part earlier rows offset n
+    part_refused h e n l = sym (members_past earlier rows offset j (sym (ap₂ earlier p q) ∙ earlier_part types ty t o h ∙ sym e) n l)
 
     -- one more member
     pub part_more : t < ty → {before own after : Part} → before ≡ members_part earlier rows offset j → own ≡ part_at types t o → after ≡ join_parts before own

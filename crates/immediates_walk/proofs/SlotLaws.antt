@@ -20,8 +20,8 @@ use Rattle.proc_alignment.specs.Alignment.{most}
 use Rattle.valid_flags.specs.Flags.{bit}
 use Rattle.proc_type_methods.specs.TypeMethods.{size_of}
 use Rattle.valid_type_flags.specs.TypeFlags.{is_struct}
-use Rattle.immediates_ranges.specs.declared.Slots.{Slots}
-use Rattle.immediates_ranges.specs.declared.Slots.TheVariants.{Mask, Past}
+use Rattle.immediates_ranges.specs.Slots.{Slots}
+use Rattle.immediates_ranges.specs.Slots.{Mask, Past}
 use Rattle.immediates_ranges.specs.Slots.{slot_count, mask_by, range_slots, union, join}
 use Rattle.immediates_walk.specs.Walk.{CoveredBy, by_whole, by_member, no_slots, slots_step, slots_of, slots_at, members_slots}
 use Rattle.immediates_ranges.proofs.RangeLaws.{or_left, or_right}

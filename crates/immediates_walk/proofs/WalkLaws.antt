@@ -5,8 +5,8 @@ use Prim.Native.Nat.{ℕ, ◌<◌, ◌≤◌}
 use Rattle.ir_records.specs.Record.{Decoded}
 use Rattle.ir_records.specs.Table.{table, value_at}
 use Rattle.ir_records.proofs.TableLaws.{table_value, table_above}
-use Rattle.immediates_ranges.specs.declared.Slots.{Slots}
-use Rattle.immediates_ranges.specs.declared.Slots.TheVariants.{Past}
+use Rattle.immediates_ranges.specs.Slots.{Slots}
+use Rattle.immediates_ranges.specs.Slots.{Past}
 use Rattle.immediates_walk.specs.Walk.{no_slots, slots_step, slots_of, slots_at}
 
 module _ (types : ℕ → Decoded) (ty : ℕ) where

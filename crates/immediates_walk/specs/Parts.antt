@@ -8,8 +8,8 @@ use Rattle.ir_records.specs.declared.TypeInner.{TypeInner}
 use Rattle.ir_records.specs.declared.TypeInner.TheVariants.{Plain, Array, RuntimeArray, Struct, Other}
 use Rattle.ir_rows.specs.Rows.{row_word}
 use Rattle.proc_type_methods.specs.TypeMethods.{size_of}
-use Rattle.immediates_part.specs.declared.Part.{Part}
-use Rattle.immediates_part.specs.declared.Part.TheVariants.{Past}
+use Rattle.immediates_part.specs.Part.{Part}
+use Rattle.immediates_part.specs.Part.{Past}
 use Rattle.immediates_part.specs.Part.{nothing_at, range_part, join_parts}
 
 -- the first j members of a struct that stands at `offset`. earlier: the parts of the types before it, each at an offset

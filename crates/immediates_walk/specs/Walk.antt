@@ -9,8 +9,8 @@ use Rattle.ir_records.specs.declared.TypeInner.TheVariants.{Plain, Array, Runtim
 use Rattle.proc_alignment.specs.Alignment.{most}
 use Rattle.proc_type_methods.specs.TypeMethods.{size_of}
 use Rattle.valid_type_flags.specs.TypeFlags.{is_struct}
-use Rattle.immediates_ranges.specs.declared.Slots.{Slots}
-use Rattle.immediates_ranges.specs.declared.Slots.TheVariants.{Mask, Past}
+use Rattle.immediates_ranges.specs.Slots.{Slots}
+use Rattle.immediates_ranges.specs.Slots.{Mask, Past}
 use Rattle.immediates_ranges.specs.Slots.{covers_by, range_slots, join}
 
 -- the first j members of a struct that stands at `offset`; number 25 where an offset sum leaves 32 bits.

@@ -6,10 +6,12 @@
 // types and 4,096 member rows takes 17 million member steps at the most.
 #![tactic(auto)]
 
-ghost use Rattle.std.specs.Prelude.{◌≡◌, List, ℕ, ◌+◌, ◌*◌, ◌≤◌, ◌<◌, length};
+ghost use Rattle.std.specs.Prelude.{◌≡◌, List, ℕ, ◌+◌, ◌*◌, ◌≤◌, ◌<◌, length, IfSome, MatchOption};
 ghost use Rattle.ir_records.specs.Record.{decoded, type_word, struct_kind, struct_members, member_type, member_offset};
 ghost use Rattle.ir_records.specs.Table.{table};
 ghost use Rattle.proc_alignment.specs.Alignment.{most};
+ghost use Rattle.immediates_ranges.specs.Slots.{slots_found};
+ghost use Rattle.immediates_part.specs.Part.{Past, part_in, part_found};
 ghost use Rattle.immediates_kept.specs.Kept.{Keeps};
 ghost use Rattle.immediates_walk.specs.Walk.{slots_at};
 ghost use Rattle.immediates_walk.specs.Parts.{Sizes, no_part, part_step, members_part, part_at};
@@ -17,14 +19,14 @@ ghost use Rattle.immediates_walk.specs.Parts.{Sizes, no_part, part_step, members
 use immediates_part::Part;
 use immediates_ranges::Slots;
 
-// How many members of a struct have been taken, and their part.
-#[derive(Clone, Copy)]
+/// How many members of a struct have been taken, and their part.
+#[derive(Clone, Copy, Debug, PartialEq, Eq)]
 pub struct Taken {
     pub taken: u32,
     pub part: Part,
 }
 
-// The members from one on, up to the first that is a struct; all of them where one is refused. own: the struct's member rows;
+// The members from one on, up to the first that is a struct; None where one before it is refused. own: the struct's member rows;
 // rows: those of the arena check, where sizes stand.
 fn plain_from(
     types: &[u32],
@@ -35,33 +37,29 @@ fn plain_from(
     count: u32,
     from: u32,
     before: Part,
-) -> Taken
+) -> Option<Taken>
     requires sizes { Sizes types.now rows.now ty }
     requires from_le_count { from ≤ count }
-    ensures from_le_taken { (from ≤ result.taken) × (result.taken ≤ count) }
-    ensures taken_bound { result.taken < count → (member_type own.now result.taken < ty) × (offset + member_offset own.now result.taken ≤ most) × (type_word types.now (member_type own.now result.taken) 0 ≡ struct_kind) }
-    ensures by_index { (ms : List ℕ) → before ≡ members_part (table no_part (part_step (decoded types.now ms)) ty) own.now offset from → result.part ≡ members_part (table no_part (part_step (decoded types.now ms)) ty) own.now offset result.taken }
+    ensures from_le_taken { IfSome result (λ t. (from ≤ t.taken) × (t.taken ≤ count)) }
+    ensures taken_bound { IfSome result (λ t. t.taken < count → (member_type own.now t.taken < ty) × (offset + member_offset own.now t.taken ≤ most) × (type_word types.now (member_type own.now t.taken) 0 ≡ struct_kind)) }
+    ensures by_index { (ms : List ℕ) → part_in before ≡ members_part (table no_part (part_step (decoded types.now ms)) ty) own.now offset from → MatchOption result (Past ≡ members_part (table no_part (part_step (decoded types.now ms)) ty) own.now offset count) (λ t. part_in t.part ≡ members_part (table no_part (part_step (decoded types.now ms)) ty) own.now offset t.taken) }
 {
     let mut part = before;
-    let mut j = from;
-    while j < count {
+    for j in from..count {
         let t = ir_records::member_type(own, j);
         let sum = (offset as u64) + (ir_records::member_offset(own, j) as u64);
         if (proc_alignment::MOST < sum) | (ty <= t) {
-            return Taken {
-                taken: count,
-                part: Part::Past,
-            };
+            return None;
         }
         if ir_records::type_word(types, t, 0) == ir_records::STRUCT_KIND {
-            return Taken { taken: j, part };
+            return Some(Taken { taken: j, part });
         }
         let at = sum as u32;
         let size = ir_rows::row_word(rows, t, ir_rows::SIZE as u32);
-        part = immediates_part::join_parts(part, immediates_part::range_part(at, size));
-        j += 1;
+        let whole = immediates_part::range_part(at, size)?;
+        part = part.join(whole);
     }
-    Taken { taken: count, part }
+    Some(Taken { taken: count, part })
 }
 
 // The members of struct ty, which stands at offset, from one on.
@@ -76,32 +74,32 @@ fn members_part(
     count: u32,
     from: u32,
     before: Part,
-) -> Part
+) -> Option<Part>
     requires sizes { Sizes types.now rows.now ty }
     requires ty_in_bounds { ty * 16 ≤ length kept.old }
     requires keeps { Keeps (part_at (decoded types.now members.now)) kept.old }
     requires from_le_count { from ≤ count }
-    requires before_value { before ≡ members_part (table no_part (part_step (decoded types.now members.now)) ty) (struct_members types.now members.now ty) offset from }
-    ensures value { result ≡ members_part (table no_part (part_step (decoded types.now members.now)) ty) (struct_members types.now members.now ty) offset count }
+    requires before_value { part_in before ≡ members_part (table no_part (part_step (decoded types.now members.now)) ty) (struct_members types.now members.now ty) offset from }
+    ensures value { part_found result ≡ members_part (table no_part (part_step (decoded types.now members.now)) ty) (struct_members types.now members.now ty) offset count }
     ensures keeps_2 { Keeps (part_at (decoded types.now members.now)) kept.new }
 {
     let own = ir_records::struct_members(types, members, ty);
     let mut part = before;
     let mut j = from;
+    // Kept: each step goes past all the members that plain_from took, which no range counts.
     while j < count {
-        let plain = plain_from(types, rows, own, ty, offset, count, j, part);
+        let plain = plain_from(types, rows, own, ty, offset, count, j, part)?;
         let taken = plain.taken;
-        let found = plain.part;
         if count <= taken {
-            return found;
+            return Some(plain.part);
         }
         let t = ir_records::member_type(own, taken);
         let at = offset + ir_records::member_offset(own, taken);
-        let nested = struct_part(types, members, rows, kept, t, at);
-        part = immediates_part::join_parts(found, nested);
+        let nested = struct_part(types, members, rows, kept, t, at)?;
+        part = plain.part.join(nested);
         j = taken + 1;
     }
-    part
+    Some(part)
 }
 
 // A struct at an offset: kept, or walked and kept.
@@ -113,28 +111,51 @@ fn struct_part(
     kept: &mut [u64],
     ty: u32,
     offset: u32,
-) -> Part
+) -> Option<Part>
     requires sizes { Sizes types.now rows.now ty }
     requires ty_in_bounds { ty * 16 + 16 ≤ length kept.old }
     requires keeps { Keeps (part_at (decoded types.now members.now)) kept.old }
     requires ty_value { type_word types.now ty 0 ≡ struct_kind }
-    ensures value { result ≡ part_at (decoded types.now members.now) ty offset }
+    ensures value { part_found result ≡ part_at (decoded types.now members.now) ty offset }
     ensures keeps_2 { Keeps (part_at (decoded types.now members.now)) kept.new }
 {
     let low = offset % 4;
     let further = offset / 4;
     if immediates_kept::is_kept(kept, ty, low) {
-        return immediates_part::move_part(immediates_kept::kept_part(kept, ty, low), further);
+        return immediates_kept::kept_part(kept, ty, low)?.moved(further);
     }
     let count = ir_records::type_word(types, ty, 2);
-    let nothing = immediates_part::nothing_at(low);
+    let nothing = Part::nothing_at(low);
     let walked = members_part(types, members, rows, kept, ty, low, count, 0, nothing);
     immediates_kept::keep(kept, ty, low, walked);
-    immediates_part::move_part(walked, further)
+    walked?.moved(further)
 }
 
-// The members of a struct that has a struct among them, with sixteen words for each type before it. Zeroing them takes time,
-// so there are no more than needed, within four times.
+// The members of a struct that has a struct among them, with N words to keep parts in.
+fn nested_in<const N: usize>(
+    types: &[u32],
+    members: &[u32],
+    rows: &[u32],
+    ty: u32,
+    offset: u32,
+    count: u32,
+    from: u32,
+    before: Part,
+) -> Option<Part>
+    requires sizes { Sizes types.now rows.now ty }
+    requires words_fit { ty * 16 ≤ N }
+    requires words_bound { N ≤ 16384 }
+    requires from_le_count { from ≤ count }
+    requires before_value { part_in before ≡ members_part (table no_part (part_step (decoded types.now members.now)) ty) (struct_members types.now members.now ty) offset from }
+    ensures { part_found result ≡ members_part (table no_part (part_step (decoded types.now members.now)) ty) (struct_members types.now members.now ty) offset count }
+{
+    let mut kept = [0u64; N];
+    members_part(
+        types, members, rows, &mut kept, ty, offset, count, from, before,
+    )
+}
+
+// The same with sixteen words for each type before it. Zeroing them takes time, so there are no more than needed, within four times.
 fn nested_part(
     types: &[u32],
     members: &[u32],
@@ -144,48 +165,31 @@ fn nested_part(
     count: u32,
     from: u32,
     before: Part,
-) -> Part
+) -> Option<Part>
     requires sizes { Sizes types.now rows.now ty }
     requires ty_bound { ty ≤ 1024 }
     requires from_le_count { from ≤ count }
-    requires before_value { before ≡ members_part (table no_part (part_step (decoded types.now members.now)) ty) (struct_members types.now members.now ty) offset from }
-    ensures { result ≡ members_part (table no_part (part_step (decoded types.now members.now)) ty) (struct_members types.now members.now ty) offset count }
+    requires before_value { part_in before ≡ members_part (table no_part (part_step (decoded types.now members.now)) ty) (struct_members types.now members.now ty) offset from }
+    ensures { part_found result ≡ members_part (table no_part (part_step (decoded types.now members.now)) ty) (struct_members types.now members.now ty) offset count }
 {
     if ty <= 8 {
-        let mut kept = [0u64; 128];
-        return members_part(
-            types, members, rows, &mut kept, ty, offset, count, from, before,
-        );
+        nested_in::<128>(types, members, rows, ty, offset, count, from, before)
+    } else if ty <= 32 {
+        nested_in::<512>(types, members, rows, ty, offset, count, from, before)
+    } else if ty <= 128 {
+        nested_in::<2048>(types, members, rows, ty, offset, count, from, before)
+    } else if ty <= 512 {
+        nested_in::<8192>(types, members, rows, ty, offset, count, from, before)
+    } else {
+        nested_in::<16384>(types, members, rows, ty, offset, count, from, before)
     }
-    if ty <= 32 {
-        let mut kept = [0u64; 512];
-        return members_part(
-            types, members, rows, &mut kept, ty, offset, count, from, before,
-        );
-    }
-    if ty <= 128 {
-        let mut kept = [0u64; 2048];
-        return members_part(
-            types, members, rows, &mut kept, ty, offset, count, from, before,
-        );
-    }
-    if ty <= 512 {
-        let mut kept = [0u64; 8192];
-        return members_part(
-            types, members, rows, &mut kept, ty, offset, count, from, before,
-        );
-    }
-    let mut kept = [0u64; 16384];
-    members_part(
-        types, members, rows, &mut kept, ty, offset, count, from, before,
-    )
 }
 
 // A type at an offset. Nothing is kept for a struct that has no struct among its members.
-fn type_part(types: &[u32], members: &[u32], rows: &[u32], ty: u32, offset: u32) -> Part
+fn type_part(types: &[u32], members: &[u32], rows: &[u32], ty: u32, offset: u32) -> Option<Part>
     requires sizes { Sizes types.now rows.now ty }
     requires ty_bound { ty ≤ 1024 }
-    ensures { result ≡ part_at (decoded types.now members.now) ty offset }
+    ensures { part_found result ≡ part_at (decoded types.now members.now) ty offset }
 {
     if ir_records::type_word(types, ty, 0) != ir_records::STRUCT_KIND {
         let size = ir_rows::row_word(rows, ty, ir_rows::SIZE as u32);
@@ -193,21 +197,35 @@ fn type_part(types: &[u32], members: &[u32], rows: &[u32], ty: u32, offset: u32)
     }
     let count = ir_records::type_word(types, ty, 2);
     let own = ir_records::struct_members(types, members, ty);
-    let nothing = immediates_part::nothing_at(offset);
-    let plain = plain_from(types, rows, own, ty, offset, count, 0, nothing);
-    let taken = plain.taken;
-    let found = plain.part;
-    if count <= taken {
-        return found;
+    let nothing = Part::nothing_at(offset);
+    let plain = plain_from(types, rows, own, ty, offset, count, 0, nothing)?;
+    if count <= plain.taken {
+        return Some(plain.part);
     }
-    nested_part(types, members, rows, ty, offset, count, taken, found)
+    nested_part(
+        types,
+        members,
+        rows,
+        ty,
+        offset,
+        count,
+        plain.taken,
+        plain.part,
+    )
 }
 
-// from_type: the slots of a type at an offset.
-pub fn type_slots(types: &[u32], members: &[u32], rows: &[u32], ty: u32, offset: u32) -> Slots
+/// from_type: the slots of a type at an offset; None as of `immediates_ranges::range_slots`.
+pub fn type_slots(
+    types: &[u32],
+    members: &[u32],
+    rows: &[u32],
+    ty: u32,
+    offset: u32,
+) -> Option<Slots>
     requires sizes { Sizes types.now rows.now ty }
     requires ty_bound { ty ≤ 1024 }
-    ensures { result ≡ slots_at (decoded types.now members.now) ty offset }
+    ensures { slots_found result ≡ slots_at (decoded types.now members.now) ty offset }
 {
-    immediates_part::slots_in(type_part(types, members, rows, ty, offset))
+    let part = type_part(types, members, rows, ty, offset)?;
+    Some(part.slots)
 }

@@ -4,9 +4,10 @@
 ghost use Rattle.std.specs.Prelude.{◌≡◌, ◌&&◌, ℕ, ◌+◌, ◌*◌, ◌/◌, ◌≤◌, ◌<◌};
 ghost use Rattle.ir_records.specs.Record.{scalar_kind, vector_kind, matrix_kind, cooperative_matrix_kind, pointer_kind, value_pointer_kind, array_kind, struct_kind, image_kind, sampler_kind, acceleration_structure_kind, binding_array_kind};
 ghost use Rattle.ir_records.specs.Fields.{fields_ok, base_within, fields_at, record_at};
-ghost use Rattle.ir_records.specs.Table.{first_refusal, outcome_at};
+ghost use Rattle.ir_records.specs.Table.{first_refusal};
+ghost use Rattle.ir_records.specs.Refusal.{judged, outcome_of};
 
-use ir_records::Outcome;
+use ir_records::{Fault, Refusal, TypeRefusal};
 
 // The sets, by their largest number.
 const MOST_SCALAR_KIND: u32 = 5;
@@ -136,76 +137,37 @@ fn base_within(types: usize, kind: u32, base: u32) -> bool
 }
 
 // Numbers 2 and 3 of record i by its fields, 2 first.
-fn fields_at(types: &[u32], members: &[u32], i: u32) -> Outcome
-    ensures { result ≡ outcome_at i (fields_at types.now members.now i) }
+fn fields_at(types: &[u32], members: &[u32], i: u32) -> Result<(), TypeRefusal>
+    ensures { judged result ≡ fields_at types.now members.now i }
 {
     let w = ir_records::record_words(types, i);
-    let kind = w.kind;
-    let a = w.a;
-    if fields_ok(
-        members.len() / ir_records::MEMBER_WORDS,
-        kind,
-        a,
-        w.b,
-        w.c,
-        w.d,
-        w.e,
-    ) {
-        if base_within(types.len() / ir_records::TYPE_WORDS, kind, a) {
-            Outcome::Accepted
-        } else {
-            Outcome::Refused {
-                number: 3,
-                ty: i,
-                member: 0,
-                detail: 0,
-            }
-        }
-    } else {
-        Outcome::Refused {
-            number: 2,
-            ty: i,
-            member: 0,
-            detail: 0,
-        }
+    let rows = members.len() / ir_records::MEMBER_WORDS;
+    if !fields_ok(rows, w.kind, w.a, w.b, w.c, w.d, w.e) {
+        return Err(TypeRefusal::of(Fault::FieldOutside));
     }
+    if !base_within(types.len() / ir_records::TYPE_WORDS, w.kind, w.a) {
+        return Err(TypeRefusal::of(Fault::BaseOutside));
+    }
+    Ok(())
 }
 
 // The same, and number 2 of a struct's own rows.
-fn record_at(types: &[u32], members: &[u32], i: u32) -> Outcome
-    ensures { result ≡ outcome_at i (record_at types.now members.now i) }
+fn record_at(types: &[u32], members: &[u32], i: u32) -> Result<(), TypeRefusal>
+    ensures { judged result ≡ record_at types.now members.now i }
 {
     let part = ir_records::struct_members(types, members, i);
-    if ir_records::sources_located(part) {
-        return fields_at(types, members, i);
+    if !ir_records::sources_located(part) {
+        return Err(TypeRefusal::of(Fault::FieldOutside));
     }
-    Outcome::Refused {
-        number: 2,
-        ty: i,
-        member: 0,
-        detail: 0,
-    }
+    fields_at(types, members, i)
 }
 
 // Numbers 2 and 3 over the first n records.
-pub fn records_ok(types: &[u32], members: &[u32], n: u32) -> Outcome
-    ensures { result ≡ first_refusal (record_at types.now members.now) n }
+pub fn records_ok(types: &[u32], members: &[u32], n: u32) -> Result<(), Refusal>
+    ensures { outcome_of result ≡ first_refusal (record_at types.now members.now) n }
 {
-    let mut i: u32 = 0;
-    while i < n {
-        let found = record_at(types, members, i);
-        match found {
-            Outcome::Accepted => {}
-            Outcome::Refused {
-                number: _,
-                ty: _,
-                member: _,
-                detail: _,
-            } => {
-                return found;
-            }
-        }
-        i += 1;
+    for i in 0..n {
+        ir_records::at_type(record_at(types, members, i), i)?;
     }
-    Outcome::Accepted
+    Ok(())
 }

@@ -15,11 +15,13 @@ pub struct Member {
     pub source: u32,
 }
 
+const MOST_RECORDS: usize = 4097;
+
 // How many records are taken apart: one more than the core takes, so that the core refuses what is too long.
 pub fn fit(n: usize) -> usize
     ensures { result ≡ pick (leb n 4097) n 4097 }
 {
-    if n <= 4097 { n } else { 4097 }
+    n.min(MOST_RECORDS)
 }
 
 // The words of the first n records.
@@ -28,14 +30,12 @@ pub fn words_of(ms: &[Member], n: usize) -> [u32; 16388]
     ensures { take (n * member_words) result ≡ flat (take n ms.now) }
 {
     let mut words = [0u32; 16388];
-    let mut i = 0;
-    while i < n {
+    for i in 0..n {
         let m = ms[i];
         words[i * 4] = m.ty;
         words[i * 4 + 1] = m.offset;
         words[i * 4 + 2] = m.location;
         words[i * 4 + 3] = m.source;
-        i = i + 1;
     }
     words
 }

@@ -12,8 +12,8 @@ use lib.Seq.{get_or-append-add}
 use borrow.Author.Tests.{eq-eqb, ne_eqb}
 use Rattle.ir_records.specs.Result.{Result, err, ok, pick}
 use Rattle.ir_records.specs.Table.{table, result_at, value_at, outcome_at, also, first_refusal, flat}
-use Rattle.ir_records.specs.declared.Outcome.{Outcome}
-use Rattle.ir_records.specs.declared.Outcome.TheVariants.{Accepted, Refused}
+use Rattle.ir_records.specs.Outcome.{Outcome}
+use Rattle.ir_records.specs.Outcome.{Accepted, Refused}
 
 module _ {ℓ} {A : Type ℓ} (z : A) (f : (ℕ → A) → ℕ → Result A) where
   pub table_value : (i k : ℕ) → k < i → table z f i k ≡ value_at z f k

@@ -3,3 +3,5 @@ pub mod Record
 pub mod Fields
 pub mod Table
 pub mod Serving
+pub mod Outcome
+pub mod Refusal

@@ -2,8 +2,8 @@
 -- Assumes nothing.
 use Rattle.std.specs.Prelude.{List, [], ◌++◌, ℕ, zero, suc, eqb}
 use Rattle.ir_records.specs.Result.{Result, err, ok, pick, value_or}
-use Rattle.ir_records.specs.declared.Outcome.{Outcome}
-use Rattle.ir_records.specs.declared.Outcome.TheVariants.{Accepted, Refused}
+use Rattle.ir_records.specs.Outcome.{Outcome}
+use Rattle.ir_records.specs.Outcome.{Accepted, Refused}
 
 -- the value of k once i values are made, each by `step` from those before it; `empty` from i on
 abbrev pub table {ℓ} : {A : Type ℓ} → A → ((ℕ → A) → ℕ → Result A) → ℕ → ℕ → A

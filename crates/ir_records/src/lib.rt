@@ -4,6 +4,7 @@
 ghost use Rattle.std.specs.Prelude.{◌≡◌, ◌&&◌, ℕ, ◌+◌, ◌*◌, ◌/◌, ◌≤◌, ◌<◌, length, get_or, take, drop};
 ghost use Rattle.ir_records.specs.Record.{type_word, type_count, member_words, member_count, member_type, member_offset, member_location, member_source, inner_of, type_inner, struct_members};
 ghost use Rattle.ir_records.specs.Serving.{record_words};
+ghost use Rattle.ir_records.specs.Refusal.{number_of, type_refusal, refusal, at_type};
 ghost use Rattle.ir_records.specs.Fields.{tables_fit, capabilities_known, sources_located};
 
 // Data that is neither array nor struct: 01's leaves.
@@ -39,7 +40,7 @@ pub enum TypeInner {
 }
 
 // The kind of a record and the five words after it.
-#[derive(Clone, Copy)]
+#[derive(Clone, Copy, Debug, PartialEq, Eq)]
 pub struct Words {
     pub kind: u32,
     pub a: u32,
@@ -49,16 +50,145 @@ pub struct Words {
     pub e: u32,
 }
 
-// The answer of an arena call: number, type, member and detail of the first refusal.
-#[derive(Clone, Copy)]
-pub enum Outcome {
-    Accepted,
-    Refused {
-        number: u32,
-        ty: u32,
-        member: u32,
-        detail: u32,
-    },
+/// Why an input is refused, by naga's names where naga has one; `u32::from` gives the number of 01 and 02.
+#[derive(Clone, Copy, Debug, PartialEq, Eq)]
+pub enum Fault {
+    TableLength = 1,
+    FieldOutside = 2,
+    BaseOutside = 3,
+    TooLarge = 4,
+    InvalidArrayElementType = 5,
+    InvalidStructMemberType = 6,
+    NonPowerOfTwoWidth = 7,
+    MissingCapability = 8,
+    InvalidWidth = 9,
+    AbstractScalar = 10,
+    MatrixElementNotFloat = 11,
+    InvalidAtomicWidth = 12,
+    InvalidPointerBase = 13,
+    InvalidPointerToUnsized = 14,
+    InvalidArrayBaseType = 15,
+    EmptyStruct = 16,
+    InvalidData = 17,
+    MemberOverlap = 18,
+    MemberOutOfBounds = 19,
+    InvalidDynamicArray = 20,
+    StructSum = 21,
+    UnsupportedImageType = 22,
+    BindingArrayBaseTypeNotStruct = 23,
+    BindingArrayBaseExternalTextures = 24,
+    PastImmediates = 25,
+    NoSuchType = 26,
+    NarrowStride = 27,
+    ModuleHeader = 28,
+    ModuleType = 29,
+    ModuleOrder = 30,
+    Grammar = 31,
+    Name = 32,
+    Attribute = 33,
+    InvalidBlendSrc = 34,
+    NoOrder = 35,
+    Dispatch = 36,
+    PassRange = 37,
+}
+
+impl From<Fault> for u32 {
+    ghost from_gives = { λ fault result. result ≡ number_of fault };
+
+    fn from(fault: Fault) -> u32 {
+        fault as u32
+    }
+}
+
+/// A refusal of one type: the position of the member that it names, and the detail; 0 where 01 names none.
+#[derive(Clone, Copy, Debug, PartialEq, Eq)]
+pub struct TypeRefusal {
+    pub fault: Fault,
+    pub member: u32,
+    pub detail: u32,
+}
+
+/// A refusal of a call: the first refused type beside what is refused of it; 0 where 01 names none.
+#[derive(Clone, Copy, Debug, PartialEq, Eq)]
+pub struct Refusal {
+    pub fault: Fault,
+    pub ty: u32,
+    pub member: u32,
+    pub detail: u32,
+}
+
+impl TypeRefusal {
+    pub fn of(fault: Fault) -> Self
+        ensures { result ≡ type_refusal fault 0 0 }
+    {
+        TypeRefusal {
+            fault,
+            member: 0,
+            detail: 0,
+        }
+    }
+
+    pub fn of_member(fault: Fault, member: u32) -> Self
+        ensures { result ≡ type_refusal fault member 0 }
+    {
+        TypeRefusal {
+            fault,
+            member,
+            detail: 0,
+        }
+    }
+
+    pub fn with_detail(fault: Fault, detail: u32) -> Self
+        ensures { result ≡ type_refusal fault 0 detail }
+    {
+        TypeRefusal {
+            fault,
+            member: 0,
+            detail,
+        }
+    }
+
+    /// The same as an answer about type `ty`.
+    pub fn at(self, ty: u32) -> Refusal
+        ensures { result ≡ refusal self.fault ty self.member self.detail }
+    {
+        Refusal {
+            fault: self.fault,
+            ty,
+            member: self.member,
+            detail: self.detail,
+        }
+    }
+}
+
+/// The judgement of one type as an answer about type `ty`.
+pub fn at_type<T>(judged: Result<T, TypeRefusal>, ty: u32) -> Result<T, Refusal>
+    ensures { result ≡ at_type judged ty }
+{
+    match judged {
+        Ok(value) => Ok(value),
+        Err(refusal) => Err(refusal.at(ty)),
+    }
+}
+
+impl Refusal {
+    pub fn of(fault: Fault) -> Self
+        ensures { result ≡ refusal fault 0 0 0 }
+    {
+        Refusal {
+            fault,
+            ty: 0,
+            member: 0,
+            detail: 0,
+        }
+    }
+}
+
+/// How many type and member records a reader made.
+#[derive(Clone, Copy, Debug, PartialEq, Eq)]
+pub struct Records {
+    pub types: u32,
+    pub members: u32,
 }
 
 pub const TYPE_WORDS: usize = 6;
@@ -159,15 +289,12 @@ pub fn own_source(part: &[u32], j: usize) -> u32
 pub fn sources_located(part: &[u32]) -> bool
     ensures { result ≡ sources_located part.now }
 {
-    let mut j = part.len() / MEMBER_WORDS;
-    while j > 0 {
-        let before = j - 1;
-        let source = own_source(part, before);
-        let location = own_location(part, before);
+    for j in (0..part.len() / MEMBER_WORDS).rev() {
+        let source = own_source(part, j);
+        let location = own_location(part, j);
         if (0 < source) & (location == 0) {
             return false;
         }
-        j = before;
     }
     true
 }

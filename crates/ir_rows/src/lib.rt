@@ -44,11 +44,7 @@ pub fn clear(rows: &mut [u32], n: usize)
     requires { n ≤ length rows.old }
     ensures { rows.new ≡ cleared rows.old n }
 {
-    let mut i = 0;
-    while i < n {
-        rows[i] = 0;
-        i += 1;
-    }
+    rows[..n].fill(0);
 }
 
 // Writes the words of one row from `at` on.
@@ -57,11 +53,7 @@ pub fn put_row(rows: &mut [u32], at: usize, row: &[u32])
     requires at_in_bounds { at + 14 ≤ length rows.old }
     ensures { rows.new ≡ with_row rows.old at row.now }
 {
-    let mut j = 0;
-    while j < ROW_WORDS {
-        rows[at + j] = row[j];
-        j += 1;
-    }
+    rows[at..at + ROW_WORDS].copy_from_slice(row);
 }
 
 // Writes the row of a type that has a layout and no judgement yet.

@@ -12,7 +12,10 @@ use lib.Seq.{length-take-le}
 use borrow.Author.Tests.{leb-true, eq-eqb, ne_eqb}
 use Rattle.ir_records.specs.Record.{type_count, type_words}
 use Rattle.ir_records.specs.Fields.{most_types, most_members, row_words}
-use Rattle.ir_records.specs.declared.Outcome.TheVariants.{Accepted}
+use Rattle.ir_records.specs.Outcome.{Accepted}
+use Rattle.ir_records.specs.Refusal as refusal
+use Rattle.ir_records.specs.declared.Fault.{Fault}
+use Rattle.ir_records.specs.declared.Fault.TheVariants.{TableLength}
 use Rattle.ir_rows.specs.Rows.{row_word}
 use Rattle.proc_alignment.specs.Alignment.{most}
 use Rattle.proc_alignment.proofs.PowerLaws.{power_positive}
@@ -23,8 +26,7 @@ use Rattle.valid_arena.proofs.ArenaLaws.{arena_alignment_power}
 use Rattle.valid_type_info.specs.TypeInfo.{rows_in}
 use Rattle.valid_type_info.specs.declared.Row.{Row}
 use Rattle.place_lookup.proofs.LookupLaws.{answer_accepted}
-use Rattle.order_numbers.specs.declared.Found.{Found}
-use Rattle.order_numbers.specs.declared.Found.TheVariants.{At}
+use Rattle.std.specs.Prelude.{Option, Some, None}
 use Rattle.order_numbers.specs.Order.{member_at}
 use Rattle.order_placement.specs.Placement.{offset_of, span_of}
 use Rattle.order_placement.proofs.PlacementLaws.{offset-within}
@@ -76,7 +78,7 @@ positive rule c types n ms rows h accepted t l =
 -- ---- the order that is found
 module _ (types rows : List ℕ) (n : ℕ) (wanted : List ℕ) (span order : ℕ) (few : length wanted ≤ 7) (small : span ≤ most)
     (aligned : (t : ℕ) → t < n → 1 ≤ row_word rows t 1) (given : number_of types rows n wanted ≡ 0)
-    (is : first_order rows wanted (length wanted) (last_of types rows n wanted) span ≡ At order) where
+    (is : first_order rows wanted (length wanted) (last_of types rows n wanted) span ≡ Some order) where
   -- its span is a number of 32 bits
   pub span_small : span_of rows wanted (length wanted) (member_at (length wanted) order) ≤ most
   span_small =
@@ -93,6 +95,11 @@ module _ (types rows : List ℕ) (n : ℕ) (wanted : List ℕ) (span order : ℕ
       j l)
       span_small
 
+-- ---- a refusal has a number
+pub some_number : (fault : Fault) → refusal.number_of fault ≡ 0 → ⊥
+some_number TableLength e = absurd (omega (arith, e))
+some_number fault e = absurd (omega (arith, e))
+
 -- ---- what the definition says, by the way that the code takes
 module _ (rule : UniformRule) (c : ℕ) (types : List ℕ) (n : ℕ) (members : List ℕ) (m : ℕ) (rows wanted : List ℕ) (span : ℕ) where
   pub chosen_none : length wanted ≡ 0 → chosen rule c types n members m rows wanted span ≡ refused rule c types n members m 16 rows
@@ -104,7 +111,7 @@ module _ (rule : UniformRule) (c : ℕ) (types : List ℕ) (n : ℕ) (members : 
   unfolding chosen
   chosen_number some e = rw (ne_eqb (length wanted) 0 some, ne_eqb (number_of types rows n wanted) 0 e) refl
 
-  pub chosen_order : (length wanted ≡ 0 → ⊥) → number_of types rows n wanted ≡ 0 → (f : Found)
+  pub chosen_order : (length wanted ≡ 0 → ⊥) → number_of types rows n wanted ≡ 0 → (f : Option ℕ)
       → first_order rows wanted (length wanted) (last_of types rows n wanted) span ≡ f
       → chosen rule c types n members m rows wanted span ≡ with_order rule c types n members m rows wanted f
   unfolding chosen

@@ -4,21 +4,20 @@ use Rattle.std.specs.Prelude.{Bool, ◌&&◌, List, ℕ, ◌+◌, ◌*◌, eqb, 
 use Rattle.ir_records.specs.Result.{pick}
 use Rattle.ir_records.specs.Record.{type_words, member_words}
 use Rattle.ir_records.specs.Fields.{most_types, most_members, row_words}
-use Rattle.ir_records.specs.declared.Outcome.{Outcome}
-use Rattle.ir_records.specs.declared.Outcome.TheVariants as outcome
+use Rattle.ir_records.specs.Outcome.{Outcome}
+use Rattle.ir_records.specs.Outcome as outcome
 use Rattle.ir_rows.specs.Rows.{with_part}
 use Rattle.valid_type_info.specs.declared.UniformRule.{UniformRule}
 use Rattle.valid_arena.specs.Arena.{arena_answer, arena_words}
-use Rattle.order_numbers.specs.declared.Found.{Found}
-use Rattle.order_numbers.specs.declared.Found.TheVariants as found
+use Rattle.std.specs.Prelude.{Option, Some, None}
 use Rattle.order_numbers.specs.Order.{member_at}
 use Rattle.order_placement.specs.Placement.{span_of}
 use Rattle.order_search.specs.Fitting.{first_order}
 use Rattle.order_types.specs.Given.{number_of, last_of}
 use Rattle.order_struct.specs.Struct.{struct_record, member_rows}
 use Rattle.order_check.specs.Tables.{types_with, members_with, if_accepted}
-use Rattle.order_call.specs.declared.OrderAnswer.{OrderAnswer}
-use Rattle.order_call.specs.declared.OrderAnswer.TheVariants as answer
+use Rattle.order_call.specs.Answer.{OrderAnswer}
+use Rattle.order_call.specs.Answer as answer
 
 -- number 1: at most seven types; a free type record, member rows and result row. The lengths are those of the lent tables and rows
 unfoldable pub room : (types members rows n m k : ℕ) → Bool
@@ -58,9 +57,9 @@ module _ (rule : UniformRule) (c : ℕ) (types : List ℕ) (n : ℕ) (members : 
       }
 
   -- the struct of the order that was found, with its own span
-  abbrev pub with_order : (rows wanted : List ℕ) → Found → Left
-  with_order rows wanted found.Nothing = refused 35 rows
-  with_order rows wanted (found.At order) =
+  abbrev pub with_order : (rows wanted : List ℕ) → Option ℕ → Left
+  with_order rows wanted None = refused 35 rows
+  with_order rows wanted (Some order) =
       let k = length wanted in
       let own = span_of rows wanted k (member_at k order) in
       with_struct rows (struct_record m k own) (member_rows rows wanted k (member_at k order)) k own order

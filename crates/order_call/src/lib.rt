@@ -2,33 +2,23 @@
 // behind the types and member rows in use.
 #![tactic(auto)]
 
-ghost use Rattle.std.specs.Prelude.{◌≡◌, ℕ, ◌+◌, ◌*◌, ◌≤◌, ◌<◌, length};
+ghost use Rattle.std.specs.Prelude.{◌≡◌, ℕ, ◌+◌, ◌*◌, ◌≤◌, ◌<◌, length, Some};
 ghost use Rattle.ir_rows.specs.Rows.{row_word};
 ghost use Rattle.proc_alignment.specs.Alignment.{most};
 ghost use Rattle.order_numbers.specs.Order.{member_at};
-ghost use Rattle.order_numbers.specs.declared.Found.TheVariants as found;
 ghost use Rattle.order_placement.specs.Placement.{offset_of, span_of};
-ghost use Rattle.order_call.specs.declared.OrderAnswer.TheVariants as answer;
-ghost use Rattle.order_call.specs.Call.{room, struct_answer, with_order, chosen, ordered};
+ghost use Rattle.order_call.specs.Answer.{order_answer_of};
+ghost use Rattle.order_call.specs.Call.{room, with_order, chosen, ordered};
 
-use ir_records::Outcome;
-use order_numbers::Found;
+use ir_records::{Fault, Refusal};
 use valid_type_info::UniformRule;
 
-// The struct's type number, its span and the order, whose places order_numbers::member_at tells; or a refusal.
-#[derive(Clone, Copy)]
-pub enum OrderAnswer {
-    Found {
-        ty: u32,
-        span: u32,
-        order: u32,
-    },
-    Refused {
-        number: u32,
-        ty: u32,
-        member: u32,
-        detail: u32,
-    },
+/// The struct's type number, its span and the order, whose places order_numbers::member_at tells.
+#[derive(Clone, Copy, Debug, PartialEq, Eq)]
+pub struct OrderedStruct {
+    pub ty: u32,
+    pub span: u32,
+    pub order: u32,
 }
 
 const MOST_TYPES: usize = 1024;
@@ -51,38 +41,6 @@ fn has_room(types: usize, members: usize, rows: usize, n: u32, m: u32, k: usize)
         & (type_count * ir_records::ROW_WORDS <= rows)
 }
 
-// The answer for the struct of an order.
-fn struct_answer(n: u32, span: u32, order: u32, outcome: Outcome) -> OrderAnswer
-    ensures { result ≡ struct_answer n span order outcome }
-{
-    match outcome {
-        Outcome::Accepted => OrderAnswer::Found { ty: n, span, order },
-        Outcome::Refused {
-            number,
-            ty,
-            member,
-            detail,
-        } => OrderAnswer::Refused {
-            number,
-            ty,
-            member,
-            detail,
-        },
-    }
-}
-
-// A refusal outside the arena check: zeros only.
-fn refused(number: u32) -> OrderAnswer
-    ensures { result ≡ answer.Refused number 0 0 0 }
-{
-    OrderAnswer::Refused {
-        number,
-        ty: 0,
-        member: 0,
-        detail: 0,
-    }
-}
-
 // The struct of the order that was found, with its own span.
 fn with_order(
     types: &mut [u32],
@@ -95,20 +53,20 @@ fn with_order(
     wanted: &[u32],
     order: u32,
     span: u32,
-) -> OrderAnswer
+) -> Result<OrderedStruct, Refusal>
     requires wanted_len_bound { length wanted.now ≤ 7 }
     requires n_in_bounds { n * 6 + 6 ≤ length types.old }
     requires wanted_bound { m + length wanted.now ≤ 4096 }
     requires wanted_in_bounds { (m + length wanted.now) * 4 ≤ length members.old }
     requires by_index { (j : ℕ) → j < length wanted.now → offset_of rows.old wanted.now (member_at (length wanted.now) order) j ≤ most }
     requires span_value { span ≡ span_of rows.old wanted.now (length wanted.now) (member_at (length wanted.now) order) }
-    ensures value { result ≡ (with_order rule capabilities types.old n members.old m rows.old wanted.now (found.At order)).answer }
-    ensures types_after { types.new ≡ (with_order rule capabilities types.old n members.old m rows.old wanted.now (found.At order)).types }
-    ensures members_after { members.new ≡ (with_order rule capabilities types.old n members.old m rows.old wanted.now (found.At order)).members }
-    ensures rows_after { rows.new ≡ (with_order rule capabilities types.old n members.old m rows.old wanted.now (found.At order)).rows }
+    ensures value { order_answer_of result ≡ (with_order rule capabilities types.old n members.old m rows.old wanted.now (Some order)).answer }
+    ensures types_after { types.new ≡ (with_order rule capabilities types.old n members.old m rows.old wanted.now (Some order)).types }
+    ensures members_after { members.new ≡ (with_order rule capabilities types.old n members.old m rows.old wanted.now (Some order)).members }
+    ensures rows_after { rows.new ≡ (with_order rule capabilities types.old n members.old m rows.old wanted.now (Some order)).rows }
 {
     let k = wanted.len() as u32;
-    let outcome = order_check::tried(
+    order_check::tried(
         types,
         n,
         members,
@@ -120,8 +78,8 @@ fn with_order(
         k,
         order,
         span,
-    );
-    struct_answer(n, span, order, outcome)
+    )?;
+    Ok(OrderedStruct { ty: n, span, order })
 }
 
 // Over an accepted arena and its rows: 16, then 6, 17 and 20, then 35, then the struct.
@@ -135,28 +93,27 @@ fn choose(
     rows: &mut [u32],
     wanted: &[u32],
     span: u32,
-) -> OrderAnswer
+) -> Result<OrderedStruct, Refusal>
     requires wanted_len_bound { length wanted.now ≤ 7 }
     requires n_in_bounds { n * 6 + 6 ≤ length types.old }
     requires wanted_bound { m + length wanted.now ≤ 4096 }
     requires wanted_in_bounds { (m + length wanted.now) * 4 ≤ length members.old }
     requires by_index { (t : ℕ) → t < n → 1 ≤ row_word rows.old t 1 }
-    ensures value { result ≡ (chosen rule capabilities types.old n members.old m rows.old wanted.now span).answer }
+    ensures value { order_answer_of result ≡ (chosen rule capabilities types.old n members.old m rows.old wanted.now span).answer }
     ensures types_after { types.new ≡ (chosen rule capabilities types.old n members.old m rows.old wanted.now span).types }
     ensures members_after { members.new ≡ (chosen rule capabilities types.old n members.old m rows.old wanted.now span).members }
     ensures rows_after { rows.new ≡ (chosen rule capabilities types.old n members.old m rows.old wanted.now span).rows }
 {
     if wanted.len() == 0 {
-        return refused(16);
+        return Err(Refusal::of(Fault::EmptyStruct));
     }
-    let number = order_types::number_of(types, rows, n, wanted);
-    if number != 0 {
-        return refused(number);
+    if let Err(fault) = order_types::check(types, rows, n, wanted) {
+        return Err(Refusal::of(fault));
     }
     let k = wanted.len() as u32;
     let last = order_types::last_of(types, rows, n, wanted);
     match order_search::first_order(rows, wanted, k, last, span) {
-        Found::At(order) => {
+        Some(order) => {
             let own = order_placement::span_of(rows, wanted, k, order) as u32;
             with_order(
                 types,
@@ -171,11 +128,11 @@ fn choose(
                 own,
             )
         }
-        Found::Nothing => refused(35),
+        None => Err(Refusal::of(Fault::NoOrder)),
     }
 }
 
-// The call: room, the arena check of the records in use, then the order. Nothing is asked of the caller.
+/// The call: room, the arena check of the records in use, then the order. Nothing is asked of the caller.
 pub fn order(
     types: &mut [u32],
     n: u32,
@@ -186,30 +143,17 @@ pub fn order(
     rows: &mut [u32],
     wanted: &[u32],
     span: u32,
-) -> OrderAnswer
-    ensures value { result ≡ (ordered rule capabilities types.old n members.old m rows.old wanted.now span).answer }
+) -> Result<OrderedStruct, Refusal>
+    ensures value { order_answer_of result ≡ (ordered rule capabilities types.old n members.old m rows.old wanted.now span).answer }
     ensures types_after { types.new ≡ (ordered rule capabilities types.old n members.old m rows.old wanted.now span).types }
     ensures members_after { members.new ≡ (ordered rule capabilities types.old n members.old m rows.old wanted.now span).members }
     ensures rows_after { rows.new ≡ (ordered rule capabilities types.old n members.old m rows.old wanted.now span).rows }
 {
     if !has_room(types.len(), members.len(), rows.len(), n, m, wanted.len()) {
-        return refused(1);
+        return Err(Refusal::of(Fault::TableLength));
     }
     let t = (n as usize) * ir_records::TYPE_WORDS;
     let u = (m as usize) * ir_records::MEMBER_WORDS;
-    let checked = order_check::check_first(types, t, members, u, capabilities, rule, rows);
-    match checked {
-        Outcome::Accepted => choose(types, n, members, m, capabilities, rule, rows, wanted, span),
-        Outcome::Refused {
-            number,
-            ty,
-            member,
-            detail,
-        } => OrderAnswer::Refused {
-            number,
-            ty,
-            member,
-            detail,
-        },
-    }
+    order_check::check_first(types, t, members, u, capabilities, rule, rows)?;
+    choose(types, n, members, m, capabilities, rule, rows, wanted, span)
 }

@@ -2,8 +2,8 @@
 -- Assumes nothing.
 use Rattle.std.specs.Prelude.{List, ◌++◌, ℕ, ◌*◌, take}
 use Rattle.ir_records.specs.Record.{type_words, member_words}
-use Rattle.ir_records.specs.declared.Outcome.{Outcome}
-use Rattle.ir_records.specs.declared.Outcome.TheVariants.{Accepted, Refused}
+use Rattle.ir_records.specs.Outcome.{Outcome}
+use Rattle.ir_records.specs.Outcome.{Accepted, Refused}
 
 -- the types in use and one record more
 abbrev pub types_with : (types : List ℕ) (n : ℕ) (own : List ℕ) → List ℕ

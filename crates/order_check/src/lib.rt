@@ -2,6 +2,7 @@
 #![tactic(auto)]
 
 ghost use Rattle.std.specs.Prelude.{◌≡◌, ℕ, ◌+◌, ◌*◌, ◌≤◌, ◌<◌, length, take};
+ghost use Rattle.ir_records.specs.Refusal.{outcome_of};
 ghost use Rattle.ir_rows.specs.Rows.{with_part};
 ghost use Rattle.proc_alignment.specs.Alignment.{most};
 ghost use Rattle.valid_arena.specs.Arena.{arena_answer, arena_words};
@@ -10,7 +11,7 @@ ghost use Rattle.order_placement.specs.Placement.{offset_of};
 ghost use Rattle.order_struct.specs.Struct.{struct_record, member_rows};
 ghost use Rattle.order_check.specs.Tables.{types_with, members_with, if_accepted};
 
-use ir_records::Outcome;
+use ir_records::Refusal;
 use valid_type_info::UniformRule;
 
 // The arena check of the first words of both tables.
@@ -22,10 +23,10 @@ pub fn check_first(
     capabilities: u32,
     rule: UniformRule,
     rows: &mut [u32],
-) -> Outcome
+) -> Result<(), Refusal>
     requires t_in_bounds { t ≤ length types.now }
     requires u_in_bounds { u ≤ length members.now }
-    ensures value { result ≡ arena_answer capabilities (take t types.now) (take u members.now) rows.old }
+    ensures value { outcome_of result ≡ arena_answer capabilities (take t types.now) (take u members.now) rows.old }
     ensures rows_after { rows.new ≡ arena_words rule capabilities (take t types.now) (take u members.now) rows.old }
 {
     valid_arena::check(&types[..t], &members[..u], capabilities, rule, rows)
@@ -44,15 +45,15 @@ pub fn tried(
     k: u32,
     order: u32,
     span: u32,
-) -> Outcome
+) -> Result<(), Refusal>
     requires k_bound { k ≤ 7 }
     requires n_in_bounds { n * 6 + 6 ≤ length types.old }
     requires k_bound_2 { m + k ≤ 4096 }
     requires k_in_bounds { (m + k) * 4 ≤ length members.old }
     requires by_index { (j : ℕ) → j < k → offset_of rows.old wanted.now (member_at k order) j ≤ most }
-    ensures value { result ≡ arena_answer capabilities (types_with types.old n (struct_record m k span)) (members_with members.old m (member_rows rows.old wanted.now k (member_at k order))) rows.old }
-    ensures types_after { types.new ≡ if_accepted result (with_part 6 types.old (n * 6) (struct_record m k span)) types.old }
-    ensures members_after { members.new ≡ if_accepted result (with_part (k * 4) members.old (m * 4) (member_rows rows.old wanted.now k (member_at k order))) members.old }
+    ensures value { outcome_of result ≡ arena_answer capabilities (types_with types.old n (struct_record m k span)) (members_with members.old m (member_rows rows.old wanted.now k (member_at k order))) rows.old }
+    ensures types_after { types.new ≡ if_accepted (outcome_of result) (with_part 6 types.old (n * 6) (struct_record m k span)) types.old }
+    ensures members_after { members.new ≡ if_accepted (outcome_of result) (with_part (k * 4) members.old (m * 4) (member_rows rows.old wanted.now k (member_at k order))) members.old }
     ensures rows_after { rows.new ≡ arena_words rule capabilities (types_with types.old n (struct_record m k span)) (members_with members.old m (member_rows rows.old wanted.now k (member_at k order))) rows.old }
 {
     let t = (n as usize) * ir_records::TYPE_WORDS;
@@ -73,13 +74,8 @@ pub fn tried(
         rows,
     );
     match checked {
-        Outcome::Accepted => checked,
-        Outcome::Refused {
-            number: _,
-            ty: _,
-            member: _,
-            detail: _,
-        } => {
+        Ok(()) => checked,
+        Err(_) => {
             order_struct::put(types, t, &kept, ir_records::TYPE_WORDS);
             order_struct::put(members, u, &kept_rows, w);
             checked

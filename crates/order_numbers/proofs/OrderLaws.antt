@@ -7,19 +7,18 @@ use native.Mathlib.Decide.{dec_le}
 use native.Mathlib.Omega.{arith}
 use lib.Dec.{leb}
 use borrow.Author.Tests.{leb-false, lt-leb, le-leb, eqb-true, eqb-false, eq-eqb, ne_eqb}
-use Rattle.order_numbers.specs.declared.Found.{Found}
-use Rattle.order_numbers.specs.declared.Found.TheVariants.{At, Nothing}
+use Rattle.std.specs.Prelude.{Option, Some, None}
 use Rattle.order_numbers.specs.Search.{first_from, is_found, is_nothing}
 use Rattle.order_numbers.specs.Order.{Order, StaysLast, alike, bad_place, is_order, stays_last}
 use Rattle.order_numbers.proofs.SearchLaws.{first_none, none_found}
 
-nothing_is : (r : Found) → is_nothing r ≡ true → r ≡ Nothing
-nothing_is (At k) e = let z : ◌≡◌ {A = ℕ} 0 1 = cc in absurd (omega arith)
-nothing_is Nothing e = refl
+nothing_is : (r : Option ℕ) → is_nothing r ≡ true → r ≡ None
+nothing_is (Some k) e = let z : ◌≡◌ {A = ℕ} 0 1 = cc in absurd (omega arith)
+nothing_is None e = refl
 
-not_found : (r : Found) → is_found r ≡ false → r ≡ Nothing
-not_found (At k) e = let z : ◌≡◌ {A = ℕ} 0 1 = cc in absurd (omega arith)
-not_found Nothing e = refl
+not_found : (r : Option ℕ) → is_found r ≡ false → r ≡ None
+not_found (Some k) e = let z : ◌≡◌ {A = ℕ} 0 1 = cc in absurd (omega arith)
+not_found None e = refl
 
 neither : (a b : Bool) → (a || b) ≡ false → (a ≡ false) × (b ≡ false)
 neither true b e = let z : ◌≡◌ {A = ℕ} 0 1 = cc in absurd (omega arith)

@@ -7,14 +7,14 @@ use native.Mathlib.Decide.{ℕ_discrete, dec_le}
 use native.Mathlib.Omega.{arith}
 use native.Mathlib.Numerals.{add-one}
 use Rattle.ir_records.specs.Result.{pick}
-use Rattle.order_numbers.specs.declared.Found.TheVariants.{At, Nothing}
+use Rattle.std.specs.Prelude.{Some, None}
 use Rattle.order_numbers.specs.Search.{first_from}
 
 one_more : (n k : ℕ) → k < n → n - k ≡ suc (n - (k + 1))
 one_more n k h = omega arith
 
 module _ (f : ℕ → Bool) (n k : ℕ) where
-  pub first_hit : k < n → f k ≡ true → first_from f (n - k) k ≡ At k
+  pub first_hit : k < n → f k ≡ true → first_from f (n - k) k ≡ Some k
   unfolding first_from
   first_hit h e = rw (one_more n k h, e)
 
@@ -22,18 +22,18 @@ module _ (f : ℕ → Bool) (n k : ℕ) where
   unfolding first_from
   first_miss h e = rw (one_more n k h, e, add-one k)
 
-  pub first_done : n ≤ k → first_from f (n - k) k ≡ Nothing
+  pub first_done : n ≤ k → first_from f (n - k) k ≡ None
   unfolding first_from
   first_done h = let z : n - k ≡ 0 = omega arith in rw z
 
 -- what is found passes the test, and none before it does
-pub first_least : (f : ℕ → Bool) (left k m : ℕ) → first_from f left k ≡ At m → (f m ≡ true) × (k ≤ m) × (m < left + k) × ((i : ℕ) → k ≤ i → i < m → f i ≡ false)
+pub first_least : (f : ℕ → Bool) (left k m : ℕ) → first_from f left k ≡ Some m → (f m ≡ true) × (k ≤ m) × (m < left + k) × ((i : ℕ) → k ≤ i → i < m → f i ≡ false)
 unfolding first_from
 first_least f zero k m e = let z : ◌≡◌ {A = ℕ} 0 1 = cc in absurd (omega arith)
 first_least f (suc left) k m e = go (f k) refl e (first_least f left (suc k) m)
   where
-    go : (b : Bool) → f k ≡ b → pick b (At k) (first_from f left (suc k)) ≡ At m
-        → (first_from f left (suc k) ≡ At m → (f m ≡ true) × (suc k ≤ m) × (m < left + suc k) × ((i : ℕ) → suc k ≤ i → i < m → f i ≡ false))
+    go : (b : Bool) → f k ≡ b → pick b (Some k) (first_from f left (suc k)) ≡ Some m
+        → (first_from f left (suc k) ≡ Some m → (f m ≡ true) × (suc k ≤ m) × (m < left + suc k) × ((i : ℕ) → suc k ≤ i → i < m → f i ≡ false))
         → (f m ≡ true) × (k ≤ m) × (m < suc left + k) × ((i : ℕ) → k ≤ i → i < m → f i ≡ false)
     go true q d ih = let same : k ≡ m = cc in (rw (← same) q, omega arith, omega arith, λ i h l. absurd (omega arith))
     go false q d ih =
@@ -45,13 +45,13 @@ first_least f (suc left) k m e = go (f k) refl e (first_least f left (suc k) m)
         below i h l ih (no s) = ih i (omega arith) l
 
 -- where nothing is found, none passes
-pub first_none : (f : ℕ → Bool) (left k : ℕ) → first_from f left k ≡ Nothing → (i : ℕ) → k ≤ i → i < left + k → f i ≡ false
+pub first_none : (f : ℕ → Bool) (left k : ℕ) → first_from f left k ≡ None → (i : ℕ) → k ≤ i → i < left + k → f i ≡ false
 unfolding first_from
 first_none f zero k e i h l = absurd (omega arith)
 first_none f (suc left) k e i h l = go (f k) refl e (first_none f left (suc k))
   where
-    go : (b : Bool) → f k ≡ b → pick b (At k) (first_from f left (suc k)) ≡ Nothing
-        → (first_from f left (suc k) ≡ Nothing → (i : ℕ) → suc k ≤ i → i < left + suc k → f i ≡ false) → f i ≡ false
+    go : (b : Bool) → f k ≡ b → pick b (Some k) (first_from f left (suc k)) ≡ None
+        → (first_from f left (suc k) ≡ None → (i : ℕ) → suc k ≤ i → i < left + suc k → f i ≡ false) → f i ≡ false
     go true q d ih = let z : ◌≡◌ {A = ℕ} 0 1 = cc in absurd (omega arith)
     go false q d ih = at (ℕ_discrete i k)
       where
@@ -60,7 +60,7 @@ first_none f (suc left) k e i h l = go (f k) refl e (first_none f left (suc k))
         at (no s) = ih d i (omega arith) (omega arith)
 
 -- and the other way round
-pub none_found : (f : ℕ → Bool) (left k : ℕ) → ((i : ℕ) → k ≤ i → i < left + k → f i ≡ false) → first_from f left k ≡ Nothing
+pub none_found : (f : ℕ → Bool) (left k : ℕ) → ((i : ℕ) → k ≤ i → i < left + k → f i ≡ false) → first_from f left k ≡ None
 unfolding first_from
 none_found f zero k h = refl
 none_found f (suc left) k h = rw (h k (omega arith) (omega arith)) (none_found f left (suc k) (λ i a b. h i (omega arith) (omega arith)))

@@ -7,8 +7,7 @@ use native.Mathlib.Nat.{div-div-eq-div-mul, div-eq_of_lt-le, div-mul-le_self, lt
 use native.Mathlib.Numerals.{add-one}
 use native.Mathlib.Omega.{arith}
 use lib.Pow.{pow-add}
-use Rattle.order_numbers.specs.declared.Found.{Found}
-use Rattle.order_numbers.specs.declared.Found.TheVariants.{At, Nothing}
+use Rattle.std.specs.Prelude.{Option, Some, None}
 use Rattle.order_numbers.specs.Search.{first_from, is_nothing}
 use Rattle.order_numbers.specs.Order.{member_at, bad_place, is_order, after_place, next_try}
 use Rattle.order_numbers.proofs.SearchLaws.{first_least}
@@ -62,26 +61,26 @@ module _ (n order : ℕ) where
   pub next_none : (i : ℕ) → order ≤ i → i < next_try n order (first_from (bad_place n (member_at n order)) n 0) → is_order n (member_at n i) ≡ false
   next_none i least = go (first_from (bad_place n (member_at n order)) n 0) refl
     where
-      go : (r : Found) → first_from (bad_place n (member_at n order)) n 0 ≡ r → i < next_try n order r → is_order n (member_at n i) ≡ false
-      go (At j) q most =
+      go : (r : Option ℕ) → first_from (bad_place n (member_at n order)) n 0 ≡ r → i < next_try n order r → is_order n (member_at n i) ≡ false
+      go (Some j) q most =
           let f = first_least (bad_place n (member_at n order)) n 0 j q in
           let l : j < n = omega (arith, f.2) in
           bad_order n (member_at n i) j l (bad_shared n j (member_at n order) (member_at n i) (places_same j i l least most) f.0)
-      go Nothing q most = absurd (omega arith)
+      go None q most = absurd (omega arith)
 
   -- where none is left out, the number is an order
   pub next_order : next_try n order (first_from (bad_place n (member_at n order)) n 0) ≡ order → is_order n (member_at n order) ≡ true
   unfolding is_order
   next_order = go (first_from (bad_place n (member_at n order)) n 0)
     where
-      go : (r : Found) → next_try n order r ≡ order → is_nothing r ≡ true
-      go (At j) e = absurd (omega (arith, e, above_more order (7 ^ (n - 1 - j)) (power_positive (n - 1 - j))))
-      go Nothing e = refl
+      go : (r : Option ℕ) → next_try n order r ≡ order → is_nothing r ≡ true
+      go (Some j) e = absurd (omega (arith, e, above_more order (7 ^ (n - 1 - j)) (power_positive (n - 1 - j))))
+      go None e = refl
 
   -- and none before the number is tried
   pub next_least : order ≤ next_try n order (first_from (bad_place n (member_at n order)) n 0)
   next_least = go (first_from (bad_place n (member_at n order)) n 0)
     where
-      go : (r : Found) → order ≤ next_try n order r
-      go (At j) = omega (arith, above_more order (7 ^ (n - 1 - j)) (power_positive (n - 1 - j)))
-      go Nothing = omega arith
+      go : (r : Option ℕ) → order ≤ next_try n order r
+      go (Some j) = omega (arith, above_more order (7 ^ (n - 1 - j)) (power_positive (n - 1 - j)))
+      go None = omega arith

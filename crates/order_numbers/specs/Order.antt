@@ -2,8 +2,7 @@
 -- the member numbers, the first place's the highest.
 -- Assumes nothing.
 use Rattle.std.specs.Prelude.{◌≡◌, Bool, ◌||◌, List, [], ◌∷◌, ◌⊎◌, ℕ, ◌+◌, ◌-◌, ◌*◌, ◌/◌, ◌%◌, ◌^◌, ◌<◌, eqb, leb}
-use Rattle.order_numbers.specs.declared.Found.{Found}
-use Rattle.order_numbers.specs.declared.Found.TheVariants.{At, Nothing}
+use Rattle.std.specs.Prelude.{Option, Some, None}
 use Rattle.order_numbers.specs.Search.{first_from, is_found, is_nothing}
 
 -- ---- what an order is
@@ -61,6 +60,6 @@ abbrev pub after_place : (n order j : ℕ) → ℕ
 after_place n order j = (order / 7 ^ (n - 1 - j) + 1) * 7 ^ (n - 1 - j)
 
 -- from a number on, with its first bad place: the next to try
-abbrev pub next_try : (n order : ℕ) → Found → ℕ
-next_try n order (At j) = after_place n order j
-next_try n order Nothing = order
+abbrev pub next_try : (n order : ℕ) → Option ℕ → ℕ
+next_try n order (Some j) = after_place n order j
+next_try n order None = order

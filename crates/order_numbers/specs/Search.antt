@@ -2,18 +2,17 @@
 -- Assumes nothing.
 use Rattle.std.specs.Prelude.{Bool, true, false, ℕ, zero, suc}
 use Rattle.ir_records.specs.Result.{pick}
-use Rattle.order_numbers.specs.declared.Found.{Found}
-use Rattle.order_numbers.specs.declared.Found.TheVariants.{At, Nothing}
+use Rattle.std.specs.Prelude.{Option, Some, None}
 
 -- among `left` numbers from k on
-unfoldable pub first_from : (ℕ → Bool) → (left k : ℕ) → Found
-first_from f zero k = Nothing
-first_from f (suc left) k = pick (f k) (At k) (first_from f left (suc k))
+unfoldable pub first_from : (ℕ → Bool) → (left k : ℕ) → Option ℕ
+first_from f zero k = None
+first_from f (suc left) k = pick (f k) (Some k) (first_from f left (suc k))
 
-abbrev pub is_found : Found → Bool
-is_found (At k) = true
-is_found Nothing = false
+abbrev pub is_found : Option ℕ → Bool
+is_found (Some k) = true
+is_found None = false
 
-abbrev pub is_nothing : Found → Bool
-is_nothing (At k) = false
-is_nothing Nothing = true
+abbrev pub is_nothing : Option ℕ → Bool
+is_nothing (Some k) = false
+is_nothing None = true

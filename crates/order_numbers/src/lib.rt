@@ -6,13 +6,6 @@ ghost use Rattle.std.specs.Prelude.{◌≡◌, ◌+◌, ◌^◌, ◌≤◌, ◌<
 ghost use Rattle.order_numbers.specs.Search.{first_from};
 ghost use Rattle.order_numbers.specs.Order.{member_at, bad_place, stays_last, after_place, next_try};
 
-// What a search answers.
-#[derive(Clone, Copy)]
-pub enum Found {
-    At(u32),
-    Nothing,
-}
-
 pub const MOST_MEMBERS: usize = 7;
 
 const POWERS: [u32; 8] = [1, 7, 49, 343, 2401, 16807, 117649, 823543];
@@ -42,30 +35,26 @@ fn bad_place(order: u32, n: u32, j: u32) -> bool
     ensures { result ≡ bad_place n (member_at n order) j }
 {
     let m = member_at(order, n, j);
-    let mut h: u32 = 0;
-    while h < j {
+    for h in 0..j {
         let earlier = member_at(order, n, h);
         if earlier == m {
             return true;
         }
-        h += 1;
     }
     n <= m
 }
 
 // The first such place; none in an order.
-fn first_bad(order: u32, n: u32) -> Found
+fn first_bad(order: u32, n: u32) -> Option<u32>
     requires { n ≤ 7 }
     ensures { result ≡ first_from (bad_place n (member_at n order)) n 0 }
 {
-    let mut j: u32 = 0;
-    while j < n {
+    for j in 0..n {
         if bad_place(order, n, j) {
-            return Found::At(j);
+            return Some(j);
         }
-        j += 1;
     }
-    Found::Nothing
+    None
 }
 
 // A runtime array, member `last`, stays last; n for none.
@@ -85,8 +74,8 @@ pub fn next_try(order: u32, n: u32) -> u32
     ensures { (result ≡ next_try n order (first_from (bad_place n (member_at n order)) n 0)) × (result ≤ order + 823543) }
 {
     match first_bad(order, n) {
-        Found::At(j) => after_place(order, n, j),
-        Found::Nothing => order,
+        Some(j) => after_place(order, n, j),
+        None => order,
     }
 }
 

@@ -33,13 +33,11 @@ fn end_after(rows: &[u32], wanted: &[u32], n: u32, order: u32, count: u32) -> u6
     ensures { (result ≡ end_after rows.now wanted.now (member_at n order) count) × (result ≤ 60129542144) }
 {
     let mut end: u64 = 0;
-    let mut j: u32 = 0;
-    while j < count {
+    for j in 0..count {
         let m = order_numbers::member_at(order, n, j);
         let offset = wgsl_placement::round_up(align_of(rows, wanted, m), end);
         let size = size_of(rows, wanted, m) as u64;
         end = offset + size;
-        j += 1;
     }
     end
 }
@@ -60,10 +58,8 @@ fn align_of_struct(rows: &[u32], wanted: &[u32], n: u32) -> u32
     ensures { result ≡ align_of_struct rows.now wanted.now n }
 {
     let mut most: u32 = 1;
-    let mut m: u32 = 0;
-    while m < n {
+    for m in 0..n {
         most = proc_alignment::larger(most, align_of(rows, wanted, m));
-        m += 1;
     }
     most
 }

@@ -2,7 +2,7 @@
 -- Orders are told by the member at each place: no number stands in what is said of them.
 -- Assumes nothing.
 use Rattle.std.specs.Prelude.{◌≡◌, List, ℕ, ◌≤◌}
-use Rattle.order_numbers.specs.declared.Found.TheVariants.{At, Nothing}
+use Rattle.std.specs.Prelude.{Some, None}
 use Rattle.order_numbers.specs.Order.{Order, StaysLast, AtOrBefore, member_at}
 use Rattle.order_placement.specs.Placement.{span_of}
 use Rattle.order_search.specs.Fitting.{first_order}
@@ -14,8 +14,8 @@ pub record Fits (rows wanted : List ℕ) (n last span : ℕ) (member : ℕ → �
   pub within : span_of rows wanted n member ≤ span
 
 pub record FirstOrder : Type 0 where
-  pub found : (rows wanted : List ℕ) (n last span order : ℕ) → n ≤ 7 → first_order rows wanted n last span ≡ At order
+  pub found : (rows wanted : List ℕ) (n last span order : ℕ) → n ≤ 7 → first_order rows wanted n last span ≡ Some order
       → Fits rows wanted n last span (member_at n order)
       × ((member : ℕ → ℕ) → Fits rows wanted n last span member → AtOrBefore n (member_at n order) member)
-  pub none : (rows wanted : List ℕ) (n last span : ℕ) → n ≤ 7 → first_order rows wanted n last span ≡ Nothing
+  pub none : (rows wanted : List ℕ) (n last span : ℕ) → n ≤ 7 → first_order rows wanted n last span ≡ None
       → (member : ℕ → ℕ) → ¬ Fits rows wanted n last span member

@@ -1,7 +1,7 @@
 -- 02, E11: the first order by member numbers whose placement has at most a wanted span.
 -- Assumes nothing.
 use Rattle.std.specs.Prelude.{Bool, ◌&&◌, List, ℕ, ◌^◌, leb}
-use Rattle.order_numbers.specs.declared.Found.{Found}
+use Rattle.std.specs.Prelude.{Option}
 use Rattle.order_numbers.specs.Search.{first_from}
 use Rattle.order_numbers.specs.Order.{member_at, is_order, stays_last}
 use Rattle.order_placement.specs.Placement.{span_of}
@@ -16,5 +16,5 @@ module _ (rows wanted : List ℕ) (n last span : ℕ) where
   number_fits order = fits (member_at n order)
 
   -- the first, as a number
-  unfoldable pub first_order : Found
+  unfoldable pub first_order : Option ℕ
   first_order = first_from number_fits (7 ^ n) 0

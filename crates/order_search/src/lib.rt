@@ -6,8 +6,6 @@ ghost use Rattle.order_numbers.specs.Order.{member_at, stays_last};
 ghost use Rattle.order_placement.specs.Placement.{span_of};
 ghost use Rattle.order_search.specs.Fitting.{first_order};
 
-use order_numbers::Found;
-
 // Whether a number is an order that is allowed and has at most the span; `next` is the number itself where it is an order.
 fn order_fits(
     rows: &[u32],
@@ -33,7 +31,7 @@ fn order_fits(
 }
 
 // The first such number.
-pub fn first_order(rows: &[u32], wanted: &[u32], n: u32, last: u32, span: u32) -> Found
+pub fn first_order(rows: &[u32], wanted: &[u32], n: u32, last: u32, span: u32) -> Option<u32>
     requires le_n { 1 ≤ n }
     requires n_bound { n ≤ 7 }
     ensures { result ≡ first_order rows.now wanted.now n last span }
@@ -43,10 +41,10 @@ pub fn first_order(rows: &[u32], wanted: &[u32], n: u32, last: u32, span: u32) -
     while order < all {
         let next = order_numbers::next_try(order, n);
         if order_fits(rows, wanted, n, last, span, order, next) {
-            return Found::At(order);
+            return Some(order);
         }
         let after = order + 1;
         order = proc_alignment::larger(next, after);
     }
-    Found::Nothing
+    None
 }

@@ -17,11 +17,7 @@ pub fn put(table: &mut [u32], at: usize, words: &[u32], count: usize)
     requires count_in_bounds_2 { count ≤ length words.now }
     ensures { table.new ≡ paste table.old at words.now count }
 {
-    let mut j = 0;
-    while j < count {
-        table[at + j] = words[j];
-        j += 1;
-    }
+    table[at..at + count].copy_from_slice(&words[..count]);
 }
 
 // The member record of place j of an order of k, behind m rows.
@@ -47,10 +43,8 @@ fn put_rows(members: &mut [u32], m: u32, rows: &[u32], wanted: &[u32], k: u32, o
     requires by_index { (j : ℕ) → j < k → offset_of rows.now wanted.now (member_at k order) j ≤ most }
     ensures { members.new ≡ with_part (k * 4) members.old (m * 4) (member_rows rows.now wanted.now k (member_at k order)) }
 {
-    let mut j: u32 = 0;
-    while j < k {
+    for j in 0..k {
         put_row(members, m, rows, wanted, k, order, j);
-        j += 1;
     }
 }
 

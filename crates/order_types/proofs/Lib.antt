@@ -1,1 +1,2 @@
 pub mod GivenLaws
+mod SortLaws

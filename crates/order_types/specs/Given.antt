@@ -1,13 +1,11 @@
 -- 02, E11: what is asked of the given types, number by number over all of them: of the arena (6), data (17), no unsized struct and no second
 -- runtime array (20).
 -- Assumes nothing.
-use Rattle.std.specs.Prelude.{Bool, false, not, ◌||◌, List, ℕ, ◌+◌, ◌-◌, eqb, leb, length, get_or}
+use Rattle.std.specs.Prelude.{Bool, false, not, ◌||◌, List, ℕ, ◌+◌, ◌-◌, eqb, leb, length, get_or, Option, Some, None, unwrap_or}
 use Rattle.ir_records.specs.Result.{pick}
 use Rattle.ir_records.specs.Record.{struct_kind, type_word}
 use Rattle.ir_rows.specs.Rows.{row_word}
 use Rattle.valid_flags.specs.Flags.{bit, data_bit, sized_bit}
-use Rattle.order_numbers.specs.declared.Found.{Found}
-use Rattle.order_numbers.specs.declared.Found.TheVariants.{At, Nothing}
 use Rattle.order_numbers.specs.Search.{first_from, is_found}
 
 -- ---- the sorts of types
@@ -41,13 +39,13 @@ module _ (types rows : List ℕ) (n : ℕ) (wanted : List ℕ) where
   is_sort sort j = eqb (sort_of types rows n (get_or wanted j 0)) sort
 
   -- the first of a sort, from one of them on
-  unfoldable pub first_of : (sort from : ℕ) → Found
+  unfoldable pub first_of : (sort from : ℕ) → Option ℕ
   first_of sort from = first_from (is_sort sort) (length wanted - from) from
 
   -- another runtime array after the first
-  abbrev pub is_second : (first : Found) → Bool
-  is_second (At j) = is_found (first_of runtime_array (j + 1))
-  is_second Nothing = false
+  abbrev pub is_second : (first : Option ℕ) → Bool
+  is_second (Some j) = is_found (first_of runtime_array (j + 1))
+  is_second None = false
 
   -- the number of the refusal; 0 for none
   unfoldable pub number_of : ℕ
@@ -57,9 +55,8 @@ module _ (types rows : List ℕ) (n : ℕ) (wanted : List ℕ) where
       (pick (is_found (first_of unsized_struct 0) || is_second (first_of runtime_array 0)) 20
       0))
 
-  abbrev pub place_or : ℕ → Found → ℕ
-  place_or none (At j) = j
-  place_or none Nothing = none
+  abbrev pub place_or : ℕ → Option ℕ → ℕ
+  place_or none found = unwrap_or found none
 
   -- the runtime array; as many as are given for none
   unfoldable pub last_of : ℕ

@@ -7,8 +7,8 @@ use native.Mathlib.Omega.{arith}
 use lib.ListN.{length, take, drop}
 use lib.Seq.{paste, take_all}
 use borrow.Author.Tests.{le-ltb, lt-ltb}
-use Rattle.order_call.specs.declared.OrderAnswer.{OrderAnswer}
-use Rattle.order_call.specs.declared.OrderAnswer.TheVariants as answer
+use Rattle.order_call.specs.Answer.{OrderAnswer}
+use Rattle.order_call.specs.Answer as answer
 use Rattle.order_words.specs.Words.{found_words, with_found}
 
 found_length : (k : ℕ) (a : OrderAnswer) → length (found_words k a) ≡ 9

@@ -2,11 +2,11 @@
 -- Assumes nothing.
 use Rattle.std.specs.Prelude.{◌&&◌, List, [], ◌∷◌, ◌++◌, ℕ, leb, ltb, length, drop}
 use Rattle.ir_records.specs.Result.{pick}
-use Rattle.ir_records.specs.declared.Outcome.{Outcome}
-use Rattle.ir_records.specs.declared.Outcome.TheVariants as outcome
+use Rattle.ir_records.specs.Outcome.{Outcome}
+use Rattle.ir_records.specs.Outcome as outcome
 use Rattle.order_numbers.specs.Order.{member_at}
-use Rattle.order_call.specs.declared.OrderAnswer.{OrderAnswer}
-use Rattle.order_call.specs.declared.OrderAnswer.TheVariants as answer
+use Rattle.order_call.specs.Answer.{OrderAnswer}
+use Rattle.order_call.specs.Answer as answer
 
 abbrev pub order_outcome : OrderAnswer → Outcome
 order_outcome (answer.Found ty span order) = outcome.Accepted

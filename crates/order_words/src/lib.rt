@@ -2,34 +2,20 @@
 #![tactic(auto)]
 
 ghost use Rattle.std.specs.Prelude.{◌≡◌};
+ghost use Rattle.ir_records.specs.Refusal.{outcome_of};
+ghost use Rattle.order_call.specs.Answer.{order_answer_of};
 ghost use Rattle.order_words.specs.Words.{order_outcome, place_word, found_words, with_found};
 
-use ir_records::Outcome;
-use order_call::OrderAnswer;
+use ir_records::Refusal;
+use order_call::OrderedStruct;
 
 pub const FOUND_WORDS: usize = 9;
 
-pub fn order_outcome(found: OrderAnswer) -> Outcome
-    ensures { result ≡ order_outcome found }
+pub fn order_outcome(found: Result<OrderedStruct, Refusal>) -> Result<(), Refusal>
+    ensures { outcome_of result ≡ order_outcome (order_answer_of found) }
 {
-    match found {
-        OrderAnswer::Found {
-            ty: _,
-            span: _,
-            order: _,
-        } => Outcome::Accepted,
-        OrderAnswer::Refused {
-            number,
-            ty,
-            member,
-            detail,
-        } => Outcome::Refused {
-            number,
-            ty,
-            member,
-            detail,
-        },
-    }
+    found?;
+    Ok(())
 }
 
 // The member at place j of an order of k; 0 for a place that it has not.
@@ -47,32 +33,27 @@ fn place_word(k: usize, order: u32, j: u32) -> u32
 }
 
 // The struct's type number and its span, then a word for each of seven places; zeros for a refusal.
-pub fn found_words(k: usize, found: OrderAnswer) -> [u32; 9]
-    ensures { result ≡ found_words k found }
+pub fn found_words(k: usize, found: Result<OrderedStruct, Refusal>) -> [u32; 9]
+    ensures { result ≡ found_words k (order_answer_of found) }
 {
     match found {
-        OrderAnswer::Found { ty, span, order } => {
-            let a = place_word(k, order, 0);
-            let b = place_word(k, order, 1);
-            let c = place_word(k, order, 2);
-            let d = place_word(k, order, 3);
-            let e = place_word(k, order, 4);
-            let f = place_word(k, order, 5);
-            let g = place_word(k, order, 6);
-            [ty, span, a, b, c, d, e, f, g]
+        Ok(found) => {
+            let a = place_word(k, found.order, 0);
+            let b = place_word(k, found.order, 1);
+            let c = place_word(k, found.order, 2);
+            let d = place_word(k, found.order, 3);
+            let e = place_word(k, found.order, 4);
+            let f = place_word(k, found.order, 5);
+            let g = place_word(k, found.order, 6);
+            [found.ty, found.span, a, b, c, d, e, f, g]
         }
-        OrderAnswer::Refused {
-            number: _,
-            ty: _,
-            member: _,
-            detail: _,
-        } => [0, 0, 0, 0, 0, 0, 0, 0, 0],
+        Err(_) => [0, 0, 0, 0, 0, 0, 0, 0, 0],
     }
 }
 
 // These nine words; a shorter buffer is left as it was.
-pub fn put_found(words: &mut [u32], k: usize, found: OrderAnswer)
-    ensures { words.new ≡ with_found words.old k found }
+pub fn put_found(words: &mut [u32], k: usize, found: Result<OrderedStruct, Refusal>)
+    ensures { words.new ≡ with_found words.old k (order_answer_of found) }
 {
     if words.len() < FOUND_WORDS {
         return;

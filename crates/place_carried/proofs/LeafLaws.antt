@@ -23,7 +23,7 @@ use Rattle.valid_type_info.specs.declared.UniformRule.{UniformRule}
 use Rattle.valid_type_info.specs.Verdict.{least_for}
 use Rattle.valid_arena.specs.Arena.{row}
 use Rattle.valid_arena.proofs.AcceptedLaws.{AcceptedTypes, plain-row, array_row, runtime_array_row, member_earlier}
-use Rattle.place_steps.specs.declared.Step.TheVariants.{To, Column}
+use Rattle.place_steps.specs.Step.{To, Column}
 use Rattle.place_steps.specs.Columns.{is_whole, column_count, leaf_length}
 use Rattle.place_steps.specs.Steps.{is_leaf, step_of}
 use Rattle.place_descent.specs.Place.{step_in, leaf_in}

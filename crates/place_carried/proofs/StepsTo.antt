@@ -7,7 +7,7 @@ use borrow.Author.Tests.{lt-ltb}
 use Rattle.ir_records.specs.Record.{member_type, member_offset}
 use Rattle.ir_records.specs.declared.Leaf.{Leaf}
 use Rattle.ir_records.specs.declared.TypeInner.TheVariants.{Plain, Array, RuntimeArray, Struct}
-use Rattle.place_steps.specs.declared.Step.TheVariants.{To, Column}
+use Rattle.place_steps.specs.Step.{To, Column}
 use Rattle.proc_type_methods.specs.TypeMethods.{leaf_column_step}
 use Rattle.place_steps.specs.Columns.{column_count}
 use Rattle.place_steps.specs.Steps.{step_of}

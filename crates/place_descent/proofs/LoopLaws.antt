@@ -11,8 +11,8 @@ use borrow.Author.Tests.{le-ltb}
 use Rattle.ir_records.specs.Result.{pick}
 use Rattle.ir_records.specs.Record.{type_count, type_inner, decoded}
 use Rattle.ir_records.specs.Serving.{InnerBounds}
-use Rattle.place_steps.specs.declared.Step.TheVariants.{To, Column, NoStep}
-use Rattle.place_descent.specs.declared.Place.TheVariants.{At, NoPlace}
+use Rattle.place_steps.specs.Step.{To, Column, NoStep}
+use Rattle.place_descent.specs.Place.{At, NoPlace}
 use Rattle.place_descent.specs.Place.{ended, follow, step_in, leaf_in, place_in, place_of}
 use Rattle.place_descent.specs.Serving.{Descends}
 use Rattle.place_descent.proofs.WalkLaws.{place_from}

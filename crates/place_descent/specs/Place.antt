@@ -1,14 +1,23 @@
 -- 01, 'The place', with E6 of 02: steps (member numbers, element numbers, column numbers) lead from a DATA type to a leaf. Fed the type
 -- and member records, the start and the steps, never a row.
 -- Assumes nothing.
-use Rattle.std.specs.Prelude.{Bool, List, [], ◌∷◌, ℕ, ◌+◌, ltb}
+use Rattle.std.specs.Prelude.{Bool, List, [], ◌∷◌, ℕ, ◌+◌, ltb, Option, Some, None}
 use Rattle.ir_records.specs.Result.{pick}
 use Rattle.ir_records.specs.Record.{type_count, Decoded, decoded}
 use Rattle.place_steps.specs.Steps.{is_leaf, step_of}
-use Rattle.place_steps.specs.declared.Step.{Step}
-use Rattle.place_steps.specs.declared.Step.TheVariants.{To, Column, NoStep}
-use Rattle.place_descent.specs.declared.Place.{Place}
-use Rattle.place_descent.specs.declared.Place.TheVariants.{At, NoPlace}
+use Rattle.place_steps.specs.Step.{Step}
+use Rattle.place_steps.specs.Step.{To, Column, NoStep}
+use Rattle.place_descent.specs.declared.Place as code
+
+-- the byte place of a leaf and its type; of a column, the matrix's type
+pub data Place : Type 0 where
+  At : (byte leaf : ℕ) → Place
+  NoPlace : Place
+
+-- what the code's answers say
+abbrev pub found_place : Option code.Place → Place
+found_place (Some p) = At p.byte p.leaf
+found_place None = NoPlace
 
 -- a column is reached: there the steps must end. The answered type is the matrix's
 abbrev pub ended : (byte ty : ℕ) → (rest : List ℕ) → Place

@@ -3,7 +3,7 @@
 use Rattle.std.specs.Prelude.{◌≡◌, ℕ, ◌+◌, ◌^◌, ◌≤◌, ◌<◌}
 use Rattle.ir_records.specs.Record.{Decoded}
 use Rattle.ir_records.specs.Serving.{InnerBounds}
-use Rattle.place_steps.specs.declared.Step.TheVariants.{To, Column}
+use Rattle.place_steps.specs.Step.{To, Column}
 use Rattle.place_descent.specs.Place.{step_in}
 
 -- ---- what the code asks of the n types of an arena, so that no byte place passes 64 bits

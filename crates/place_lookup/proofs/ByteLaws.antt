@@ -28,7 +28,7 @@ use Rattle.valid_flags.proofs.BitLaws.{bit-and}
 use Rattle.valid_type_info.specs.Verdict.{min_storage}
 use Rattle.valid_arena.specs.Arena.{row}
 use Rattle.valid_arena.proofs.AcceptedLaws.{AcceptedTypes, base_sized, runtime_array_row, struct_member}
-use Rattle.place_steps.specs.declared.Step.TheVariants.{To, Column}
+use Rattle.place_steps.specs.Step.{To, Column}
 use Rattle.place_steps.specs.Columns.{column_count}
 use Rattle.place_steps.specs.Steps.{step_of}
 use Rattle.place_descent.specs.Place.{step_in}

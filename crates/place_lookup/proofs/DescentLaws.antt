@@ -9,7 +9,7 @@ use Rattle.ir_records.specs.declared.TypeInner.TheVariants.{Plain, Array, Runtim
 use Rattle.valid_flags.specs.Flags.{bit, sized_bit}
 use Rattle.valid_arena.specs.Arena.{row}
 use Rattle.valid_arena.proofs.AcceptedLaws.{AcceptedTypes, base_sized, array_row, runtime_array_row, member_earlier, struct_row, struct_member}
-use Rattle.place_steps.specs.declared.Step.TheVariants.{To}
+use Rattle.place_steps.specs.Step.{To}
 use Rattle.place_steps.specs.Steps.{step_of}
 use Rattle.place_descent.specs.Place.{step_in}
 use Rattle.place_descent.proofs.WalkLaws.{plain_step, array_step, runtime_array_step, struct_step, other_step}

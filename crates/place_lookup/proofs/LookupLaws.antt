@@ -12,7 +12,7 @@ use borrow.Author.Tests.{le-leb}
 use Rattle.ir_records.specs.Result.{pick}
 use Rattle.ir_records.specs.Record.{type_count, type_words, member_words, decoded}
 use Rattle.ir_records.specs.Fields.{most_types, most_members, row_words, tables_fit, capabilities_known}
-use Rattle.ir_records.specs.declared.Outcome.TheVariants.{Accepted, Refused}
+use Rattle.ir_records.specs.Outcome.{Accepted, Refused}
 use Rattle.ir_records.proofs.ResultLaws.{T_true, and_left}
 use Rattle.ir_records.proofs.RecordLaws.{tables_fitting}
 use Rattle.valid_arena.specs.Arena.{arena_outcome, arena_answer, arena}

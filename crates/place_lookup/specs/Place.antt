@@ -1,14 +1,14 @@
 -- 01, 'The place': the call. The arena's refusal is passed on; no place is 26, which carries zeros only.
 -- Assumes nothing.
 use Rattle.std.specs.Prelude.{List, ℕ}
-use Rattle.ir_records.specs.declared.Outcome.{Outcome}
-use Rattle.ir_records.specs.declared.Outcome.TheVariants as outcome
+use Rattle.ir_records.specs.Outcome.{Outcome}
+use Rattle.ir_records.specs.Outcome as outcome
 use Rattle.valid_arena.specs.Arena.{arena_answer}
-use Rattle.place_descent.specs.declared.Place.{Place}
-use Rattle.place_descent.specs.declared.Place.TheVariants.{At, NoPlace}
+use Rattle.place_descent.specs.Place.{Place}
+use Rattle.place_descent.specs.Place.{At, NoPlace}
 use Rattle.place_descent.specs.Place.{place_of}
-use Rattle.place_lookup.specs.declared.PlaceAnswer.{PlaceAnswer}
-use Rattle.place_lookup.specs.declared.PlaceAnswer.TheVariants as answer
+use Rattle.place_lookup.specs.Answer.{PlaceAnswer}
+use Rattle.place_lookup.specs.Answer as answer
 
 abbrev pub place_answer : Place → PlaceAnswer
 place_answer (At byte leaf) = answer.Found byte leaf

@@ -12,7 +12,7 @@ use lib.Seq.{drop_at}
 use Rattle.ir_records.specs.Result.{pick, ok}
 use Rattle.ir_records.specs.Record.{decoded, type_count, type_inner}
 use Rattle.ir_records.specs.Table.{first_refusal, flat}
-use Rattle.ir_records.specs.declared.Outcome.TheVariants.{Accepted}
+use Rattle.ir_records.specs.Outcome.{Accepted}
 use Rattle.ir_records.proofs.ResultLaws.{required}
 use Rattle.ir_records.proofs.TableLaws.{all_ok, flat_length, flat_word}
 use Rattle.valid_flags.specs.Flags.{bit, host_shareable_bit}
@@ -22,9 +22,9 @@ use Rattle.place_carried.specs.Carried.{carried, wasted, narrow}
 use Rattle.place_carried.proofs.CountLaws.{sum_alike}
 use Rattle.place_carried.proofs.SumLaws.{size-of}
 use Rattle.place_carried.proofs.LeavesProof.{carried_and_wasted}
-use Rattle.place_report.specs.declared.Counts.{Counts}
-use Rattle.place_report.specs.declared.LeafBytes.TheVariants.{Carried, Narrow}
-use Rattle.place_report.specs.declared.ReportAnswer.TheVariants as answer
+use Rattle.place_report.specs.declared.Totals.{Totals}
+use Rattle.std.specs.Prelude.{Some, None}
+use Rattle.place_report.specs.Answer as answer
 use Rattle.place_report.specs.Report.{report_width}
 use Rattle.place_report.specs.Serving.{entry_words, is_narrow}
 use Rattle.place_report.specs.Serving.{RowsOf, entry_for, entry_pair, narrow_struct, is_reported, counts_in, counts_pair, AllCarry, totals_in, second_pass_words, counts_for, totals_for}
@@ -36,8 +36,8 @@ flat_alike f g (suc n) h = rw (flat_alike f g n (λ k l. h k (omega arith)), h n
 
 -- what is kept of a struct that is host-shareable and not narrow
 kept_bytes : (structured shareable thin : Bool) (bytes : ℕ) → (structured && shareable) ≡ true
-    → T (not (structured && is_narrow (pick shareable (pick thin Narrow (Carried bytes)) (Carried 0))))
-    → get_or (entry_words (pick shareable (pick thin Narrow (Carried bytes)) (Carried 0))) 0 0 ≡ bytes
+    → T (not (structured && is_narrow (pick shareable (pick thin None (Some bytes)) (Some 0))))
+    → get_or (entry_words (pick shareable (pick thin None (Some bytes)) (Some 0))) 0 0 ≡ bytes
 kept_bytes true true false bytes e t = refl
 kept_bytes true true true bytes e t = absurd t
 kept_bytes true false thin bytes e t = let z : ◌≡◌ {A = ℕ} 0 1 = cc in absurd (omega arith)
@@ -77,7 +77,7 @@ module _ (ts ms rows lent : List ℕ) (n : ℕ) (r : RowsOf ts ms rows) (all : n
   counts_same k h = go (is_reported ts rows k) refl
     where
       go : (b : Bool) → is_reported ts rows k ≡ b
-          → ◌≡◌ {A = Counts} (pick b (record { carried = get_or kept (k * report_width) 0; wasted = row_word rows k 0 - get_or kept (k * report_width) 0 }) (record { carried = 0; wasted = 0 }))
+          → ◌≡◌ {A = Totals} (pick b (record { carried = get_or kept (k * report_width) 0; wasted = row_word rows k 0 - get_or kept (k * report_width) 0 }) (record { carried = 0; wasted = 0 }))
           (pick b (record { carried = carried (decoded ts ms) k; wasted = wasted (decoded ts ms) k }) (record { carried = 0; wasted = 0 }))
       go false e = refl
       go true e =
@@ -85,10 +85,10 @@ module _ (ts ms rows lent : List ℕ) (n : ℕ) (r : RowsOf ts ms rows) (all : n
           let w : row_word rows k 0 - get_or kept (k * report_width) 0 ≡ wasted (decoded ts ms) k = omega (arith, c, sum_word k h) in
           λ x. record { carried = c x; wasted = w x }
 
-  pub totals_same : (total : Counts) → total ≡ totals_in ts rows kept n → answer.Totals total.carried total.wasted ≡ totals_for ts ms rows n
+  pub totals_same : (total : Totals) → total ≡ totals_in ts rows kept n → answer.Totals total.carried total.wasted ≡ totals_for ts ms rows n
   totals_same total e =
-      let c = sum_alike (λ k. (counts_in ts rows kept k).carried) (λ k. (counts_for ts ms rows k).carried) n (λ k h. ap (λ (x : Counts). x.carried) (counts_same k h)) in
-      let w = sum_alike (λ k. (counts_in ts rows kept k).wasted) (λ k. (counts_for ts ms rows k).wasted) n (λ k h. ap (λ (x : Counts). x.wasted) (counts_same k h)) in
+      let c = sum_alike (λ k. (counts_in ts rows kept k).carried) (λ k. (counts_for ts ms rows k).carried) n (λ k h. ap (λ (x : Totals). x.carried) (counts_same k h)) in
+      let w = sum_alike (λ k. (counts_in ts rows kept k).wasted) (λ k. (counts_for ts ms rows k).wasted) n (λ k h. ap (λ (x : Totals). x.wasted) (counts_same k h)) in
       rw (e, c, w) refl
 
   pub words_same : second_pass_words ts rows kept n ≡ flat (λ k. counts_pair (counts_for ts ms rows k)) n ++ drop (n * report_width) lent

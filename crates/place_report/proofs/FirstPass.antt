@@ -12,13 +12,13 @@ use lib.ListN.{length, take, drop, take-append-drop}
 use Rattle.ir_records.specs.Result.{ok, require}
 use Rattle.ir_records.specs.Record.{type_count, type_inner}
 use Rattle.ir_records.specs.Table.{first_refusal, flat, outcome_at}
-use Rattle.ir_records.specs.declared.Outcome.{Outcome}
-use Rattle.ir_records.specs.declared.Outcome.TheVariants.{Accepted, Refused}
+use Rattle.ir_records.specs.Outcome.{Outcome}
+use Rattle.ir_records.specs.Outcome.{Accepted, Refused}
 use Rattle.ir_records.proofs.TableLaws.{one_more, stays}
 use Rattle.valid_type_flags.specs.TypeFlags.{is_struct}
 use Rattle.ir_rows.specs.Rows.{row_word, with_part, cleared}
 use Rattle.ir_rows.proofs.RowLaws.{flat_more, drop_part, part-length, drop_later}
-use Rattle.place_report.specs.declared.LeafBytes.{LeafBytes}
+use Rattle.std.specs.Prelude.{Option}
 use Rattle.place_report.specs.Report.{report_width}
 use Rattle.place_report.specs.Serving.{entry_words, is_narrow, leaf_bytes_at, SmallBytes, Small}
 use Rattle.place_report.specs.Serving.{RowsOf, entry_for, entry_pair, narrow_struct, first_pass_words}
@@ -51,7 +51,7 @@ module _ (ts ms rows lent : List ℕ) (n : ℕ) where
         let end : i ≡ n = le_antisymm w.within h in
         (sym (rw end at w.none), sym (take-append-drop (n * report_width) report) ∙ rw (rw end at w.made, rw end at w.rest) refl)
 
-    module _ (r : RowsOf ts ms rows) (all : n ≡ type_count ts) (room : n * report_width ≤ length lent) (l : i < n) (own : LeafBytes)
+    module _ (r : RowsOf ts ms rows) (all : n ≡ type_count ts) (room : n * report_width ≤ length lent) (l : i < n) (own : Option ℕ)
         (is : own ≡ leaf_bytes_at ts ms rows (take (i * report_width) report) i (row_word rows i 0)) where
       kept : own ≡ entry_for ts ms rows i
       kept = is ∙ leaf_bytes_kept ts ms rows r report i (omega arith) w.made

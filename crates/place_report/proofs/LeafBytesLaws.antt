@@ -23,15 +23,14 @@ use Rattle.place_carried.specs.Carried.{narrow_of, carried, narrow}
 use Rattle.place_carried.specs.Serving.{leaf_carried}
 use Rattle.place_carried.proofs.SumLaws.{size-of, carried_leaf, carried_array, carried_runtime_array, carried_struct, carried_other}
 use Rattle.place_carried.proofs.NarrowLaws.{narrow_is, narrow_array, narrow_runtime_array, narrow-struct, strides_wide}
-use Rattle.place_report.specs.declared.LeafBytes.{LeafBytes}
-use Rattle.place_report.specs.declared.LeafBytes.TheVariants.{Carried, Narrow}
+use Rattle.std.specs.Prelude.{Option, Some, None}
 use Rattle.place_report.specs.Serving.{times, plus, array_bytes, members_bytes, leaf_bytes_of, leaf_bytes}
 
 -- where a type is narrow, and where it is not
-bytes_narrow : (types : ℕ → Decoded) (t : ℕ) → narrow types t ≡ true → Narrow ≡ leaf_bytes types t
+bytes_narrow : (types : ℕ → Decoded) (t : ℕ) → narrow types t ≡ true → None ≡ leaf_bytes types t
 bytes_narrow types t e = rw e refl
 
-bytes_carried : (types : ℕ → Decoded) (t bytes : ℕ) → narrow types t ≡ false → carried types t ≡ bytes → Carried bytes ≡ leaf_bytes types t
+bytes_carried : (types : ℕ → Decoded) (t bytes : ℕ) → narrow types t ≡ false → carried types t ≡ bytes → Some bytes ≡ leaf_bytes types t
 bytes_carried types t bytes e q = rw (e, q) refl
 
 -- an array's
@@ -40,19 +39,19 @@ array_bytes_is : (types : ℕ → Decoded) (t base count stride : ℕ) → narro
     → array_bytes count stride (size_of (types base).inner) (leaf_bytes types base) ≡ leaf_bytes types t
 array_bytes_is types t base count stride n c = go (ltb stride (size_of (types base).inner)) (narrow types base) n
   where
-    go : (x y : Bool) → narrow types t ≡ (x || y) → pick x Narrow (times count (pick y Narrow (Carried (carried types base)))) ≡ leaf_bytes types t
+    go : (x y : Bool) → narrow types t ≡ (x || y) → pick x None (times count (pick y None (Some (carried types base)))) ≡ leaf_bytes types t
     go true y n = bytes_narrow types t n
     go false true n = bytes_narrow types t n
     go false false n = bytes_carried types t (count * carried types base) n (c n)
 
 -- the members'
-plus_bytes : (x y : Bool) (a b : ℕ) → plus (pick x Narrow (Carried a)) (pick y Narrow (Carried b)) ≡ pick (x || y) Narrow (Carried (a + b))
+plus_bytes : (x y : Bool) (a b : ℕ) → plus (pick x None (Some a)) (pick y None (Some b)) ≡ pick (x || y) None (Some (a + b))
 plus_bytes true y a b = refl
 plus_bytes false true a b = refl
 plus_bytes false false a b = refl
 
-members_bytes_is : (types : ℕ → Decoded) (earlier : ℕ → LeafBytes) (members : List ℕ) (j : ℕ) → ((i : ℕ) → i < j → earlier (member_type members i) ≡ leaf_bytes types (member_type members i))
-    → members_bytes earlier members j ≡ pick (some (λ i. narrow types (member_type members i)) j) Narrow (Carried (sum (λ i. carried types (member_type members i)) j))
+members_bytes_is : (types : ℕ → Decoded) (earlier : ℕ → Option ℕ) (members : List ℕ) (j : ℕ) → ((i : ℕ) → i < j → earlier (member_type members i) ≡ leaf_bytes types (member_type members i))
+    → members_bytes earlier members j ≡ pick (some (λ i. narrow types (member_type members i)) j) None (Some (sum (λ i. carried types (member_type members i)) j))
 unfolding members_bytes some sum
 members_bytes_is types earlier members zero h = refl
 members_bytes_is types earlier members (suc j) h =
@@ -63,12 +62,12 @@ module _ (rule : UniformRule) (c : ℕ) (types : ℕ → Decoded) (n : ℕ) (acc
   abbrev pub Shareable : ℕ → Type 0
   Shareable t = T (bit (row (least_for rule) c types t).flags host_shareable_bit)
 
-  module _ (size : ℕ → ℕ) (earlier : ℕ → LeafBytes) (t : ℕ) (l : t < n) (o : Shareable t) (sizes : (u : ℕ) → u < t → size u ≡ (row (least_for rule) c types u).size)
+  module _ (size : ℕ → ℕ) (earlier : ℕ → Option ℕ) (t : ℕ) (l : t < n) (o : Shareable t) (sizes : (u : ℕ) → u < t → size u ≡ (row (least_for rule) c types u).size)
       (before : (u : ℕ) → u < t → Shareable u → earlier u ≡ leaf_bytes types u) where
     pub leaf_bytes_is : (this : TypeInner) → (types t).inner ≡ this → (own : ℕ) → own ≡ (row (least_for rule) c types t).size → leaf_bytes_of size earlier this (types t).members own ≡ leaf_bytes types t
     unfolding leaf_bytes_of narrow_of
     leaf_bytes_is (Plain leaf) e own q =
-        ap (λ (s : ℕ). Carried (leaf_carried leaf s)) (q ∙ (plain-row (least_for rule) c types n acc t l leaf e).size)
+        ap (λ (s : ℕ). Some (leaf_carried leaf s)) (q ∙ (plain-row (least_for rule) c types n acc t l leaf e).size)
         ∙ bytes_carried types t _ (narrow_is types t (Plain leaf) e) (carried_leaf rule c types n acc t l leaf e)
     leaf_bytes_is (Array base count stride) e own q =
         let a = array_row (least_for rule) c types n acc t l base count stride e in
@@ -94,7 +93,7 @@ module _ (rule : UniformRule) (c : ℕ) (types : ℕ → Decoded) (n : ℕ) (acc
         (λ i k. before (member_type members i) (b i k) ((struct_member (least_for rule) c types n acc t l count span e i k).flag host_shareable_bit (rw (r.flags host_shareable_bit refl) at o)))
         ∙ go (some (λ i. narrow types (member_type members i)) count) (narrow-struct types t count span e b)
       where
-        go : (x : Bool) → narrow types t ≡ x → pick x Narrow (Carried (sum (λ i. carried types (member_type (types t).members i)) count)) ≡ leaf_bytes types t
+        go : (x : Bool) → narrow types t ≡ x → pick x None (Some (sum (λ i. carried types (member_type (types t).members i)) count)) ≡ leaf_bytes types t
         go true f = bytes_narrow types t f
         go false f = bytes_carried types t _ f (carried_struct rule c types n acc t l (strides_wide rule c types n acc t l f) o count span e)
     leaf_bytes_is (Other x) e own q = bytes_carried types t 0 (narrow_is types t (Other x) e) (carried_other rule c types n acc t x e)

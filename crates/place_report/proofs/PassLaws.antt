@@ -1,7 +1,7 @@
 -- Laws of the two passes: what the rows and the report say of each type.
 -- Assumes nothing.
 use mathlib.Core.Path.{◌≡◌, refl, sym, ap, ◌∙◌}
-use mathlib.Core.Bool.{Bool, true, false}
+use mathlib.Core.Bool.{Bool, true, false, not}
 use mathlib.Core.List.{List}
 use Prim.Native.Nat.{ℕ, suc, ◌+◌, ◌*◌, ◌^◌, ◌≤◌, ◌<◌}
 use native.Mathlib.Nat.{add-zero}
@@ -28,22 +28,28 @@ use Rattle.valid_arena.proofs.ArenaLaws.{accepted_types}
 use Rattle.valid_arena.proofs.JudgeRows.{row_length}
 use Rattle.place_carried.specs.Carried.{carried, narrow}
 use Rattle.place_carried.proofs.SumLaws.{size-of, carried_within}
-use Rattle.place_report.specs.declared.LeafBytes.{LeafBytes}
-use Rattle.place_report.specs.declared.LeafBytes.TheVariants.{Carried, Narrow}
+use Rattle.std.specs.Prelude.{Option, Some, None, is_some}
 use Rattle.place_report.specs.Report.{report_width}
-use Rattle.place_report.specs.Serving.{entry_in, entry_words, leaf_bytes_of, leaf_bytes_at, leaf_bytes, SmallBytes, Small}
+use Rattle.place_report.specs.Serving.{entry_in, entry_words, leaf_bytes_of, leaf_bytes_at, leaf_bytes, SmallBytes, Small, is_narrow}
 use Rattle.place_report.specs.Serving.{RowsOf, entry_for, entry_pair}
 use Rattle.place_report.proofs.LeafBytesLaws.{leaf_bytes_is}
 
 -- two words a type
-pub pair_length : (w : LeafBytes) → length (entry_words w) ≡ report_width
-pair_length (Carried bytes) = refl
-pair_length Narrow = refl
+pub pair_length : (w : Option ℕ) → length (entry_words w) ≡ report_width
+pair_length (Some bytes) = refl
+pair_length None = refl
+
+-- a type is narrow where it has no bytes
+pub narrow_told : (own : Option ℕ) (told : Bool) → is_some own ≡ not told → told ≡ is_narrow own
+narrow_told (Some bytes) true e = let z : ◌≡◌ {A = ℕ} 0 1 = cc in absurd (omega arith)
+narrow_told (Some bytes) false e = refl
+narrow_told None true e = refl
+narrow_told None false e = let z : ◌≡◌ {A = ℕ} 0 1 = cc in absurd (omega arith)
 
 -- the words of a type say what was kept
-entry-words : (w : LeafBytes) → pick (eqb (get_or (entry_words w) 1 0) 0) (Carried (get_or (entry_words w) 0 0)) Narrow ≡ w
-entry-words (Carried bytes) = refl
-entry-words Narrow = refl
+entry-words : (w : Option ℕ) → pick (eqb (get_or (entry_words w) 1 0) 0) (Some (get_or (entry_words w) 0 0)) None ≡ w
+entry-words (Some bytes) = refl
+entry-words None = refl
 
 module _ (ts ms rows : List ℕ) where
   whole : (i : ℕ) → length (entry_pair ts ms rows i) ≡ report_width
@@ -56,7 +62,7 @@ module _ (ts ms rows : List ℕ) where
       let second = flat_word (entry_pair ts ms rows) report_width whole i k 1 h (omega arith) in
       rw (first, second) (entry-words (entry_for ts ms rows k))
 
-  entry_past : (i k : ℕ) → i ≤ k → entry_in (flat (entry_pair ts ms rows) i) k ≡ Carried 0
+  entry_past : (i k : ℕ) → i ≤ k → entry_in (flat (entry_pair ts ms rows) i) k ≡ Some 0
   entry_past i k h =
       let long = flat_length (entry_pair ts ms rows) report_width whole i in
       let first = get_or-eq_default (flat (entry_pair ts ms rows) i) 0 {n = k * report_width} (rw long (omega arith)) in
@@ -100,8 +106,8 @@ module _ (ts ms rows : List ℕ) (r : RowsOf ts ms rows) where
   leaf_bytes_kept report i h e = go (bit (row_word rows i 2) host_shareable_bit) refl
     where
       go : (b : Bool) → bit (row_word rows i 2) host_shareable_bit ≡ b
-          → pick b (leaf_bytes_of (λ k. row_word rows k 0) (entry_in (take (i * report_width) report)) (type_inner ts i) (struct_members ts ms i) (row_word rows i 0)) (Carried 0)
-          ≡ pick b (leaf_bytes (decoded ts ms) i) (Carried 0)
+          → pick b (leaf_bytes_of (λ k. row_word rows k 0) (entry_in (take (i * report_width) report)) (type_inner ts i) (struct_members ts ms i) (row_word rows i 0)) (Some 0)
+          ≡ pick b (leaf_bytes (decoded ts ms) i) (Some 0)
       go false q = refl
       go true q =
           leaf_bytes_is r.rule r.capabilities (decoded ts ms) (type_count ts) accepted (λ k. row_word rows k 0) (entry_in (take (i * report_width) report)) i h
@@ -115,7 +121,7 @@ module _ (ts ms rows : List ℕ) (r : RowsOf ts ms rows) where
   pub small_at : (i : ℕ) → i < type_count ts → row_word rows i 0 < 2 ^ 32 → SmallBytes (entry_for ts ms rows i)
   small_at i h w = go (bit (row_word rows i 2) host_shareable_bit) (narrow (decoded ts ms) i)
     where
-      go : (b x : Bool) → SmallBytes (pick b (pick x Narrow (Carried (carried (decoded ts ms) i))) (Carried 0))
+      go : (b x : Bool) → SmallBytes (pick b (pick x None (Some (carried (decoded ts ms) i))) (Some 0))
       go false x = omega arith
       go true true = tt
       go true false =

@@ -12,8 +12,8 @@ use Rattle.ir_records.specs.Result.{Result, pick, ok, require}
 use Rattle.ir_records.specs.Record.{decoded, type_count, type_inner, type_words}
 use Rattle.ir_records.specs.Fields.{row_words, most_types, capabilities_known, tables_fit}
 use Rattle.ir_records.specs.Table.{first_refusal, flat}
-use Rattle.ir_records.specs.declared.Outcome.{Outcome}
-use Rattle.ir_records.specs.declared.Outcome.TheVariants.{Accepted, Refused}
+use Rattle.ir_records.specs.Outcome.{Outcome}
+use Rattle.ir_records.specs.Outcome.{Accepted, Refused}
 use Rattle.ir_records.proofs.RecordLaws.{tables_fitting}
 use Rattle.ir_records.proofs.TableLaws.{flat_length}
 use Rattle.valid_flags.specs.Flags.{bit, host_shareable_bit}
@@ -27,9 +27,9 @@ use Rattle.valid_arena.proofs.JudgeRows.{row_length}
 use Rattle.place_lookup.proofs.LookupLaws.{answer_accepted}
 use Rattle.place_carried.specs.Carried.{carried, wasted, narrow}
 use Rattle.place_carried.proofs.CountLaws.{sum_alike}
-use Rattle.place_report.specs.declared.Counts.{Counts}
-use Rattle.place_report.specs.declared.LeafBytes.TheVariants.{Carried, Narrow}
-use Rattle.place_report.specs.declared.ReportAnswer.TheVariants as answer
+use Rattle.place_report.specs.declared.Totals.{Totals}
+use Rattle.std.specs.Prelude.{Some, None}
+use Rattle.place_report.specs.Answer as answer
 use Rattle.place_report.specs.Report.{report_width}
 use Rattle.place_report.specs.Serving.{is_narrow}
 use Rattle.place_report.specs.Serving.{RowsOf, narrow_struct, is_reported, counts_for, counts_pair, totals_for, answer_by, words_by, fill_answer, fill_words}
@@ -43,7 +43,7 @@ first_alike f g (suc n) h = rw (first_alike f g n (λ k l. h k (omega arith)), h
 
 -- one test for 27, read from what is kept and from the definitions
 same_narrow : (structured shareable thin : Bool) (bytes : ℕ)
-    → (structured && is_narrow (pick shareable (pick thin Narrow (Carried bytes)) (Carried 0))) ≡ (structured && shareable && thin)
+    → (structured && is_narrow (pick shareable (pick thin None (Some bytes)) (Some 0))) ≡ (structured && shareable && thin)
 same_narrow false shareable thin bytes = refl
 same_narrow true false thin bytes = refl
 same_narrow true true false bytes = refl
@@ -121,11 +121,11 @@ module _ (rule : UniformRule) (c : ℕ) (ts ms rows report : List ℕ) (fits : l
     same-outcome = rw outcome (first_alike (narrow_struct ts ms made) (narrow_at c (decoded ts ms)) (type_count ts) same_27)
 
     counts_at : (k : ℕ) → k < type_count ts
-        → ◌≡◌ {A = Counts} (counts_for ts ms made k) (record { carried = carried_at c (decoded ts ms) k; wasted = wasted_at c (decoded ts ms) k })
+        → ◌≡◌ {A = Totals} (counts_for ts ms made k) (record { carried = carried_at c (decoded ts ms) k; wasted = wasted_at c (decoded ts ms) k })
     counts_at k h = go (is_reported ts made k) (same_reported k h)
       where
         go : (b : Bool) → b ≡ reported c (decoded ts ms) k
-            → ◌≡◌ {A = Counts} (pick b (record { carried = carried (decoded ts ms) k; wasted = wasted (decoded ts ms) k }) (record { carried = 0; wasted = 0 }))
+            → ◌≡◌ {A = Totals} (pick b (record { carried = carried (decoded ts ms) k; wasted = wasted (decoded ts ms) k }) (record { carried = 0; wasted = 0 }))
             (record { carried = carried_at c (decoded ts ms) k; wasted = wasted_at c (decoded ts ms) k })
         go true q = rw (← q) refl
         go false q = rw (← q) refl
@@ -133,8 +133,8 @@ module _ (rule : UniformRule) (c : ℕ) (ts ms rows report : List ℕ) (fits : l
     -- the same totals and words
     same_totals : totals_for ts ms made (type_count ts) ≡ answer_of c ts ms Accepted
     same_totals =
-        let a = sum_alike (λ k. (counts_for ts ms made k).carried) (carried_at c (decoded ts ms)) (type_count ts) (λ k h. ap (λ (x : Counts). x.carried) (counts_at k h)) in
-        let b = sum_alike (λ k. (counts_for ts ms made k).wasted) (wasted_at c (decoded ts ms)) (type_count ts) (λ k h. ap (λ (x : Counts). x.wasted) (counts_at k h)) in
+        let a = sum_alike (λ k. (counts_for ts ms made k).carried) (carried_at c (decoded ts ms)) (type_count ts) (λ k h. ap (λ (x : Totals). x.carried) (counts_at k h)) in
+        let b = sum_alike (λ k. (counts_for ts ms made k).wasted) (wasted_at c (decoded ts ms)) (type_count ts) (λ k h. ap (λ (x : Totals). x.wasted) (counts_at k h)) in
         rw (a, b) refl
 
     same_flat : flat (λ k. counts_pair (counts_for ts ms made k)) (type_count ts) ≡ flat (report_at c (decoded ts ms)) (type_count ts)

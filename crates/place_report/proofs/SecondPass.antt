@@ -12,7 +12,7 @@ use Rattle.ir_records.specs.Table.{flat}
 use Rattle.ir_rows.specs.Rows.{with_part}
 use Rattle.ir_rows.proofs.RowLaws.{flat_more, drop_part, part-length, drop_later}
 use Rattle.place_carried.specs.Count.{sum}
-use Rattle.place_report.specs.declared.Counts.{Counts}
+use Rattle.place_report.specs.declared.Totals.{Totals}
 use Rattle.place_report.specs.Report.{report_width}
 use Rattle.place_report.specs.Serving.{pair_of}
 use Rattle.place_report.specs.Serving.{counts_of, counts_in, counts_pair, totals_in, second_pass_words}
@@ -32,7 +32,7 @@ module _ (ts rows lent : List ℕ) (n : ℕ) where
   second_pass_start = record { within = omega arith; carries = refl; wastes = refl; few = omega arith; made = refl; rest = refl; long = refl }
 
   module _ (report : List ℕ) (carried wasted i : ℕ) (s : SecondPass ts rows lent n report carried wasted i) where
-    pub second_pass_done : n ≤ i → (◌≡◌ {A = Counts} (record { carried = carried; wasted = wasted }) (totals_in ts rows lent n)) × (report ≡ second_pass_words ts rows lent n)
+    pub second_pass_done : n ≤ i → (◌≡◌ {A = Totals} (record { carried = carried; wasted = wasted }) (totals_in ts rows lent n)) × (report ≡ second_pass_words ts rows lent n)
     second_pass_done h =
         let end : i ≡ n = le_antisymm s.within h in (
           λ x. record { carried = (rw end at s.carries) x; wasted = (rw end at s.wastes) x },
@@ -48,7 +48,7 @@ module _ (ts rows lent : List ℕ) (n : ℕ) where
         ∙ get_or-drop (i * report_width) lent 0 0
         ∙ ap (λ (m : ℕ). get_or lent m 0) (add-zero (i * report_width))
 
-    module _ (room : n * report_width ≤ length lent) (l : i < n) (c : Counts) (is : c ≡ counts_of ts rows i (get_or report (i * report_width) 0)) (small : c.carried + c.wasted ≤ 4294967295) where
+    module _ (room : n * report_width ≤ length lent) (l : i < n) (c : Totals) (is : c ≡ counts_of ts rows i (get_or report (i * report_width) 0)) (small : c.carried + c.wasted ≤ 4294967295) where
       counts_is : c ≡ counts_in ts rows lent i
       counts_is = is ∙ ap (counts_of ts rows i) own_bytes
 

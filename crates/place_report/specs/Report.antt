@@ -1,13 +1,13 @@
 -- 02, E1: the report over an arena. For each host-shareable struct the bytes carried and the bytes wasted, and totals over all of them.
 -- Number 27 comes after the arena's own refusals, with its type, and keeps the accepted rows. A shorter report is 1; other refusals zero it.
 -- Assumes nothing.
-use Rattle.std.specs.Prelude.{Bool, not, ◌&&◌, List, [], ◌∷◌, ◌++◌, ℕ, ◌+◌, ◌*◌, ◌/◌, leb, length, drop}
+use Rattle.std.specs.Prelude.{Bool, not, ◌&&◌, List, [], ◌∷◌, ◌++◌, ℕ, ◌*◌, ◌/◌, leb, length, drop}
 use Rattle.ir_records.specs.Result.{Result, ok, pick, require}
 use Rattle.ir_records.specs.Record.{Decoded, decoded, type_count, type_words}
 use Rattle.ir_records.specs.Fields.{capabilities_known, tables_fit}
 use Rattle.ir_records.specs.Table.{also, first_refusal, flat}
-use Rattle.ir_records.specs.declared.Outcome.{Outcome}
-use Rattle.ir_records.specs.declared.Outcome.TheVariants as outcome
+use Rattle.ir_records.specs.Outcome.{Outcome}
+use Rattle.ir_records.specs.Outcome as outcome
 use Rattle.valid_flags.specs.Flags.{bit, host_shareable_bit}
 use Rattle.valid_type_flags.specs.TypeFlags.{is_struct}
 use Rattle.ir_rows.specs.Rows.{cleared}
@@ -15,8 +15,8 @@ use Rattle.valid_type_info.specs.declared.UniformRule.{UniformRule}
 use Rattle.valid_arena.specs.Arena.{common, arena_outcome, arena_words}
 use Rattle.place_carried.specs.Count.{sum}
 use Rattle.place_carried.specs.Carried.{carried, wasted, narrow}
-use Rattle.place_report.specs.declared.ReportAnswer.{ReportAnswer}
-use Rattle.place_report.specs.declared.ReportAnswer.TheVariants as answer
+use Rattle.place_report.specs.Answer.{ReportAnswer}
+use Rattle.place_report.specs.Answer as answer
 
 -- words of the report a type
 abbrev pub report_width : ℕ

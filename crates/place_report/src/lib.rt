@@ -4,45 +4,25 @@
 
 ghost use Rattle.std.specs.Prelude.{◌≡◌, ◌+◌, ◌*◌, ◌≤◌, length, get_or};
 ghost use Rattle.ir_records.specs.Record.{type_count, type_inner};
+ghost use Rattle.ir_records.specs.Refusal.{outcome_of};
 ghost use Rattle.ir_records.specs.Table.{first_refusal};
 ghost use Rattle.ir_records.specs.Serving.{LeafBounds, InnerBounds};
 ghost use Rattle.ir_rows.specs.Rows.{row_word, with_part, cleared};
 ghost use Rattle.place_carried.specs.Serving.{leaf_carried};
 ghost use Rattle.place_report.specs.Report.{report_width};
-ghost use Rattle.place_report.specs.Serving.{entry_in, entry_words, pair_of, array_bytes, members_bytes, leaf_bytes_of, leaf_bytes_at, is_narrow, SmallBytes, Small};
+ghost use Rattle.place_report.specs.Serving.{entry_in, entry_words, pair_of, array_bytes, members_bytes, leaf_bytes_of, leaf_bytes_at, SmallBytes, Small};
 ghost use Rattle.place_report.specs.Serving.{RowsOf, narrow_struct, first_pass_words, Carries, counts_of, AllCarry, totals_in, second_pass_words, fill_answer, fill_words};
+ghost use Rattle.place_report.specs.Answer.{report_answer_of};
 ghost use Rattle.place_report.specs.Report.{lengths_fit, report_answer, report_rows, report_words};
 
-use ir_records::{Leaf, Outcome, TypeInner};
+use ir_records::{Fault, Leaf, Refusal, TypeInner, TypeRefusal};
 use valid_type_info::UniformRule;
 
-// The bytes of a type that leaves carry; or it is narrow: it reaches an array with a stride below its element's size.
-#[derive(Clone, Copy)]
-pub enum LeafBytes {
-    Carried { bytes: u64 },
-    Narrow,
-}
-
-// The bytes carried and the bytes wasted, of a struct or of all.
-#[derive(Clone, Copy)]
-pub struct Counts {
+/// The bytes carried and the bytes wasted, of a struct or of all.
+#[derive(Clone, Copy, Debug, PartialEq, Eq)]
+pub struct Totals {
     pub carried: u64,
     pub wasted: u64,
-}
-
-// Totals over all host-shareable structs.
-#[derive(Clone, Copy)]
-pub enum ReportAnswer {
-    Totals {
-        carried: u64,
-        wasted: u64,
-    },
-    Refused {
-        number: u32,
-        ty: u32,
-        member: u32,
-        detail: u32,
-    },
 }
 
 // Words of the report a type.
@@ -56,17 +36,15 @@ fn word_at(words: &[u64], at: usize) -> u64
 }
 
 // What the first pass left in the report for type k.
-fn entry(report: &[u64], k: u32) -> LeafBytes
+fn entry(report: &[u64], k: u32) -> Option<u64>
     ensures { result ≡ entry_in report.now k }
 {
     let at = (k as usize) * REPORT_WIDTH;
     let mark = word_at(report, at + 1);
     if mark == 0 {
-        LeafBytes::Carried {
-            bytes: word_at(report, at),
-        }
+        Some(word_at(report, at))
     } else {
-        LeafBytes::Narrow
+        None
     }
 }
 
@@ -80,13 +58,13 @@ fn put_pair(report: &mut [u64], at: usize, first: u64, second: u64)
 }
 
 // Writes what is kept of a type from `at` on.
-fn put_leaf_bytes(report: &mut [u64], at: usize, own: LeafBytes)
+fn put_leaf_bytes(report: &mut [u64], at: usize, own: Option<u64>)
     requires { at + 2 ≤ length report.old }
     ensures { report.new ≡ with_part report_width report.old at (entry_words own) }
 {
     match own {
-        LeafBytes::Carried { bytes } => put_pair(report, at, bytes, 0),
-        LeafBytes::Narrow => put_pair(report, at, 0, 1),
+        Some(bytes) => put_pair(report, at, bytes, 0),
+        None => put_pair(report, at, 0, 1),
     }
 }
 
@@ -95,11 +73,7 @@ fn clear(report: &mut [u64], n: usize)
     requires { n ≤ length report.old }
     ensures { report.new ≡ cleared report.old n }
 {
-    let mut i = 0;
-    while i < n {
-        report[i] = 0;
-        i += 1;
-    }
+    report[..n].fill(0);
 }
 
 // The bytes that leaves carry of data that is neither array nor struct, by what it measures.
@@ -122,41 +96,39 @@ fn leaf_carried(leaf: Leaf, size: u32) -> u32
 }
 
 // Those of an array whose element measures `size`, from its base's.
-fn array_bytes(count: u32, stride: u32, size: u32, base: LeafBytes) -> LeafBytes
+fn array_bytes(count: u32, stride: u32, size: u32, base: Option<u64>) -> Option<u64>
     requires { SmallBytes base }
     ensures { result ≡ array_bytes count stride size base }
 {
     if stride < size {
-        return LeafBytes::Narrow;
+        return None;
     }
     match base {
-        LeafBytes::Carried { bytes } => {
+        Some(bytes) => {
             let all = (count as u64) * bytes;
-            LeafBytes::Carried { bytes: all }
+            Some(all)
         }
-        LeafBytes::Narrow => LeafBytes::Narrow,
+        None => None,
     }
 }
 
 // Those of a struct, from its members'.
-fn members_bytes(report: &[u64], part: &[u32], count: u32) -> LeafBytes
+fn members_bytes(report: &[u64], part: &[u32], count: u32) -> Option<u64>
     requires { Small report.now }
     ensures { result ≡ members_bytes (entry_in report.now) part.now count }
 {
     let mut total: u64 = 0;
-    let mut j: u32 = 0;
-    while j < count {
+    for j in 0..count {
         match entry(report, ir_records::member_type(part, j)) {
-            LeafBytes::Carried { bytes } => {
+            Some(bytes) => {
                 total += bytes;
             }
-            LeafBytes::Narrow => {
-                return LeafBytes::Narrow;
+            None => {
+                return None;
             }
         }
-        j += 1;
     }
-    LeafBytes::Carried { bytes: total }
+    Some(total)
 }
 
 // Those of a type that measures `size`, from the rows and the report of the types before it.
@@ -166,7 +138,7 @@ fn leaf_bytes_of(
     rows: &[u32],
     report: &[u64],
     size: u32,
-) -> LeafBytes
+) -> Option<u64>
     requires inner_bounds { InnerBounds inner }
     requires small { Small report.now }
     ensures { result ≡ leaf_bytes_of (λ k. row_word rows.now k 0) (entry_in report.now) inner part.now size }
@@ -174,7 +146,7 @@ fn leaf_bytes_of(
     match inner {
         TypeInner::Plain(leaf) => {
             let bytes = leaf_carried(leaf, size) as u64;
-            LeafBytes::Carried { bytes }
+            Some(bytes)
         }
         TypeInner::Array {
             base,
@@ -193,7 +165,7 @@ fn leaf_bytes_of(
             entry(report, base),
         ),
         TypeInner::Struct { count, span: _ } => members_bytes(report, part, count),
-        TypeInner::Other(_) => LeafBytes::Carried { bytes: 0 },
+        TypeInner::Other(_) => Some(0),
     }
 }
 
@@ -205,7 +177,7 @@ fn leaf_bytes_at(
     report: &[u64],
     i: u32,
     size: u32,
-) -> LeafBytes
+) -> Option<u64>
     requires inner_bounds { InnerBounds (type_inner types.now i) }
     requires small { Small report.now }
     ensures { result ≡ leaf_bytes_at types.now members.now rows.now report.now i size }
@@ -216,16 +188,7 @@ fn leaf_bytes_at(
         let part = ir_records::struct_members(types, members, i);
         return leaf_bytes_of(inner, part, rows, report, size);
     }
-    LeafBytes::Carried { bytes: 0 }
-}
-
-fn is_narrow(own: LeafBytes) -> bool
-    ensures { result ≡ is_narrow own }
-{
-    match own {
-        LeafBytes::Carried { bytes: _ } => false,
-        LeafBytes::Narrow => true,
-    }
+    Some(0)
 }
 
 // The first pass: the bytes that leaves carry of each of the n types, in the report; or number 27, and zeros.
@@ -235,38 +198,31 @@ fn leaf_bytes_all(
     rows: &[u32],
     report: &mut [u64],
     n: u32,
-) -> Outcome
+) -> Result<(), Refusal>
     requires n_value { n ≡ type_count types.now }
     requires n_in_bounds { n * 2 ≤ length report.old }
     requires rows_of { RowsOf types.now members.now rows.now }
-    ensures value { result ≡ first_refusal (narrow_struct types.now members.now rows.now) n }
-    ensures report_after { report.new ≡ first_pass_words result types.now members.now rows.now n report.old }
+    ensures value { outcome_of result ≡ first_refusal (narrow_struct types.now members.now rows.now) n }
+    ensures report_after { report.new ≡ first_pass_words (outcome_of result) types.now members.now rows.now n report.old }
 {
-    let mut i: u32 = 0;
-    while i < n {
+    for i in 0..n {
         let at = (i as usize) * REPORT_WIDTH;
         let size = ir_rows::row_word(rows, i, 0);
         let own = leaf_bytes_at(types, members, rows, &report[..at], i, size);
         let structured = valid_type_flags::is_struct(types, i);
-        let narrow = is_narrow(own);
+        let narrow = own.is_none();
         if structured & narrow {
             let words = (n as usize) * REPORT_WIDTH;
             clear(report, words);
-            return Outcome::Refused {
-                number: 27,
-                ty: i,
-                member: 0,
-                detail: 0,
-            };
+            return Err(TypeRefusal::of(Fault::NarrowStride).at(i));
         }
         put_leaf_bytes(report, at, own);
-        i += 1;
     }
-    Outcome::Accepted
+    Ok(())
 }
 
 // The counts of type i, of which leaves carry `bytes`: the rest of a struct's span is wasted. 0 for the unreported.
-fn counts_at(types: &[u32], rows: &[u32], i: u32, bytes: u64) -> Counts
+fn counts_at(types: &[u32], rows: &[u32], i: u32, bytes: u64) -> Totals
     requires { Carries types.now rows.now i bytes }
     ensures value { result ≡ counts_of types.now rows.now i bytes }
     ensures wasted_bound { result.carried + result.wasted ≤ 4294967295 }
@@ -277,19 +233,19 @@ fn counts_at(types: &[u32], rows: &[u32], i: u32, bytes: u64) -> Counts
     if structured & shareable {
         let size = ir_rows::row_word(rows, i, 0) as u64;
         let wasted = size - bytes;
-        return Counts {
+        return Totals {
             carried: bytes,
             wasted,
         };
     }
-    Counts {
+    Totals {
         carried: 0,
         wasted: 0,
     }
 }
 
 // The second pass: the counts of n types in place of what was kept, and their totals.
-fn counts_all(types: &[u32], rows: &[u32], report: &mut [u64], n: u32) -> Counts
+fn counts_all(types: &[u32], rows: &[u32], report: &mut [u64], n: u32) -> Totals
     requires n_in_bounds { n * 2 ≤ length report.old }
     requires all_carry { AllCarry types.now rows.now report.old n }
     ensures value { result ≡ totals_in types.now rows.now report.old n }
@@ -297,8 +253,7 @@ fn counts_all(types: &[u32], rows: &[u32], report: &mut [u64], n: u32) -> Counts
 {
     let mut carried: u64 = 0;
     let mut wasted: u64 = 0;
-    let mut i: u32 = 0;
-    while i < n {
+    for i in 0..n {
         let at = (i as usize) * REPORT_WIDTH;
         let bytes = report[at];
         let counts = counts_at(types, rows, i, bytes);
@@ -307,38 +262,26 @@ fn counts_all(types: &[u32], rows: &[u32], report: &mut [u64], n: u32) -> Counts
         carried += more;
         wasted += rest;
         put_pair(report, at, more, rest);
-        i += 1;
     }
-    Counts { carried, wasted }
+    Totals { carried, wasted }
 }
 
 // The report of accepted types: number 27, or both counts of each and the totals.
-fn fill(types: &[u32], members: &[u32], rows: &[u32], report: &mut [u64], n: u32) -> ReportAnswer
+fn fill(
+    types: &[u32],
+    members: &[u32],
+    rows: &[u32],
+    report: &mut [u64],
+    n: u32,
+) -> Result<Totals, Refusal>
     requires n_value { n ≡ type_count types.now }
     requires n_in_bounds { n * 2 ≤ length report.old }
     requires rows_of { RowsOf types.now members.now rows.now }
-    ensures value { result ≡ fill_answer types.now members.now rows.now n }
+    ensures value { report_answer_of result ≡ fill_answer types.now members.now rows.now n }
     ensures report_after { report.new ≡ fill_words types.now members.now rows.now n report.old }
 {
-    match leaf_bytes_all(types, members, rows, report, n) {
-        Outcome::Accepted => {
-            let totals = counts_all(types, rows, report, n);
-            let carried = totals.carried;
-            let wasted = totals.wasted;
-            ReportAnswer::Totals { carried, wasted }
-        }
-        Outcome::Refused {
-            number,
-            ty,
-            member,
-            detail,
-        } => ReportAnswer::Refused {
-            number,
-            ty,
-            member,
-            detail,
-        },
-    }
+    leaf_bytes_all(types, members, rows, report, n)?;
+    Ok(counts_all(types, rows, report, n))
 }
 
 // Number 1: the lengths and the capability word.
@@ -360,8 +303,8 @@ pub fn report(
     rule: UniformRule,
     rows: &mut [u32],
     report: &mut [u64],
-) -> ReportAnswer
-    ensures value { result ≡ report_answer capabilities types.now members.now rows.old report.old }
+) -> Result<Totals, Refusal>
+    ensures value { report_answer_of result ≡ report_answer capabilities types.now members.now rows.old report.old }
     ensures rows_after { rows.new ≡ report_rows rule capabilities types.now members.now rows.old report.old }
     ensures report_after { report.new ≡ report_words capabilities types.now members.now rows.old report.old }
 {
@@ -372,30 +315,15 @@ pub fn report(
         rows.len(),
         report.len(),
     ) {
-        return ReportAnswer::Refused {
-            number: 1,
-            ty: 0,
-            member: 0,
-            detail: 0,
-        };
+        return Err(Refusal::of(Fault::TableLength));
     }
     let n = (types.len() / ir_records::TYPE_WORDS) as u32;
     match valid_arena::check(types, members, capabilities, rule, rows) {
-        Outcome::Accepted => fill(types, members, rows, report, n),
-        Outcome::Refused {
-            number,
-            ty,
-            member,
-            detail,
-        } => {
+        Ok(()) => fill(types, members, rows, report, n),
+        Err(refusal) => {
             let words = (n as usize) * REPORT_WIDTH;
             clear(report, words);
-            ReportAnswer::Refused {
-                number,
-                ty,
-                member,
-                detail,
-            }
+            Err(refusal)
         }
     }
 }

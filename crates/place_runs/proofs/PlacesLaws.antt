@@ -1,5 +1,9 @@
 -- Laws of many places in one call: each answer is the lookup's; number 1 by the lengths of the tables, of the queries and of the answers.
 -- Assumes nothing.
+use Rattle.std.specs.Prelude as std
+use Rattle.std.specs.Result.{is_ok}
+use Rattle.ir_records.specs.Refusal.{outcome_of}
+use Rattle.ir_records.specs.declared.Refusal.{Refusal}
 use mathlib.Core.Path.{◌≡◌, refl, ap, fun_ext, ◌∙◌}
 use mathlib.Core.Bool.{Bool, true, false, ◌&&◌}
 use mathlib.Core.List.{List, ◌++◌}
@@ -10,25 +14,25 @@ use borrow.Author.Tests.{le-leb, lt-leb, eqb-true}
 use Rattle.ir_records.specs.Result.{pick}
 use Rattle.ir_records.specs.Record.{type_count, decoded}
 use Rattle.ir_records.specs.Table.{flat}
-use Rattle.ir_records.specs.declared.Outcome.{Outcome}
-use Rattle.ir_records.specs.declared.Outcome.TheVariants.{Accepted, Refused}
+use Rattle.ir_records.specs.Outcome.{Outcome}
+use Rattle.ir_records.specs.Outcome.{Accepted, Refused}
 use Rattle.ir_records.specs.Fields.{row_words}
 use Rattle.ir_records.proofs.TableLaws.{flat_length, flat_word}
 use Rattle.ir_rows.specs.Rows.{with_part}
 use Rattle.ir_rows.proofs.RowLaws.{flat_more, drop_part}
-use Rattle.place_descent.specs.declared.Place.{Place}
-use Rattle.place_descent.specs.declared.Place.TheVariants.{At, NoPlace}
+use Rattle.place_descent.specs.Place.{Place}
+use Rattle.place_descent.specs.Place.{At, NoPlace}
 use Rattle.place_descent.specs.Place.{place_of}
 use Rattle.place_descent.specs.Serving.{Descends}
-use Rattle.place_lookup.specs.declared.PlaceAnswer.{PlaceAnswer}
-use Rattle.place_lookup.specs.declared.PlaceAnswer.TheVariants as answer
+use Rattle.place_lookup.specs.Answer.{PlaceAnswer}
+use Rattle.place_lookup.specs.Answer as answer
 use Rattle.place_lookup.specs.Place.{place_answer, start_answer, lookup_answer}
 use Rattle.place_lookup.proofs.LookupLaws.{arena_descends}
 use Rattle.place_short.specs.Short.{short_fits, short_answer, short_lookup, short_words}
 use Rattle.place_short_layout.specs.ShortRows.{short_width}
 use Rattle.place_short.proofs.OutcomeLaws.{short_accepted}
 use Rattle.place_short.proofs.SamePlacesProof.{same_places}
-use Rattle.place_runs.specs.declared.Runs.TheVariants.{Whole, Cut}
+use Rattle.std.proofs.Common.{Some, None}
 use Rattle.place_runs.specs.Runs.{run_start, run_steps, run_at, run_count, runs_whole}
 use Rattle.place_runs.specs.Serving.{runs_of}
 use Rattle.place_runs.specs.Places.{pair_width, answer_pair, answer_at, queries_fit, places_answer, places_scratch, places_words}
@@ -75,17 +79,17 @@ module _ (c : ℕ) (ts ms scratch q : List ℕ) where
       go (Refused number ty member detail) e = let z : ◌≡◌ {A = ℕ} 0 1 = cc in absurd (omega arith)
 
 -- ---- the runs that the code finds
-pub whole_runs : (q : List ℕ) (n : ℕ) → Whole n ≡ runs_of q → (runs_whole q ≡ true) × (n ≡ run_count q)
+pub whole_runs : (q : List ℕ) (n : ℕ) → Some n ≡ runs_of q → (runs_whole q ≡ true) × (n ≡ run_count q)
 whole_runs q n e = go (runs_whole q) refl e
   where
-    go : (b : Bool) → runs_whole q ≡ b → Whole n ≡ pick b (Whole (run_count q)) Cut → (runs_whole q ≡ true) × (n ≡ run_count q)
+    go : (b : Bool) → runs_whole q ≡ b → Some n ≡ pick b (Some (run_count q)) None → (runs_whole q ≡ true) × (n ≡ run_count q)
     go true p s = (p, cc)
     go false p s = let z : ◌≡◌ {A = ℕ} 0 1 = cc in absurd (omega arith)
 
-pub cut_runs : (q : List ℕ) → Cut ≡ runs_of q → runs_whole q ≡ false
+pub cut_runs : (q : List ℕ) → None ≡ runs_of q → runs_whole q ≡ false
 cut_runs q e = go (runs_whole q) refl e
   where
-    go : (b : Bool) → runs_whole q ≡ b → Cut ≡ pick b (Whole (run_count q)) Cut → runs_whole q ≡ false
+    go : (b : Bool) → runs_whole q ≡ b → None ≡ pick b (Some (run_count q)) None → runs_whole q ≡ false
     go true p s = let z : ◌≡◌ {A = ℕ} 0 1 = cc in absurd (omega arith)
     go false p s = p
 
@@ -146,3 +150,8 @@ module _ (c : ℕ) (ts ms scratch q answers : List ℕ) where
       (get_or-append (flat (answer_at c ts ms scratch q) (run_count q)) (drop (run_count q * pair_width) answers) 0 (j * pair_width + k) (omega (arith, all))
       ∙ flat_word (answer_at c ts ms scratch q) pair_width wide (run_count q) j k h l
       ∙ ap (λ (x : PlaceAnswer). get_or (answer_pair x) k 0) (same_places.answer c ts ms scratch rows (run_start q j) (run_steps q j) long enough))
+
+-- what is no error is accepted
+pub is_ok_accepted : {A : Type 0} (r : std.Result A Refusal) → is_ok r ≡ is_accepted (outcome_of r)
+is_ok_accepted (std.Ok a) = refl
+is_ok_accepted (std.Err e) = refl

@@ -8,7 +8,7 @@ use native.Mathlib.Numerals.{add-one}
 use native.Mathlib.Omega.{arith}
 use lib.ListN.{length}
 use borrow.Author.Tests.{lt-ltb, le-ltb, eq-eqb, ne_eqb}
-use Rattle.place_runs.specs.declared.Runs.TheVariants.{Whole, Cut}
+use Rattle.std.proofs.Common.{Some, None}
 use Rattle.place_runs.specs.Runs.{run_end, run_at, count_from, run_count, runs_whole}
 use Rattle.place_runs.specs.Serving.{runs_of}
 
@@ -47,13 +47,13 @@ module _ (q : List ℕ) where
     pub one_more : n ≤ run_at q n → run_at q n < length q → count_from q (length q - (n + 1)) (n + 1) ≡ run_count q
     one_more h l = sym (count_more n (omega (arith, h, l)) l) ∙ so_far
 
-    pub all_runs : run_at q n ≡ length q → Whole n ≡ runs_of q
+    pub all_runs : run_at q n ≡ length q → Some n ≡ runs_of q
     unfolding runs_whole
     all_runs e =
         let count : run_count q ≡ n = sym so_far ∙ count_done (length q - n) n (omega (arith, e)) in
         rw (count, eq-eqb (run_at q n) (length q) e) refl
 
-    pub cut_run : n ≤ run_at q n → run_at q n < length q → length q < run_end q (run_at q n) → Cut ≡ runs_of q
+    pub cut_run : n ≤ run_at q n → run_at q n < length q → length q < run_end q (run_at q n) → None ≡ runs_of q
     unfolding runs_whole
     cut_run h l g =
         let next : length q ≤ run_at q (n + 1) = rw (run_next n) (omega (arith, g)) in

@@ -4,10 +4,10 @@
 use Rattle.std.specs.Prelude.{Bool, ◌&&◌, List, [], ◌∷◌, ◌++◌, ℕ, ◌*◌, leb, length, drop}
 use Rattle.ir_records.specs.Result.{pick}
 use Rattle.ir_records.specs.Table.{flat}
-use Rattle.ir_records.specs.declared.Outcome.{Outcome}
-use Rattle.ir_records.specs.declared.Outcome.TheVariants as outcome
-use Rattle.place_lookup.specs.declared.PlaceAnswer.{PlaceAnswer}
-use Rattle.place_lookup.specs.declared.PlaceAnswer.TheVariants as answer
+use Rattle.ir_records.specs.Outcome.{Outcome}
+use Rattle.ir_records.specs.Outcome as outcome
+use Rattle.place_lookup.specs.Answer.{PlaceAnswer}
+use Rattle.place_lookup.specs.Answer as answer
 use Rattle.place_short.specs.Short.{short_fits, short_answer, short_lookup, short_words}
 use Rattle.place_runs.specs.Runs.{run_start, run_steps, run_count, runs_whole}
 

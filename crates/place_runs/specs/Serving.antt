@@ -1,19 +1,17 @@
 -- Serves the contracts of functions inside the library: it adds nothing to what the other files say, and a reader may skip it.
 -- Assumes nothing.
-use Rattle.std.specs.Prelude.{List, [], ◌∷◌, ℕ, Bool, true, false}
+use Rattle.std.specs.Prelude.{List, [], ◌∷◌, ℕ, Bool, true, false, Option, Some, None}
 use Rattle.ir_records.specs.Result.{pick}
-use Rattle.place_runs.specs.declared.Runs.{Runs}
-use Rattle.place_runs.specs.declared.Runs.TheVariants.{Whole, Cut}
 use Rattle.place_runs.specs.Runs.{run_count, runs_whole, run_start, run_steps}
-use Rattle.ir_records.specs.declared.Outcome.{Outcome}
-use Rattle.ir_records.specs.declared.Outcome.TheVariants as outcome
-use Rattle.place_descent.specs.declared.Place.{Place}
-use Rattle.place_descent.specs.declared.Place.TheVariants.{At, NoPlace}
+use Rattle.ir_records.specs.Outcome.{Outcome}
+use Rattle.ir_records.specs.Outcome as outcome
+use Rattle.place_descent.specs.Place.{Place}
+use Rattle.place_descent.specs.Place.{At, NoPlace}
 use Rattle.place_descent.specs.Place.{place_of}
 use Rattle.place_runs.specs.Places.{none_word}
 
-abbrev pub runs_of : (queries : List ℕ) → Runs
-runs_of queries = pick (runs_whole queries) (Whole (run_count queries)) Cut
+abbrev pub runs_of : (queries : List ℕ) → Option ℕ
+runs_of queries = pick (runs_whole queries) (Some (run_count queries)) None
 
 abbrev pub is_accepted : Outcome → Bool
 is_accepted outcome.Accepted = true

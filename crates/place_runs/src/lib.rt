@@ -4,61 +4,63 @@
 ghost use Rattle.std.specs.Prelude.{◌≡◌, true, [], ◌∷◌, ◌++◌, ◌+◌, ◌*◌, ◌≤◌, length, drop};
 ghost use Rattle.ir_records.specs.Record.{type_count, decoded};
 ghost use Rattle.ir_records.specs.Table.{flat};
-ghost use Rattle.ir_records.specs.declared.Outcome.TheVariants.{Refused};
+ghost use Rattle.ir_records.specs.Refusal.{outcome_of};
+ghost use Rattle.place_descent.specs.Place.{found_place};
 ghost use Rattle.ir_rows.specs.Rows.{with_part};
 ghost use Rattle.place_descent.specs.Serving.{Descends};
 ghost use Rattle.place_short.specs.Short.{short_fits, short_answer, short_words};
 ghost use Rattle.place_runs.specs.Runs.{run_at, run_count, runs_whole};
 ghost use Rattle.place_runs.specs.Serving.{runs_of};
 ghost use Rattle.place_runs.specs.Places.{pair_width, answer_at, places_answer, places_scratch, places_words};
-ghost use Rattle.place_runs.specs.Serving.{is_accepted, place_pair, place_where, pair_at};
+ghost use Rattle.place_runs.specs.Serving.{place_pair, place_where, pair_at};
 
-use ir_records::Outcome;
+use ir_records::{Fault, Refusal};
 use place_descent::Place;
-
-// How many runs the words are, or a run that is cut short.
-#[derive(Clone, Copy)]
-pub enum Runs {
-    Whole(usize),
-    Cut,
-}
 
 const PAIR_WORDS: usize = 2;
 // 2 ^ 64 - 1, twice for no place.
 const NONE: u64 = 18446744073709551615;
 
-fn runs_of(queries: &[u32]) -> Runs
+// How many runs the words are; none where one is cut short.
+fn runs_of(queries: &[u32]) -> Option<usize>
     ensures { result ≡ runs_of queries.now }
 {
     let words = queries.len();
     let mut n: usize = 0;
     let mut at: usize = 0;
+    // Kept: `at` goes on by a run of words, which no range does.
     while at < words {
         let left = words - at;
         if left < 2 {
-            return Runs::Cut;
+            return None;
         }
         let count = ir_records::word_at(queries, at + 1);
         let steps = left - 2;
         if steps < count as usize {
-            return Runs::Cut;
+            return None;
         }
         let head = at + 2;
         at = head + (count as usize);
         n += 1;
     }
-    Runs::Whole(n)
+    Some(n)
 }
 
 // The place that steps lead to in an accepted arena; in a refused one there is none.
-fn place_where(accepted: bool, types: &[u32], members: &[u32], start: u32, steps: &[u32]) -> Place
+fn place_where(
+    accepted: bool,
+    types: &[u32],
+    members: &[u32],
+    start: u32,
+    steps: &[u32],
+) -> Option<Place>
     requires { accepted ≡ true → Descends (decoded types.now members.now) (type_count types.now) }
-    ensures { result ≡ place_where accepted types.now members.now start steps.now }
+    ensures { found_place result ≡ place_where accepted types.now members.now start steps.now }
 {
     if accepted {
         return place_descent::place_of(types, members, start, steps);
     }
-    Place::NoPlace
+    None
 }
 
 fn put_pair(answers: &mut [u64], at: usize, first: u64, second: u64)
@@ -69,13 +71,13 @@ fn put_pair(answers: &mut [u64], at: usize, first: u64, second: u64)
     answers[at + 1] = second;
 }
 
-fn put_place(answers: &mut [u64], at: usize, place: Place)
+fn put_place(answers: &mut [u64], at: usize, place: Option<Place>)
     requires { at + 2 ≤ length answers.old }
-    ensures { answers.new ≡ with_part pair_width answers.old at (place_pair place) }
+    ensures { answers.new ≡ with_part pair_width answers.old at (place_pair (found_place place)) }
 {
     match place {
-        Place::At { byte, leaf } => put_pair(answers, at, byte, leaf as u64),
-        Place::NoPlace => put_pair(answers, at, NONE, NONE),
+        Some(p) => put_pair(answers, at, p.byte, p.leaf as u64),
+        None => put_pair(answers, at, NONE, NONE),
     }
 }
 
@@ -94,8 +96,7 @@ fn fill(
     ensures { answers.new ≡ flat (pair_at accepted types.now members.now queries.now) n ++ drop (n * 2) answers.old }
 {
     let mut at: usize = 0;
-    let mut j: usize = 0;
-    while j < n {
+    for j in 0..n {
         let start = ir_records::word_at(queries, at);
         let count = ir_records::word_at(queries, at + 1);
         let from = at + 2;
@@ -104,21 +105,6 @@ fn fill(
         let pair = j * PAIR_WORDS;
         put_place(answers, pair, place);
         at = end;
-        j += 1;
-    }
-}
-
-fn is_accepted(outcome: Outcome) -> bool
-    ensures { result ≡ is_accepted outcome }
-{
-    match outcome {
-        Outcome::Accepted => true,
-        Outcome::Refused {
-            number: _,
-            ty: _,
-            member: _,
-            detail: _,
-        } => false,
     }
 }
 
@@ -131,30 +117,19 @@ fn places_in(
     queries: &[u32],
     answers: &mut [u64],
     n: usize,
-) -> Outcome
+) -> Result<(), Refusal>
     requires scratch_value { short_fits capabilities types.now members.now scratch.old ≡ true }
     requires queries_value { runs_whole queries.now ≡ true }
     requires n_value { n ≡ run_count queries.now }
     requires n_in_bounds { n * 2 ≤ length answers.old }
-    ensures value { result ≡ short_answer capabilities types.now members.now scratch.old }
+    ensures value { outcome_of result ≡ short_answer capabilities types.now members.now scratch.old }
     ensures scratch_after { scratch.new ≡ short_words capabilities types.now members.now scratch.old }
     ensures answers_after { answers.new ≡ flat (answer_at capabilities types.now members.now scratch.old queries.now) n ++ drop (n * 2) answers.old }
 {
     let outcome = place_short::judge(types, members, capabilities, scratch);
-    let accepted = is_accepted(outcome);
+    let accepted = outcome.is_ok();
     fill(accepted, types, members, queries, answers, n);
     outcome
-}
-
-fn refused() -> Outcome
-    ensures { result ≡ Refused 1 0 0 0 }
-{
-    Outcome::Refused {
-        number: 1,
-        ty: 0,
-        member: 0,
-        detail: 0,
-    }
 }
 
 // The places of many runs of steps: two words for each in the lent answers. The arena is judged first, in the same call; nothing is asked of the caller.
@@ -165,21 +140,21 @@ pub fn places(
     scratch: &mut [u32],
     queries: &[u32],
     answers: &mut [u64],
-) -> Outcome
-    ensures value { result ≡ places_answer capabilities types.now members.now scratch.old queries.now answers.old }
+) -> Result<(), Refusal>
+    ensures value { outcome_of result ≡ places_answer capabilities types.now members.now scratch.old queries.now answers.old }
     ensures scratch_after { scratch.new ≡ places_scratch capabilities types.now members.now scratch.old queries.now answers.old }
     ensures answers_after { answers.new ≡ places_words capabilities types.now members.now scratch.old queries.now answers.old }
 {
     if !place_short::lengths_fit(capabilities, types.len(), members.len(), scratch.len()) {
-        return refused();
+        return Err(Refusal::of(Fault::TableLength));
     }
     match runs_of(queries) {
-        Runs::Whole(n) => {
+        Some(n) => {
             if answers.len() / PAIR_WORDS < n {
-                return refused();
+                return Err(Refusal::of(Fault::TableLength));
             }
             places_in(types, members, capabilities, scratch, queries, answers, n)
         }
-        Runs::Cut => refused(),
+        None => Err(Refusal::of(Fault::TableLength)),
     }
 }

@@ -2,3 +2,4 @@ pub mod RecordParts
 pub mod ShortLaws
 pub mod OutcomeLaws
 pub mod SamePlacesProof
+pub mod RefusedLaws

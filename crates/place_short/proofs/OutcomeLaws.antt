@@ -11,8 +11,8 @@ use Rattle.ir_records.specs.Result.{pick}
 use Rattle.ir_records.specs.Record.{type_words, type_count, decoded}
 use Rattle.ir_records.specs.Fields.{row_words, tables_fit, capabilities_known, record_at}
 use Rattle.ir_records.specs.Table.{outcome_at, also, first_refusal}
-use Rattle.ir_records.specs.declared.Outcome.{Outcome}
-use Rattle.ir_records.specs.declared.Outcome.TheVariants.{Accepted, Refused}
+use Rattle.ir_records.specs.Outcome.{Outcome}
+use Rattle.ir_records.specs.Outcome.{Accepted, Refused}
 use Rattle.ir_records.proofs.ResultLaws.{and_then_ok, true_T, T_true, and_left, and_right}
 use Rattle.ir_records.proofs.TableLaws.{also_accepted, outcome_accepted, all_ok, accepted_all}
 use Rattle.proc_layouter.specs.Layouter.{layout_at, layout_outcome}
@@ -72,12 +72,6 @@ module _ (c : ℕ) (ts ms : List ℕ) where
       → arena_outcome c ts ms ≡ Refused number ty member detail
   unfolding arena_outcome layout_outcome
   arena_records e = rw e refl
-
--- a refusal leaves the same zeros, whichever it is
-pub refused_scratch : (first second : Outcome) (c : ℕ) (ts ms : List ℕ) (n : ℕ) (words : List ℕ) {number ty member detail : ℕ}
-    → second ≡ Refused number ty member detail → scratch_after (also first second) c ts ms n words ≡ replicate (n * short_width) 0 ++ drop (n * short_width) words
-refused_scratch Accepted second c ts ms n words e = rw e refl
-refused_scratch (Refused number ty member detail) second c ts ms n words e = refl
 
 -- ---- number 1: what lengths that fit have
 pub record Fits (c t m r : ℕ) : Type 0 where

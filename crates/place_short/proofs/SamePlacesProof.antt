@@ -13,8 +13,8 @@ use Rattle.ir_records.specs.Result.{pick}
 use Rattle.ir_records.specs.Record.{type_count, type_words, member_words, decoded}
 use Rattle.ir_records.specs.Fields.{most_types, most_members, row_words, tables_fit, capabilities_known}
 use Rattle.ir_records.specs.Table.{flat}
-use Rattle.ir_records.specs.declared.Outcome.{Outcome}
-use Rattle.ir_records.specs.declared.Outcome.TheVariants.{Accepted, Refused}
+use Rattle.ir_records.specs.Outcome.{Outcome}
+use Rattle.ir_records.specs.Outcome.{Accepted, Refused}
 use Rattle.ir_records.proofs.ResultLaws.{true_T, T_true, and_right}
 use Rattle.ir_records.proofs.RecordLaws.{tables_fitting}
 use Rattle.ir_records.proofs.TableLaws.{flat_length, flat_word}

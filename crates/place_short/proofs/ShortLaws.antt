@@ -10,8 +10,8 @@ use lib.ListN.{length, get_or, take, drop, get_or-eq_default}
 use Rattle.ir_records.specs.Result.{Result, err, ok, and_then}
 use Rattle.ir_records.specs.Record.{decoded, type_inner, struct_members}
 use Rattle.ir_records.specs.Table.{table, result_at, outcome_at, also, first_refusal, flat}
-use Rattle.ir_records.specs.declared.Outcome.{Outcome}
-use Rattle.ir_records.specs.declared.Outcome.TheVariants.{Accepted, Refused}
+use Rattle.ir_records.specs.Outcome.{Outcome}
+use Rattle.ir_records.specs.Outcome.{Accepted, Refused}
 use Rattle.ir_records.proofs.ResultLaws.{and_then_ok, ok_inj}
 use Rattle.ir_records.proofs.TableLaws.{table_value, table_above, value_ok, flat_length, flat_word, all_ok, outcome_accepted}
 use Rattle.ir_rows.specs.Rows.{with_part}

@@ -7,7 +7,7 @@ use Rattle.ir_records.specs.Fields.{row_words}
 use Rattle.ir_rows.specs.Rows.{row_word}
 use Rattle.valid_type_info.specs.declared.UniformRule.{UniformRule}
 use Rattle.valid_arena.specs.Arena.{arena_words, arena_fits}
-use Rattle.place_lookup.specs.declared.PlaceAnswer.TheVariants.{Refused}
+use Rattle.place_lookup.specs.Answer.{Refused}
 use Rattle.place_lookup.specs.Place.{lookup_answer}
 use Rattle.place_short_layout.specs.ShortRows.{short_width, short_word}
 use Rattle.place_short.specs.Short.{short_lookup, short_words}

@@ -6,11 +6,11 @@ use Rattle.ir_records.specs.Result.{pick}
 use Rattle.ir_records.specs.Record.{type_words, type_count, decoded}
 use Rattle.ir_records.specs.Fields.{row_words, tables_fit, capabilities_known}
 use Rattle.ir_records.specs.Table.{flat}
-use Rattle.ir_records.specs.declared.Outcome.{Outcome}
-use Rattle.ir_records.specs.declared.Outcome.TheVariants.{Accepted, Refused}
+use Rattle.ir_records.specs.Outcome.{Outcome}
+use Rattle.ir_records.specs.Outcome.{Accepted, Refused}
 use Rattle.ir_rows.specs.Rows.{cleared}
 use Rattle.valid_arena.specs.Arena.{common, arena_outcome}
-use Rattle.place_lookup.specs.declared.PlaceAnswer.{PlaceAnswer}
+use Rattle.place_lookup.specs.Answer.{PlaceAnswer}
 use Rattle.place_lookup.specs.Place.{start_answer}
 use Rattle.place_short_layout.specs.ShortRows.{short_width, three_words}
 

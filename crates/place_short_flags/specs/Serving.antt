@@ -1,22 +1,24 @@
 -- Serves the contracts of functions inside the library: it adds nothing to what the other files say, and a reader may skip it.
 -- Assumes nothing.
+use Rattle.std.specs.Prelude as std
+use Rattle.ir_records.specs.Refusal.{number_of}
+use Rattle.ir_records.specs.declared.TypeRefusal.{TypeRefusal}
 use Rattle.std.specs.Prelude.{Bool, false, List, ◌≡◌, ℕ}
 use Rattle.ir_records.specs.Result.{Result, err, ok, pick, require}
 use Rattle.ir_records.specs.Record.{member_count, Sourceless}
 use Rattle.valid_flags.specs.Flags.{is_sized_data, array_flags, runtime_array_flags}
 use Rattle.place_short_flags.specs.declared.Taken.{Taken}
-use Rattle.place_short_flags.specs.declared.Taken.TheVariants as taken
 use Rattle.valid_member_bounds.specs.declared.Bounds.{Bounds}
 
 -- what the code answers of all members
-abbrev pub taken_result : Taken → Result Bounds
-taken_result (taken.Members bounds sourced) = ok bounds
-taken_result (taken.Refused number member) = err number member 0
+abbrev pub taken_result : std.Result Taken TypeRefusal → Result Bounds
+taken_result (std.Ok t) = ok t.bounds
+taken_result (std.Err r) = err (number_of r.fault) r.member r.detail
 
 -- no member has a blend source where the answer says so
-abbrev pub SourcesKnown : (members : List ℕ) → Taken → Type 0
-SourcesKnown members (taken.Members bounds sourced) = sourced ≡ false → Sourceless members (member_count members)
-SourcesKnown members (taken.Refused number member) = Unit {0}
+abbrev pub SourcesKnown : (members : List ℕ) → std.Result Taken TypeRefusal → Type 0
+SourcesKnown members (std.Ok t) = t.sourced ≡ false → Sourceless members (member_count members)
+SourcesKnown members (std.Err r) = Unit {0}
 
 -- the flags of an array over a base with these, or number 15
 abbrev pub array_by : (runtime : Bool) (base : ℕ) → Result ℕ

@@ -7,30 +7,27 @@ ghost use Rattle.ir_records.specs.declared.TypeInner.TheVariants.{Struct};
 ghost use Rattle.valid_flags.specs.Flags.{bit};
 ghost use Rattle.valid_width.specs.Width.{dual_source_blending};
 ghost use Rattle.valid_type_flags.specs.TypeFlags.{leaf_flags};
-ghost use Rattle.valid_type_flags.specs.Serving.{flagged_result};
+ghost use Rattle.ir_records.specs.Refusal.{judged};
 ghost use Rattle.valid_member_bounds.specs.MemberBounds.{member_bounds, bounds_after};
-ghost use Rattle.valid_member_bounds.specs.Serving.{bounded_result};
 ghost use Rattle.valid_blend.specs.Blend.{struct_blend};
-ghost use Rattle.valid_blend.specs.Serving.{blended_flags, blend_answer};
+ghost use Rattle.valid_blend.specs.Serving.{blended_flags};
 ghost use Rattle.valid_types.specs.ValidateType.{non_data_flags, flags_of};
 ghost use Rattle.place_short_flags.specs.ShortFlags.{short_sizes, short_flags};
 ghost use Rattle.place_short_flags.specs.Serving.{taken_result, SourcesKnown, array_by};
 
-use ir_records::{Leaf, NonData, TypeInner};
-use valid_blend::{Blend, Source};
-use valid_member_bounds::{Bounded, Bounds};
-use valid_type_flags::Flagged;
+use ir_records::{Fault, Leaf, NonData, TypeInner, TypeRefusal};
+use valid_member_bounds::Bounds;
 use valid_type_info::Previous;
 
-// After all members of a struct, and whether one of them may have a blend source.
-#[derive(Clone, Copy)]
-pub enum Taken {
-    Members { bounds: Bounds, sourced: bool },
-    Refused { number: u32, member: u32 },
+// After all members of a struct; whether one of them may have a blend source.
+#[derive(Clone, Copy, Debug, PartialEq, Eq)]
+pub struct Taken {
+    pub bounds: Bounds,
+    pub sourced: bool,
 }
 
-fn leaf_flags(capabilities: u32, leaf: Leaf) -> Flagged
-    ensures { flagged_result result ≡ leaf_flags capabilities leaf }
+fn leaf_flags(capabilities: u32, leaf: Leaf) -> Result<u32, TypeRefusal>
+    ensures { judged result ≡ leaf_flags capabilities leaf }
 {
     match leaf {
         Leaf::Scalar(kind, width) => {
@@ -56,8 +53,13 @@ fn leaf_flags(capabilities: u32, leaf: Leaf) -> Flagged
 }
 
 // A pointer or binding array that names itself or a later type reads empty flags: the words are those of the types before it.
-fn non_data_flags(capabilities: u32, types: &[u32], words: &[u32], o: NonData) -> Flagged
-    ensures { flagged_result result ≡ non_data_flags capabilities (type_inner types.now) (short_flags words.now) o }
+fn non_data_flags(
+    capabilities: u32,
+    types: &[u32],
+    words: &[u32],
+    o: NonData,
+) -> Result<u32, TypeRefusal>
+    ensures { judged result ≡ non_data_flags capabilities (type_inner types.now) (short_flags words.now) o }
 {
     match o {
         NonData::Pointer(base, space) => {
@@ -83,20 +85,16 @@ fn non_data_flags(capabilities: u32, types: &[u32], words: &[u32], o: NonData) -
 }
 
 // Number 15: an array's base is sized data.
-fn array_flags(runtime: bool, base: u32) -> Flagged
-    ensures { flagged_result result ≡ array_by runtime base }
+fn array_flags(runtime: bool, base: u32) -> Result<u32, TypeRefusal>
+    ensures { judged result ≡ array_by runtime base }
 {
     if !valid_flags::is_sized_data(base) {
-        return Flagged::Refused {
-            number: 15,
-            member: 0,
-            detail: 0,
-        };
+        return Err(TypeRefusal::of(Fault::InvalidArrayBaseType));
     }
     if runtime {
-        return Flagged::Flags(valid_flags::runtime_array_flags(base));
+        return Ok(valid_flags::runtime_array_flags(base));
     }
-    Flagged::Flags(valid_flags::array_flags(base))
+    Ok(valid_flags::array_flags(base))
 }
 
 // Member j, after those before it.
@@ -109,9 +107,9 @@ fn member_step(
     j: u32,
     previous: Previous,
     so_far: Bounds,
-) -> Bounded
+) -> Result<Bounds, TypeRefusal>
     requires { j * member_words + member_words ≤ length part.now }
-    ensures { bounded_result j result ≡ member_bounds count span previous (type_inner types.now (member_type part.now j)) (member_offset part.now j) j (short_sizes words.now (member_type part.now j)) (short_flags words.now (member_type part.now j)) so_far }
+    ensures { judged result ≡ member_bounds count span previous (type_inner types.now (member_type part.now j)) (member_offset part.now j) j (short_sizes words.now (member_type part.now j)) (short_flags words.now (member_type part.now j)) so_far }
 {
     let t = ir_records::own_type(part, j as usize);
     let offset = ir_records::own_offset(part, j as usize);
@@ -123,7 +121,13 @@ fn member_step(
 }
 
 // The members of a struct, one after the other, by the rules that do not read blend sources.
-fn members_of(types: &[u32], words: &[u32], part: &[u32], count: u32, span: u32) -> Taken
+fn members_of(
+    types: &[u32],
+    words: &[u32],
+    part: &[u32],
+    count: u32,
+    span: u32,
+) -> Result<Taken, TypeRefusal>
     requires { length part.now ≡ count * member_words }
     ensures result_value { taken_result result ≡ bounds_after (type_inner types.now) (short_sizes words.now) (short_flags words.now) count span part.now count }
     ensures sources_known { SourcesKnown part.now result }
@@ -134,54 +138,41 @@ fn members_of(types: &[u32], words: &[u32], part: &[u32], count: u32, span: u32)
     };
     let mut previous = Previous::NoStruct;
     let mut sources: u32 = 0;
-    let mut j: u32 = 0;
-    while j < count {
-        match member_step(types, words, part, count, span, j, previous, bounds) {
-            Bounded::Within(next) => {
-                bounds = next;
-            }
-            Bounded::Refused(number) => {
-                return Taken::Refused { number, member: j };
-            }
-        }
+    for j in 0..count {
+        bounds = member_step(types, words, part, count, span, j, previous, bounds)?;
         let t = ir_records::own_type(part, j as usize);
         let offset = ir_records::own_offset(part, j as usize);
         previous = valid_member_rules::struct_at(types, t, offset);
-        sources = sources | ir_records::own_source(part, j as usize);
-        j += 1;
+        sources |= ir_records::own_source(part, j as usize);
     }
-    Taken::Members {
+    Ok(Taken {
         bounds,
         sourced: sources != 0,
-    }
+    })
 }
 
 // After the last member: number 34 with detail 3 to 6, or the flags.
-fn struct_blend(types: &[u32], words: &[u32], part: &[u32], count: u32, flags: u32) -> Blend
+fn struct_blend(
+    types: &[u32],
+    words: &[u32],
+    part: &[u32],
+    count: u32,
+    flags: u32,
+) -> Result<u32, TypeRefusal>
     requires { count * member_words ≤ length part.now }
-    ensures { blend_answer result ≡ struct_blend (type_inner types.now) (short_flags words.now) part.now count flags }
+    ensures { judged result ≡ struct_blend (type_inner types.now) (short_flags words.now) part.now count flags }
 {
     let first = valid_blend::source_at(part, 1, count);
     let second = valid_blend::source_at(part, 2, count);
-    if first == 0 {
-        if second == 0 {
-            return Blend::Flags(flags);
+    match (first, second) {
+        (None, None) => Ok(flags),
+        (Some(a), Some(b)) => {
+            let own = place_short_layout::short_word(words, ir_records::member_type(part, a), 2);
+            valid_blend::pair_of(types, own, part, count, flags, a, b)
         }
-        return Blend::Refused {
-            number: 34,
-            detail: 6,
-        };
+        (None, Some(_)) => Err(valid_blend::invalid(6)),
+        (Some(_), None) => Err(valid_blend::invalid(6)),
     }
-    if second == 0 {
-        return Blend::Refused {
-            number: 34,
-            detail: 6,
-        };
-    }
-    let a = first - 1;
-    let b = second - 1;
-    let own = place_short_layout::short_word(words, ir_records::member_type(part, a), 2);
-    valid_blend::pair_of(types, own, part, count, flags, a, b)
 }
 
 // All rules of blend sources, of a struct whose members leave these flags. sourced: a member may have one.
@@ -193,19 +184,17 @@ fn blended_flags(
     part: &[u32],
     count: u32,
     flags: u32,
-) -> Blend
+) -> Result<u32, TypeRefusal>
     requires part_len { length part.now ≡ count * member_words }
     requires sourceless { sourced ≡ false → Sourceless part.now (member_count part.now) }
-    ensures { blend_answer result ≡ blended_flags (bit capabilities dual_source_blending) (type_inner types.now) (short_flags words.now) part.now count flags }
+    ensures { judged result ≡ blended_flags (bit capabilities dual_source_blending) (type_inner types.now) (short_flags words.now) part.now count flags }
 {
     if !sourced {
-        return Blend::Flags(flags);
+        return Ok(flags);
     }
     let dual = valid_flags::capable(capabilities, valid_width::DUAL_SOURCE_BLENDING);
-    match valid_blend::sources_of(dual, part, count) {
-        Source::Fine => struct_blend(types, words, part, count, flags),
-        Source::Refused { number, detail } => Blend::Refused { number, detail },
-    }
+    valid_blend::sources_of(dual, part, count)?;
+    struct_blend(types, words, part, count, flags)
 }
 
 // The flags of a struct: number 16, then its members, then its blend sources; those of members before a refused one come first.
@@ -216,52 +205,26 @@ fn struct_flags(
     part: &[u32],
     count: u32,
     span: u32,
-) -> Flagged
+) -> Result<u32, TypeRefusal>
     requires { length part.now ≡ count * member_words }
-    ensures { flagged_result result ≡ flags_of capabilities (type_inner types.now) (short_sizes words.now) (short_flags words.now) (Struct count span) part.now }
+    ensures { judged result ≡ flags_of capabilities (type_inner types.now) (short_sizes words.now) (short_flags words.now) (Struct count span) part.now }
 {
     if count == 0 {
-        return Flagged::Refused {
-            number: 16,
-            member: 0,
-            detail: 0,
-        };
+        return Err(TypeRefusal::of(Fault::EmptyStruct));
     }
     match members_of(types, words, part, count, span) {
-        Taken::Members { bounds, sourced } => {
-            match blended_flags(
-                sourced,
-                capabilities,
-                types,
-                words,
-                part,
-                count,
-                bounds.flags,
-            ) {
-                Blend::Flags(flags) => Flagged::Flags(flags),
-                Blend::Refused { number, detail } => Flagged::Refused {
-                    number,
-                    member: 0,
-                    detail,
-                },
-            }
-        }
-        Taken::Refused { number, member } => {
-            match valid_blend::source_before(true, capabilities, part, number, member) {
-                Source::Fine => Flagged::Refused {
-                    number,
-                    member,
-                    detail: 0,
-                },
-                Source::Refused {
-                    number: first,
-                    detail,
-                } => Flagged::Refused {
-                    number: first,
-                    member: 0,
-                    detail,
-                },
-            }
+        Ok(taken) => blended_flags(
+            taken.sourced,
+            capabilities,
+            types,
+            words,
+            part,
+            count,
+            taken.bounds.flags,
+        ),
+        Err(refusal) => {
+            valid_blend::source_before(true, capabilities, part, refusal)?;
+            Err(refusal)
         }
     }
 }
@@ -273,9 +236,9 @@ pub fn flags_of(
     words: &[u32],
     inner: TypeInner,
     part: &[u32],
-) -> Flagged
+) -> Result<u32, TypeRefusal>
     requires { (count span : ℕ) → inner ≡ Struct count span → length part.now ≡ count * member_words }
-    ensures { flagged_result result ≡ flags_of capabilities (type_inner types.now) (short_sizes words.now) (short_flags words.now) inner part.now }
+    ensures { judged result ≡ flags_of capabilities (type_inner types.now) (short_sizes words.now) (short_flags words.now) inner part.now }
 {
     match inner {
         TypeInner::Plain(leaf) => leaf_flags(capabilities, leaf),

@@ -6,15 +6,12 @@ ghost use Rattle.std.specs.Prelude.{◌≡◌, ◌+◌, ◌*◌, ◌≤◌, ◌<
 ghost use Rattle.ir_records.specs.Serving.{LeafBounds, InnerBounds};
 ghost use Rattle.ir_rows.specs.Rows.{with_part};
 ghost use Rattle.proc_type_alignment.specs.TypeAlignment.{leaf_alignment, base_alignment, members_alignment, alignment_of};
-ghost use Rattle.proc_type_alignment.specs.Serving.{aligned_result};
+ghost use Rattle.ir_records.specs.Refusal.{judged};
 ghost use Rattle.proc_type_layout.specs.TypeLayout.{sized_layout, layout_of};
-ghost use Rattle.proc_type_layout.specs.Serving.{laid_result};
 ghost use Rattle.place_short_layout.specs.ShortRows.{short_width, short_word, three_words, short_layouts};
 
-use ir_records::{Leaf, TypeInner};
-use proc_type_alignment::{Aligned, TypeLayout};
-use proc_type_layout::Laid;
-use proc_type_methods::Size;
+use ir_records::{Fault, Leaf, TypeInner, TypeRefusal};
+use proc_type_alignment::TypeLayout;
 
 pub const SHORT_WORDS: usize = 3;
 
@@ -37,9 +34,9 @@ pub fn put_three(words: &mut [u32], i: u32, size: u32, alignment: u32, flags: u3
 }
 
 // Number 7 for a width that is no power of two.
-fn leaf_alignment(leaf: Leaf) -> Aligned
+fn leaf_alignment(leaf: Leaf) -> Result<u32, TypeRefusal>
     requires { LeafBounds leaf }
-    ensures { aligned_result result ≡ leaf_alignment leaf }
+    ensures { judged result ≡ leaf_alignment leaf }
 {
     match leaf {
         Leaf::Scalar(_, width) => proc_type_alignment::leaf_alignment(1, width),
@@ -53,46 +50,38 @@ fn leaf_alignment(leaf: Leaf) -> Aligned
             proc_type_alignment::leaf_alignment(rows, width)
         }
         Leaf::Atomic(_, width) => proc_type_alignment::leaf_alignment(1, width),
-        Leaf::RayQuery(_) => Aligned::To(1),
+        Leaf::RayQuery(_) => Ok(1),
     }
 }
 
 // Number 5 for an element that is no earlier type.
-fn base_alignment(words: &[u32], i: u32, base: u32) -> Aligned
-    ensures { aligned_result result ≡ base_alignment (short_layouts words.now) i base }
+fn base_alignment(words: &[u32], i: u32, base: u32) -> Result<u32, TypeRefusal>
+    ensures { judged result ≡ base_alignment (short_layouts words.now) i base }
 {
     if base < i {
-        return Aligned::To(short_word(words, base, 1));
+        return Ok(short_word(words, base, 1));
     }
-    Aligned::Refused {
-        number: 5,
-        member: 0,
-    }
+    Err(TypeRefusal::of(Fault::InvalidArrayElementType))
 }
 
 // The largest alignment of a struct's members; number 6 for a member that is no earlier type.
-fn members_alignment(words: &[u32], i: u32, part: &[u32], count: u32) -> Aligned
-    ensures { aligned_result result ≡ members_alignment (short_layouts words.now) i part.now count }
+fn members_alignment(words: &[u32], i: u32, part: &[u32], count: u32) -> Result<u32, TypeRefusal>
+    ensures { judged result ≡ members_alignment (short_layouts words.now) i part.now count }
 {
     let mut a: u32 = 1;
-    let mut j: u32 = 0;
-    while j < count {
+    for j in 0..count {
         let ty = ir_records::member_type(part, j);
         if i <= ty {
-            return Aligned::Refused {
-                number: 6,
-                member: j,
-            };
+            return Err(TypeRefusal::of_member(Fault::InvalidStructMemberType, j));
         }
-        a = proc_alignment::larger(a, short_word(words, ty, 1));
-        j += 1;
+        a = a.max(short_word(words, ty, 1));
     }
-    Aligned::To(a)
+    Ok(a)
 }
 
-fn alignment_of(words: &[u32], i: u32, inner: TypeInner, part: &[u32]) -> Aligned
+fn alignment_of(words: &[u32], i: u32, inner: TypeInner, part: &[u32]) -> Result<u32, TypeRefusal>
     requires { InnerBounds inner }
-    ensures { aligned_result result ≡ alignment_of (short_layouts words.now) i inner part.now }
+    ensures { judged result ≡ alignment_of (short_layouts words.now) i inner part.now }
 {
     match inner {
         TypeInner::Plain(leaf) => leaf_alignment(leaf),
@@ -103,29 +92,29 @@ fn alignment_of(words: &[u32], i: u32, inner: TypeInner, part: &[u32]) -> Aligne
         } => base_alignment(words, i, base),
         TypeInner::RuntimeArray { base, stride: _ } => base_alignment(words, i, base),
         TypeInner::Struct { count, span: _ } => members_alignment(words, i, part, count),
-        TypeInner::Other(_) => Aligned::To(1),
+        TypeInner::Other(_) => Ok(1),
     }
 }
 
-fn with_alignment(size: u32, aligned: Aligned) -> Laid
-    ensures { laid_result result ≡ sized_layout (aligned_result aligned) size }
+fn with_alignment(size: u32, aligned: Result<u32, TypeRefusal>) -> Result<TypeLayout, TypeRefusal>
+    ensures { judged result ≡ sized_layout (judged aligned) size }
 {
-    match aligned {
-        Aligned::To(alignment) => Laid::Layout(TypeLayout { size, alignment }),
-        Aligned::Refused { number, member } => Laid::Refused { number, member },
-    }
+    let alignment = aligned?;
+    Ok(TypeLayout { size, alignment })
 }
 
 // Numbers 4 to 7 of type i, or its layout, from the words of the types before it. The size is tried before references and widths.
-pub fn layout_of(words: &[u32], i: u32, inner: TypeInner, part: &[u32]) -> Laid
+pub fn layout_of(
+    words: &[u32],
+    i: u32,
+    inner: TypeInner,
+    part: &[u32],
+) -> Result<TypeLayout, TypeRefusal>
     requires { InnerBounds inner }
-    ensures { laid_result result ≡ layout_of (short_layouts words.now) i inner part.now }
+    ensures { judged result ≡ layout_of (short_layouts words.now) i inner part.now }
 {
     match proc_type_methods::try_size(inner) {
-        Size::Bytes(size) => with_alignment(size, alignment_of(words, i, inner, part)),
-        Size::TooLarge => Laid::Refused {
-            number: 4,
-            member: 0,
-        },
+        Some(size) => with_alignment(size, alignment_of(words, i, inner, part)),
+        None => Err(TypeRefusal::of(Fault::TooLarge)),
     }
 }

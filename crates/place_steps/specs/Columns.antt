@@ -5,8 +5,8 @@ use Rattle.ir_records.specs.Result.{pick}
 use Rattle.ir_records.specs.declared.Leaf.{Leaf}
 use Rattle.ir_records.specs.declared.Leaf.TheVariants.{Scalar, Vector, Matrix, CooperativeMatrix, Atomic, RayQuery}
 use Rattle.proc_type_methods.specs.TypeMethods.{leaf_column_step}
-use Rattle.place_steps.specs.declared.Step.{Step}
-use Rattle.place_steps.specs.declared.Step.TheVariants.{Column, NoStep}
+use Rattle.place_steps.specs.Step.{Step}
+use Rattle.place_steps.specs.Step.{Column, NoStep}
 
 -- whether the type is itself a leaf, and not its columns
 abbrev pub is_whole : Leaf → Bool

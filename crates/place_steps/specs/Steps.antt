@@ -5,8 +5,8 @@ use Rattle.ir_records.specs.Result.{pick}
 use Rattle.ir_records.specs.Record.{member_type, member_offset}
 use Rattle.ir_records.specs.declared.TypeInner.{TypeInner}
 use Rattle.ir_records.specs.declared.TypeInner.TheVariants.{Plain, Array, RuntimeArray, Struct, Other}
-use Rattle.place_steps.specs.declared.Step.{Step}
-use Rattle.place_steps.specs.declared.Step.TheVariants.{To, NoStep}
+use Rattle.place_steps.specs.Step.{Step}
+use Rattle.place_steps.specs.Step.{To, NoStep}
 use Rattle.place_steps.specs.Columns.{is_whole, column_of}
 
 -- a leaf: a DATA type that is neither array, struct nor matrix. The leaves of a matrix are its columns

@@ -3,19 +3,18 @@
 
 ghost use Rattle.std.specs.Prelude.{◌≡◌, ◌*◌};
 ghost use Rattle.ir_records.specs.Serving.{LeafBounds, InnerBounds};
-ghost use Rattle.place_steps.specs.declared.Step.TheVariants.{To};
+ghost use Rattle.place_steps.specs.Step.{To, step_made, step_found};
 ghost use Rattle.proc_type_methods.specs.TypeMethods.{leaf_column_step};
 ghost use Rattle.place_steps.specs.Columns.{is_whole, column_count, column_of};
 ghost use Rattle.place_steps.specs.Steps.{is_leaf, step_of};
 
 use ir_records::{Leaf, TypeInner};
 
-// What one step does: the next type and the bytes added; or the bytes to a column, where the steps end.
-#[derive(Clone, Copy)]
+/// What one step does: the next type and the bytes added; or the bytes to a column, where the steps end.
+#[derive(Clone, Copy, Debug, PartialEq, Eq)]
 pub enum Step {
     To { ty: u32, bytes: u64 },
     Column { bytes: u64 },
-    NoStep,
 }
 
 // Whether a type is itself a leaf, and not its columns.
@@ -81,29 +80,29 @@ pub fn is_leaf(inner: TypeInner) -> bool
 
 // Element `step` of an array.
 fn element(base: u32, stride: u32, step: u32) -> Step
-    ensures { result ≡ To base (step * stride) }
+    ensures { step_made result ≡ To base (step * stride) }
 {
     let bytes = (step as u64) * (stride as u64);
     Step::To { ty: base, bytes }
 }
 
 // Column `step` of a matrix.
-fn column(leaf: Leaf, step: u32) -> Step
+fn column(leaf: Leaf, step: u32) -> Option<Step>
     requires { LeafBounds leaf }
-    ensures { result ≡ column_of leaf step }
+    ensures { step_found result ≡ column_of leaf step }
 {
     if step < column_count(leaf) {
         let bytes = (step as u64) * (column_step(leaf) as u64);
-        Step::Column { bytes }
+        Some(Step::Column { bytes })
     } else {
-        Step::NoStep
+        None
     }
 }
 
 // One step from a type whose member rows are in part. It asks for the bounds that number 2 leaves, so that a column step fits 32 bits.
-pub fn step_of(inner: TypeInner, part: &[u32], step: u32) -> Step
+pub fn step_of(inner: TypeInner, part: &[u32], step: u32) -> Option<Step>
     requires { InnerBounds inner }
-    ensures { result ≡ step_of inner part.now step }
+    ensures { step_found result ≡ step_of inner part.now step }
 {
     match inner {
         TypeInner::Plain(leaf) => column(leaf, step),
@@ -113,26 +112,26 @@ pub fn step_of(inner: TypeInner, part: &[u32], step: u32) -> Step
             stride,
         } => {
             if step < count {
-                element(base, stride, step)
+                Some(element(base, stride, step))
             } else {
-                Step::NoStep
+                None
             }
         }
-        TypeInner::RuntimeArray { base, stride } => element(base, stride, step),
+        TypeInner::RuntimeArray { base, stride } => Some(element(base, stride, step)),
         TypeInner::Struct {
             count: members,
             span: _,
         } => {
             if step < members {
                 let bytes = ir_records::member_offset(part, step) as u64;
-                Step::To {
+                Some(Step::To {
                     ty: ir_records::member_type(part, step),
                     bytes,
-                }
+                })
             } else {
-                Step::NoStep
+                None
             }
         }
-        TypeInner::Other(_) => Step::NoStep,
+        TypeInner::Other(_) => None,
     }
 }

@@ -5,8 +5,8 @@ use mathlib.Core.List.{List}
 use Prim.Native.Nat.{ℕ, ◌+◌, ◌≤◌, ◌<◌}
 use native.Mathlib.Omega.{arith}
 use Rattle.ir_records.specs.Record.{decoded, type_count}
-use Rattle.ir_records.specs.declared.Outcome.{Outcome}
-use Rattle.ir_records.specs.declared.Outcome.TheVariants.{Accepted, Refused}
+use Rattle.ir_records.specs.Outcome.{Outcome}
+use Rattle.ir_records.specs.Outcome.{Accepted, Refused}
 use Rattle.ir_records.specs.declared.TypeInner.{TypeInner}
 use Rattle.ir_records.specs.declared.TypeInner.TheVariants.{Plain, Array, RuntimeArray, Struct, Other}
 use Rattle.ir_rows.specs.Rows.{row_word}
@@ -17,10 +17,10 @@ use Rattle.valid_arena.specs.Arena.{arena_answer, arena_words}
 use Rattle.valid_arena.proofs.AcceptedLaws.{AcceptedTypes, array_row, runtime_array_row}
 use Rattle.valid_arena.proofs.ArenaLaws.{accepted_types}
 use Rattle.valid_arena.proofs.WordLaws.{word_left}
-use Rattle.place_descent.specs.declared.Place.{Place}
-use Rattle.place_descent.specs.declared.Place.TheVariants.{At, NoPlace}
+use Rattle.place_descent.specs.Place.{Place}
+use Rattle.place_descent.specs.Place.{At, NoPlace}
 use Rattle.place_descent.specs.Place.{place_of}
-use Rattle.place_lookup.specs.declared.PlaceAnswer.TheVariants.{Found}
+use Rattle.place_lookup.specs.Answer.{Found}
 use Rattle.place_lookup.specs.Place.{place_answer, start_answer, lookup_answer}
 use Rattle.place_lookup.proofs.LookupLaws.{answer_accepted}
 use Rattle.place_term3.specs.Term3.{row_in, length_in, leaf_measure, HostShareableData, stride_covers, StridesCover}

@@ -11,7 +11,7 @@ use lib.ListN.{get_elem?}
 use Rattle.ir_records.specs.Record.{decoded, inner_of, type_inner, struct_members}
 use Rattle.ir_records.specs.Fields.{tables_fit, fields_ok, record_at, located_to}
 use Rattle.ir_records.specs.Table.{result_at, value_at}
-use Rattle.ir_records.specs.declared.Outcome.TheVariants.{Accepted}
+use Rattle.ir_records.specs.Outcome.{Accepted}
 use Rattle.proc_type_methods.specs.TypeMethods.{try_size}
 use Rattle.proc_type_alignment.specs.TypeAlignment.{members_alignment, alignment_of}
 use Rattle.proc_type_layout.specs.TypeLayout.{layout_of}
@@ -27,7 +27,7 @@ use Rattle.valid_member_rules.specs.MemberRules.{uniform_after, storage_after, i
 use Rattle.valid_types.specs.ValidateType.{flags_of, uniform_of, storage_of, immediates_of, row_of, judge, judge_common}
 use Rattle.valid_arena.specs.Arena.{judge_outcome, arena_outcome, arena}
 use Rattle.valid_arena.proofs.ArenaLaws.{accepted_types}
-use Rattle.place_descent.specs.declared.Place.TheVariants.{At, NoPlace}
+use Rattle.place_descent.specs.Place.{At, NoPlace}
 use Rattle.place_steps.specs.Steps.{step_of}
 use Rattle.place_descent.specs.Place.{place_of}
 use Rattle.place_term3.specs.Term3.{row_in, InLeaf, HostShareableData, stride_covers, StridesCover, rewrite}

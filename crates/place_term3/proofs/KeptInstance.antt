@@ -8,7 +8,7 @@ use native.Mathlib.Omega.{arith}
 use Rattle.ir_records.specs.Record.{inner_of, type_inner, struct_members}
 use Rattle.ir_records.specs.Fields.{tables_fit, fields_ok, record_at, located_to}
 use Rattle.ir_records.specs.Table.{result_at, value_at}
-use Rattle.ir_records.specs.declared.Outcome.TheVariants.{Accepted, Refused}
+use Rattle.ir_records.specs.Outcome.{Accepted, Refused}
 use Rattle.proc_type_methods.specs.TypeMethods.{try_size}
 use Rattle.proc_type_alignment.specs.TypeAlignment.{members_alignment, alignment_of}
 use Rattle.proc_type_layout.specs.TypeLayout.{layout_of}
@@ -25,7 +25,7 @@ use Rattle.valid_types.specs.ValidateType.{flags_of, uniform_of, storage_of, imm
 use Rattle.valid_arena.specs.Arena.{judge_outcome, arena_outcome, arena}
 use Rattle.valid_flags.proofs.BitLaws.{bit_or_left}
 use Rattle.place_steps.specs.Steps.{step_of}
-use Rattle.place_descent.specs.declared.Place.TheVariants.{At}
+use Rattle.place_descent.specs.Place.{At}
 use Rattle.place_descent.specs.Place.{place_of}
 use Rattle.place_term3.specs.Term3.{row_in, Adds}
 use Rattle.place_term3.proofs.Term3Proof.{term3}

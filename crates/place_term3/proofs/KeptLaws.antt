@@ -8,9 +8,9 @@ use Rattle.ir_records.specs.Result.{pick}
 use Rattle.ir_records.specs.Record.{Decoded}
 use Rattle.valid_type_info.specs.Verdict.{min_storage}
 use Rattle.valid_arena.proofs.AcceptedLaws.{AcceptedTypes}
-use Rattle.place_steps.specs.declared.Step.{Step}
-use Rattle.place_steps.specs.declared.Step.TheVariants.{To, Column, NoStep}
-use Rattle.place_descent.specs.declared.Place.TheVariants.{At, NoPlace}
+use Rattle.place_steps.specs.Step.{Step}
+use Rattle.place_steps.specs.Step.{To, Column, NoStep}
+use Rattle.place_descent.specs.Place.{At, NoPlace}
 use Rattle.place_steps.specs.Steps.{is_leaf, step_of}
 use Rattle.place_descent.specs.Place.{step_in, place_in}
 use Rattle.place_lookup.proofs.DescentLaws.{descent}

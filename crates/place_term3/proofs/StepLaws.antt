@@ -26,8 +26,8 @@ use Rattle.valid_member_rules.specs.MemberRules.{storage_after}
 use Rattle.valid_member_rules.proofs.MemberLaws.{storage_members}
 use Rattle.valid_arena.specs.Arena.{row}
 use Rattle.valid_arena.proofs.AcceptedLaws.{AcceptedTypes, ArrayRow, base_sized, array_row, runtime_array_row, member_earlier, struct_row, struct_member, row_power, plain-row}
-use Rattle.place_steps.specs.declared.Step.{Step}
-use Rattle.place_steps.specs.declared.Step.TheVariants.{To, Column, NoStep}
+use Rattle.place_steps.specs.Step.{Step}
+use Rattle.place_steps.specs.Step.{To, Column, NoStep}
 use Rattle.place_steps.specs.Columns.{column_count}
 use Rattle.place_steps.specs.Steps.{step_of}
 use Rattle.place_descent.specs.Place.{step_in, leaf_in}

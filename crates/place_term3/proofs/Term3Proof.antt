@@ -15,7 +15,7 @@ use Rattle.valid_arena.proofs.AppendLaws.{types_append}
 use Rattle.valid_arena.proofs.ArenaLaws.{accepted_types, arena_more, decoded_same, arena_row_append}
 use Rattle.valid_arena.proofs.CommonLaws.{row_common}
 use Rattle.place_term3.specs.Term3.{row_in, leaf_measure, InLeaf, BetweenColumns, HostShareableData, StridesCover, Term3}
-use Rattle.place_descent.specs.declared.Place.TheVariants.{At}
+use Rattle.place_descent.specs.Place.{At}
 use Rattle.place_descent.specs.Place.{step_in, leaf_in, place_of}
 use Rattle.place_descent.proofs.WalkLaws.{Way, way, place_found, place_from}
 use Rattle.place_term3.proofs.BufferLaws.{rewrite_other}

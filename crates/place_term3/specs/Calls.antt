@@ -3,13 +3,13 @@
 use Rattle.std.specs.Prelude.{◌≡◌, ◌≢◌, List, ℕ, ◌+◌, ◌≤◌, ◌<◌, T}
 use Rattle.std.proofs.Math.ListN.{get_elem?}
 use Rattle.ir_records.specs.Record.{decoded, type_count}
-use Rattle.ir_records.specs.declared.Outcome.TheVariants.{Accepted}
+use Rattle.ir_records.specs.Outcome.{Accepted}
 use Rattle.ir_rows.specs.Rows.{row_word}
 use Rattle.valid_flags.specs.Flags.{bit, data_bit, host_shareable_bit}
 use Rattle.valid_type_info.specs.declared.UniformRule.{UniformRule}
 use Rattle.valid_type_info.specs.TypeInfo.{rows_in}
 use Rattle.valid_arena.specs.Arena.{arena_answer, arena_words}
-use Rattle.place_lookup.specs.declared.PlaceAnswer.TheVariants.{Found}
+use Rattle.place_lookup.specs.Answer.{Found}
 use Rattle.place_lookup.specs.Place.{lookup_answer}
 use Rattle.place_term3.specs.Term3.{length_in, StridesCover, rewrite}
 

@@ -6,7 +6,7 @@ use Rattle.std.proofs.Math.ListN.{get_elem?}
 use Rattle.std.proofs.lemmas.List.Edits.{sets}
 use Rattle.ir_records.specs.Record.{Decoded, decoded, type_count, member_type}
 use Rattle.ir_records.specs.Fields.{capabilities_known}
-use Rattle.ir_records.specs.declared.Outcome.TheVariants.{Accepted}
+use Rattle.ir_records.specs.Outcome.{Accepted}
 use Rattle.ir_records.specs.declared.Leaf.TheVariants.{Matrix}
 use Rattle.ir_records.specs.declared.TypeInner.{TypeInner}
 use Rattle.ir_records.specs.declared.TypeInner.TheVariants.{Plain, Array, RuntimeArray, Struct, Other}
@@ -16,10 +16,10 @@ use Rattle.valid_type_info.specs.declared.Row.{Row}
 use Rattle.valid_type_info.specs.declared.UniformRule.{UniformRule}
 use Rattle.valid_type_info.specs.Verdict.{least_for, is_ok, alignment_in}
 use Rattle.valid_arena.specs.Arena.{arena, row}
-use Rattle.place_steps.specs.declared.Step.{Step}
-use Rattle.place_steps.specs.declared.Step.TheVariants.{To, Column, NoStep}
+use Rattle.place_steps.specs.Step.{Step}
+use Rattle.place_steps.specs.Step.{To, Column, NoStep}
 use Rattle.place_steps.specs.Columns.{leaf_length}
-use Rattle.place_descent.specs.declared.Place.TheVariants.{At}
+use Rattle.place_descent.specs.Place.{At}
 use Rattle.place_descent.specs.Place.{step_in, place_of}
 
 -- flags, sizes and storage verdicts are what the arena check's definitions make of the records, by either uniform rule

@@ -8,7 +8,7 @@ use lib.Dec.{T, leb}
 use Rattle.ir_records.specs.Result.{ok}
 use Rattle.ir_records.specs.Record.{Decoded, member_type}
 use Rattle.ir_records.specs.Table.{table, result_at, first_refusal}
-use Rattle.ir_records.specs.declared.Outcome.TheVariants.{Accepted}
+use Rattle.ir_records.specs.Outcome.{Accepted}
 use Rattle.ir_records.specs.declared.Leaf.{Leaf}
 use Rattle.ir_records.specs.declared.TypeInner.{TypeInner}
 use Rattle.ir_records.specs.declared.TypeInner.TheVariants.{Plain, Array, RuntimeArray, Struct}

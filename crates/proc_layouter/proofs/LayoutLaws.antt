@@ -11,8 +11,9 @@ use Rattle.ir_records.specs.Result.{Result, ok, require, and_then}
 use Rattle.ir_records.specs.Record.{decoded, member_count, type_count, type_word, type_inner, struct_members}
 use Rattle.ir_records.specs.Fields.{row_words, fields_ok, base_within, sources_located, record_at}
 use Rattle.ir_records.specs.Table.{table, result_at, outcome_at, also, first_refusal, flat}
-use Rattle.ir_records.specs.declared.Outcome.{Outcome}
-use Rattle.ir_records.specs.declared.Outcome.TheVariants.{Accepted, Refused}
+use Rattle.ir_records.specs.Outcome.{Outcome}
+use Rattle.ir_records.specs.Outcome.{Accepted, Refused}
+use Rattle.ir_records.proofs.RefusalLaws.{IsRefused}
 use Rattle.ir_records.proofs.ResultLaws.{and_then_ok}
 use Rattle.ir_records.proofs.TableLaws.{table_value, table_above, value_ok, flat_length, flat_word, all_ok, accepted_all, also_accepted, outcome_accepted}
 use Rattle.ir_rows.specs.Rows.{row_word, cleared}
@@ -20,9 +21,7 @@ use Rattle.ir_rows.specs.Serving.{with_row}
 use Rattle.ir_rows.proofs.RowLaws.{flat_more, drop_part}
 use Rattle.proc_type_alignment.specs.declared.TypeLayout.{TypeLayout}
 use Rattle.proc_type_alignment.specs.Serving.{layouts_in}
-use Rattle.proc_type_layout.specs.declared.Laid.{Laid}
-use Rattle.proc_type_layout.specs.declared.Laid.TheVariants as laid
-use Rattle.proc_type_layout.specs.Serving.{record_layout, laid_result}
+use Rattle.proc_type_layout.specs.Serving.{record_layout}
 use Rattle.proc_layouter.specs.Layouter.{no_layout, layout_step, layout_at, layout, layout_outcome, layout_row_at, rows_after}
 use Rattle.proc_layouter.specs.Serving.{record_then_layout, words_after}
 
@@ -66,18 +65,18 @@ module _ (ts ms : List ℕ) where
       (base_within (type_count ts) (type_word ts i 0) (type_word ts i 1))
       (layout_at (decoded ts ms) i))
 
-  module _ (rows : List ℕ) (i : ℕ) (r : Laid) (so_far : take (i * row_words) rows ≡ flat (layout_row_at ts ms) i)
-      (one : laid_result r ≡ record_layout ts ms (layouts_in (take (i * row_words) rows)) i) where
+  module _ (rows : List ℕ) (i : ℕ) (r : Result TypeLayout) (so_far : take (i * row_words) rows ≡ flat (layout_row_at ts ms) i)
+      (one : r ≡ record_layout ts ms (layouts_in (take (i * row_words) rows)) i) where
     -- what the code answers for type i is what the definition has
-    pub laid-at : laid_result r ≡ record_then_layout ts ms i
+    pub laid-at : r ≡ record_then_layout ts ms i
     laid-at = one ∙ ap (λ (f : ℕ → TypeLayout). record_layout ts ms f i) (layouts-in (take (i * row_words) rows) i so_far) ∙ record_laid i
 
-    module _ (l : TypeLayout) (e : r ≡ laid.Layout l) (rows' : List ℕ) (w : rows' ≡ words_after r (i * row_words) rows)
+    module _ (l : TypeLayout) (e : r ≡ ok l) (rows' : List ℕ) (w : rows' ≡ words_after r (i * row_words) rows)
         (room : i * row_words + row_words ≤ length rows) where
       is_layout : layout (decoded ts ms) i ≡ l
       is_layout =
           value_ok no_layout (layout_step (decoded ts ms)) i l
-          (and_then_ok (record_at ts ms i) (λ _. layout_at (decoded ts ms) i) l (sym laid-at ∙ ap laid_result e)).2
+          (and_then_ok (record_at ts ms i) (λ _. layout_at (decoded ts ms) i) l (sym laid-at ∙ e)).2
 
       written : rows' ≡ with_row rows (i * row_words) (layout_row_at ts ms i)
       written = w ∙ rw (e, is_layout) refl
@@ -135,3 +134,11 @@ pub refused_rows : (first second : Outcome) (rows : List ℕ) (n : ℕ) (words :
     → second ≡ Refused number ty member detail → rows_after (also first second) rows n words ≡ rows_after second rows n words
 refused_rows Accepted second rows n words e = refl
 refused_rows (Refused number ty member detail) second rows n words e = rw e refl
+
+pub refused_zeros : (o : Outcome) → IsRefused o → (rows : List ℕ) (n : ℕ) (words : List ℕ) → rows_after o rows n words ≡ cleared words (n * row_words)
+refused_zeros Accepted e rows n words = absurd e
+refused_zeros (Refused number ty member detail) e rows n words = refl
+
+pub also_zeros : (first second : Outcome) → IsRefused second → (rows : List ℕ) (n : ℕ) (words : List ℕ) → rows_after (also first second) rows n words ≡ cleared words (n * row_words)
+also_zeros Accepted second e rows n words = refused_zeros second e rows n words
+also_zeros (Refused number ty member detail) second e rows n words = refl

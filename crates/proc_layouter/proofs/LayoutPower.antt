@@ -9,7 +9,7 @@ use Rattle.ir_records.specs.Record.{Decoded, decoded, type_count}
 use Rattle.ir_records.specs.Fields.{record_at}
 use Rattle.ir_records.specs.Serving.{InnerBounds}
 use Rattle.ir_records.specs.Table.{first_refusal}
-use Rattle.ir_records.specs.declared.Outcome.TheVariants.{Accepted}
+use Rattle.ir_records.specs.Outcome.{Accepted}
 use Rattle.ir_records.proofs.TableLaws.{value_holds, all_ok, also_accepted}
 use Rattle.ir_records.proofs.RecordLaws.{record_bounds}
 use Rattle.proc_alignment.specs.Alignment.{Power}

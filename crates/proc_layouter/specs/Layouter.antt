@@ -6,8 +6,8 @@ use Rattle.ir_records.specs.Result.{Result, pick}
 use Rattle.ir_records.specs.Record.{Decoded, decoded, type_count}
 use Rattle.ir_records.specs.Fields.{row_words, tables_fit, record_at}
 use Rattle.ir_records.specs.Table.{result_at, value_at, also, first_refusal, flat}
-use Rattle.ir_records.specs.declared.Outcome.{Outcome}
-use Rattle.ir_records.specs.declared.Outcome.TheVariants.{Accepted, Refused}
+use Rattle.ir_records.specs.Outcome.{Outcome}
+use Rattle.ir_records.specs.Outcome.{Accepted, Refused}
 use Rattle.ir_rows.specs.Rows.{layout_row, cleared}
 use Rattle.proc_type_alignment.specs.declared.TypeLayout.{TypeLayout}
 use Rattle.proc_type_layout.specs.TypeLayout.{layout_of}

@@ -3,110 +3,73 @@
 
 ghost use Rattle.std.specs.Prelude.{◌≡◌, ◌+◌, ◌*◌, ◌≤◌, ◌<◌, length, take};
 ghost use Rattle.ir_records.specs.Record.{type_count};
-ghost use Rattle.ir_records.specs.Table.{also, first_refusal};
+ghost use Rattle.ir_records.specs.Table.{first_refusal};
 ghost use Rattle.proc_type_alignment.specs.Serving.{layouts_in};
-ghost use Rattle.proc_type_layout.specs.Serving.{record_layout, laid_result};
+ghost use Rattle.ir_records.specs.Refusal.{judged, outcome_of};
+ghost use Rattle.proc_type_layout.specs.Serving.{record_layout};
 ghost use Rattle.proc_layouter.specs.Layouter.{layout_rows, rows_after, layout_outcome, layout_answer, layout_words};
 ghost use Rattle.proc_layouter.specs.Serving.{words_after, record_then_layout};
 
-use ir_records::Outcome;
-use proc_type_layout::Laid;
-
-// The first refusal, or else the second.
-fn first_of(first: Outcome, second: Outcome) -> Outcome
-    ensures { result ≡ also first second }
-{
-    match first {
-        Outcome::Accepted => second,
-        Outcome::Refused {
-            number: _,
-            ty: _,
-            member: _,
-            detail: _,
-        } => first,
-    }
-}
+use ir_records::{Fault, Refusal, TypeRefusal};
+use proc_type_alignment::TypeLayout;
 
 // Numbers 2 to 7 of type i, or its layout, which is written into its row.
-fn layout_at(types: &[u32], members: &[u32], rows: &mut [u32], i: u32) -> Laid
+fn layout_at(
+    types: &[u32],
+    members: &[u32],
+    rows: &mut [u32],
+    i: u32,
+) -> Result<TypeLayout, TypeRefusal>
     requires i_in_bounds { i * 14 + 14 ≤ length rows.old }
     requires i_in_bounds_2 { i * 6 + 6 ≤ length types.now }
-    ensures result_value { laid_result result ≡ record_layout types.now members.now (layouts_in (take (i * 14) rows.old)) i }
-    ensures rows_after { rows.new ≡ words_after result (i * 14) rows.old }
+    ensures result_value { judged result ≡ record_layout types.now members.now (layouts_in (take (i * 14) rows.old)) i }
+    ensures rows_after { rows.new ≡ words_after (judged result) (i * 14) rows.old }
 {
     let at = (i as usize) * ir_records::ROW_WORDS;
-    let laid = proc_type_layout::layout_of(types, members, &rows[..at], i);
-    match laid {
-        Laid::Layout(l) => {
-            ir_rows::put_layout(rows, at, l.size, l.alignment);
-            laid
-        }
-        Laid::Refused {
-            number: _,
-            member: _,
-        } => laid,
-    }
+    let layout = proc_type_layout::layout_of(types, members, &rows[..at], i)?;
+    ir_rows::put_layout(rows, at, layout.size, layout.alignment);
+    Ok(layout)
 }
 
 // Numbers 2 to 7 type by type, over n types; the rows of all, or zeros.
-fn layout_all(types: &[u32], members: &[u32], rows: &mut [u32], n: u32) -> Outcome
+fn layout_all(types: &[u32], members: &[u32], rows: &mut [u32], n: u32) -> Result<(), Refusal>
     requires n_in_bounds { n * 14 ≤ length rows.old }
     requires n_in_bounds_2 { n * 6 ≤ length types.now }
-    ensures value { result ≡ first_refusal (record_then_layout types.now members.now) n }
-    ensures rows_after { rows.new ≡ rows_after result (layout_rows types.now members.now n) n rows.old }
+    ensures value { outcome_of result ≡ first_refusal (record_then_layout types.now members.now) n }
+    ensures rows_after { rows.new ≡ rows_after (outcome_of result) (layout_rows types.now members.now n) n rows.old }
 {
-    let mut i: u32 = 0;
-    while i < n {
-        match layout_at(types, members, rows, i) {
-            Laid::Layout(_) => {}
-            Laid::Refused { number, member } => {
-                let words = (n as usize) * ir_records::ROW_WORDS;
-                ir_rows::clear(rows, words);
-                return Outcome::Refused {
-                    number,
-                    ty: i,
-                    member,
-                    detail: 0,
-                };
-            }
+    for i in 0..n {
+        if let Err(refusal) = layout_at(types, members, rows, i) {
+            let words = (n as usize) * ir_records::ROW_WORDS;
+            ir_rows::clear(rows, words);
+            return Err(refusal.at(i));
         }
-        i += 1;
     }
-    Outcome::Accepted
+    Ok(())
 }
 
 // Numbers 2 to 7, once the tables are known to fit. Numbers 2 and 3 of all records come before 4 to 7 of any.
-fn layout_tables(types: &[u32], members: &[u32], rows: &mut [u32], n: u32) -> Outcome
+fn layout_tables(types: &[u32], members: &[u32], rows: &mut [u32], n: u32) -> Result<(), Refusal>
     requires n_in_bounds { n * 14 ≤ length rows.old }
     requires n_value { n ≡ type_count types.now }
-    ensures value { result ≡ layout_outcome types.now members.now }
-    ensures rows_after { rows.new ≡ rows_after result (layout_rows types.now members.now n) n rows.old }
+    ensures value { outcome_of result ≡ layout_outcome types.now members.now }
+    ensures rows_after { rows.new ≡ rows_after (outcome_of result) (layout_rows types.now members.now n) n rows.old }
 {
     let found = layout_all(types, members, rows, n);
-    match found {
-        Outcome::Accepted => found,
-        Outcome::Refused {
-            number: _,
-            ty: _,
-            member: _,
-            detail: _,
-        } => first_of(ir_fields::records_ok(types, members, n), found),
+    if found.is_err() {
+        ir_fields::records_ok(types, members, n)?;
     }
+    found
 }
 
 // Sizes and alignments of all types of an arena, in words 0 and 1 of the lent rows. Nothing is asked of the caller.
-pub fn layout(types: &[u32], members: &[u32], rows: &mut [u32]) -> Outcome
-    ensures value { result ≡ layout_answer types.now members.now rows.old }
+pub fn layout(types: &[u32], members: &[u32], rows: &mut [u32]) -> Result<(), Refusal>
+    ensures value { outcome_of result ≡ layout_answer types.now members.now rows.old }
     ensures rows_after { rows.new ≡ layout_words types.now members.now rows.old }
 {
-    if ir_records::tables_fit(types.len(), members.len(), rows.len()) {
-        let n = (types.len() / ir_records::TYPE_WORDS) as u32;
-        return layout_tables(types, members, rows, n);
+    if !ir_records::tables_fit(types.len(), members.len(), rows.len()) {
+        return Err(Refusal::of(Fault::TableLength));
     }
-    Outcome::Refused {
-        number: 1,
-        ty: 0,
-        member: 0,
-        detail: 0,
-    }
+    let n = (types.len() / ir_records::TYPE_WORDS) as u32;
+    layout_tables(types, members, rows, n)
 }

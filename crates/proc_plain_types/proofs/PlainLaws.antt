@@ -15,7 +15,7 @@ use Rattle.proc_type_methods.specs.TypeMethods.{leaf_size, leaf_column_step, try
 use Rattle.proc_type_alignment.specs.declared.TypeLayout.{TypeLayout}
 use Rattle.proc_type_alignment.specs.TypeAlignment.{leaf_width, leaf_factor, alignment_of}
 use Rattle.proc_type_layout.specs.TypeLayout.{layout_of}
-use Rattle.proc_plain_types.specs.declared.PlainAnswer.TheVariants.{Found, Refused}
+use Rattle.proc_plain_types.specs.PlainTypes.{Found, Refused}
 use Rattle.proc_plain_types.specs.PlainTypes.{most_shape, leaf_with, plain_width, worked_out, plain_answer}
 
 -- three numbers are answered for one of the four widths alone, and are the worked-out ones

@@ -2,23 +2,17 @@
 #![tactic(auto)]
 
 ghost use Rattle.std.specs.Prelude.{◌≡◌, ℕ, ◌^◌, ◌<◌};
-ghost use Rattle.proc_plain_types.specs.declared.PlainAnswer.TheVariants.{Refused};
-ghost use Rattle.proc_plain_types.specs.PlainTypes.{leaf_with, worked_out, plain_answer};
+ghost use Rattle.proc_plain_types.specs.PlainTypes.{leaf_with, worked_out, plain_answer, plain_in, plain_answer_of};
 ghost use Rattle.proc_plain_types.specs.Serving.{entry_in};
 
-#[derive(Clone, Copy)]
-pub enum PlainAnswer {
-    Found {
-        size: u32,
-        alignment: u32,
-        step: u32,
-    },
-    Refused {
-        number: u32,
-        ty: u32,
-        member: u32,
-        detail: u32,
-    },
+use ir_records::{Fault, Refusal};
+
+/// Of a plain type; the step is 0 where there are no columns.
+#[derive(Clone, Copy, Debug, PartialEq, Eq)]
+pub struct PlainLayout {
+    pub size: u32,
+    pub alignment: u32,
+    pub step: u32,
 }
 
 // Shape by shape, at widths 1, 2, 4 and 8: size, alignment and column step.
@@ -54,13 +48,13 @@ const NUMBERS: [u32; 156] = [
 const MOST_SHAPE: u32 = 12;
 
 // The entry of a shape at a width, which is told by its place among the four. The table is lent, so that a proof can name it.
-fn entry_in(numbers: &[u32; 156], shape: u32, place: u32) -> PlainAnswer
+fn entry_in(numbers: &[u32; 156], shape: u32, place: u32) -> PlainLayout
     requires shape_bound { shape < 13 }
     requires place_bound { place < 4 }
-    ensures { result ≡ entry_in numbers.now shape place }
+    ensures { plain_in result ≡ entry_in numbers.now shape place }
 {
     let at = ((shape * 4 + place) * 3) as usize;
-    PlainAnswer::Found {
+    PlainLayout {
         size: numbers[at],
         alignment: numbers[at + 1],
         step: numbers[at + 2],
@@ -68,38 +62,26 @@ fn entry_in(numbers: &[u32; 156], shape: u32, place: u32) -> PlainAnswer
 }
 
 // The same of the table above: the worked-out numbers of the shape, for every scalar kind.
-fn entry(shape: u32, place: u32) -> PlainAnswer
+fn entry(shape: u32, place: u32) -> PlainLayout
     requires shape_bound { shape < 13 }
     requires place_bound { place < 4 }
-    ensures { (kind : ℕ) → result ≡ worked_out (leaf_with shape kind (2 ^ place)) }
+    ensures { (kind : ℕ) → plain_in result ≡ worked_out (leaf_with shape kind (2 ^ place)) }
 {
     entry_in(&NUMBERS, shape, place)
 }
 
-// Number 2 for another shape or width.
-fn another() -> PlainAnswer
-    ensures { result ≡ Refused 2 0 0 0 }
-{
-    PlainAnswer::Refused {
-        number: 2,
-        ty: 0,
-        member: 0,
-        detail: 0,
-    }
-}
-
-// The numbers of a shape at a width. Nothing is asked of the caller.
-pub fn plain(shape: u32, width: u32) -> PlainAnswer
-    ensures { result ≡ plain_answer shape width }
+/// The numbers of a shape at a width; number 2 for another shape or width. Nothing is asked of the caller.
+pub fn plain(shape: u32, width: u32) -> Result<PlainLayout, Refusal>
+    ensures { plain_answer_of result ≡ plain_answer shape width }
 {
     if MOST_SHAPE < shape {
-        return another();
+        return Err(Refusal::of(Fault::FieldOutside));
     }
     match width {
-        1 => entry(shape, 0),
-        2 => entry(shape, 1),
-        4 => entry(shape, 2),
-        8 => entry(shape, 3),
-        _ => another(),
+        1 => Ok(entry(shape, 0)),
+        2 => Ok(entry(shape, 1)),
+        4 => Ok(entry(shape, 2)),
+        8 => Ok(entry(shape, 3)),
+        _ => Err(Refusal::of(Fault::FieldOutside)),
     }
 }

@@ -5,8 +5,6 @@ use Rattle.ir_records.specs.Result.{Result, err, ok, require}
 use Rattle.ir_records.specs.Record.{member_count, type_count, type_word, inner_of, struct_members}
 use Rattle.ir_records.specs.Fields.{fields_ok, base_within, sources_located}
 use Rattle.proc_type_alignment.specs.declared.TypeLayout.{TypeLayout}
-use Rattle.proc_type_layout.specs.declared.Laid.{Laid}
-use Rattle.proc_type_layout.specs.declared.Laid.TheVariants as laid
 use Rattle.proc_type_layout.specs.TypeLayout.{layout_of}
 
 -- ---- numbers 2 to 7 in one: of a record with these words, in an arena of n types and m member rows
@@ -22,7 +20,3 @@ record_layout ts ms layouts i =
     require (sources_located (struct_members ts ms i)) 2 0 0
     (words_layout (member_count ms) (type_count ts) layouts i (type_word ts i 0) (type_word ts i 1) (type_word ts i 2) (type_word ts i 3) (type_word ts i 4) (type_word ts i 5)
     (struct_members ts ms i))
-
-abbrev pub laid_result : Laid → Result TypeLayout
-laid_result (laid.Layout l) = ok l
-laid_result (laid.Refused number member) = err number member 0

@@ -1,14 +1,12 @@
 -- Serves the contracts of functions inside the library: it adds nothing to what the other files say, and a reader may skip it.
 -- Assumes nothing.
-use Rattle.std.specs.Prelude.{ℕ, eqb}
+use Rattle.std.specs.Prelude.{ℕ, eqb, Option, Some, None}
 use Rattle.ir_records.specs.Result.{Result, err, ok, pick}
-use Rattle.proc_type_methods.specs.declared.Size.{Size}
-use Rattle.proc_type_methods.specs.declared.Size.TheVariants.{Bytes, TooLarge}
 use Rattle.proc_type_methods.specs.TypeMethods.{array_size, runtime_array_size}
 
-abbrev pub size_result : Size → Result ℕ
-size_result (Bytes size) = ok size
-size_result TooLarge = err 4 0 0
+abbrev pub size_result : Option ℕ → Result ℕ
+size_result (Some size) = ok size
+size_result None = err 4 0 0
 
 -- number 4 of an array by its form
 abbrev pub size_by_form : (form count stride : ℕ) → Result ℕ

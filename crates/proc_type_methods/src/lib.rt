@@ -8,13 +8,6 @@ ghost use Rattle.proc_type_methods.specs.Serving.{size_by_form, size_result};
 
 use ir_records::{Leaf, NonData, TypeInner};
 
-// Number 4 is TooLarge.
-#[derive(Clone, Copy)]
-pub enum Size {
-    Bytes(u32),
-    TooLarge,
-}
-
 // MAX_TYPE_SIZE of naga's valid/mod.rs.
 const MOST_SIZE: u64 = 2147483647;
 
@@ -78,33 +71,33 @@ fn non_data_size(o: NonData) -> u32
     }
 }
 
-fn array_size(count: u32, stride: u32) -> Size
+fn array_size(count: u32, stride: u32) -> Option<u32>
     ensures { size_result result ≡ array_size count stride }
 {
     let n = count as u64;
     let total = n * (stride as u64);
     if MOST_SIZE < n {
-        return Size::TooLarge;
+        return None;
     }
     if MOST_SIZE < total {
-        return Size::TooLarge;
+        return None;
     }
     let size = total as u32;
-    Size::Bytes(size)
+    Some(size)
 }
 
-fn runtime_array_size(stride: u32) -> Size
+fn runtime_array_size(stride: u32) -> Option<u32>
     ensures { size_result result ≡ runtime_array_size stride }
 {
     if stride <= 2147483647 {
-        Size::Bytes(stride)
+        Some(stride)
     } else {
-        Size::TooLarge
+        None
     }
 }
 
 // Of an array by its form: 0 for one of a count, else a runtime array.
-pub fn size_by_form(form: u32, count: u32, stride: u32) -> Size
+pub fn size_by_form(form: u32, count: u32, stride: u32) -> Option<u32>
     ensures { size_result result ≡ size_by_form form count stride }
 {
     if form == 0 {
@@ -113,20 +106,20 @@ pub fn size_by_form(form: u32, count: u32, stride: u32) -> Size
     runtime_array_size(stride)
 }
 
-// What a type measures, or number 4.
-pub fn try_size(inner: TypeInner) -> Size
+// What a type measures; none is number 4.
+pub fn try_size(inner: TypeInner) -> Option<u32>
     requires { InnerBounds inner }
     ensures { size_result result ≡ try_size inner }
 {
     match inner {
-        TypeInner::Plain(leaf) => Size::Bytes(leaf_size(leaf)),
+        TypeInner::Plain(leaf) => Some(leaf_size(leaf)),
         TypeInner::Array {
             base: _,
             count,
             stride,
         } => array_size(count, stride),
         TypeInner::RuntimeArray { base: _, stride } => runtime_array_size(stride),
-        TypeInner::Struct { count: _, span } => Size::Bytes(span),
-        TypeInner::Other(o) => Size::Bytes(non_data_size(o)),
+        TypeInner::Struct { count: _, span } => Some(span),
+        TypeInner::Other(o) => Some(non_data_size(o)),
     }
 }

@@ -3,12 +3,12 @@
 
 ghost use Rattle.std.specs.Prelude.{◌≡◌, ◌≤◌, length, drop};
 ghost use Rattle.program_words.specs.Words.{words};
-ghost use Rattle.program_arguments.specs.Arguments.{numbers_of};
+ghost use Rattle.program_arguments.specs.Arguments.{numbers_of, reason_of, reason_of_stray};
 ghost use Rattle.program_arguments.specs.Serving.{numbers_in, count_of, NumberAt};
 
-use program_words::{Number, Word};
+use program_words::{NumberError, Stray};
 
-#[derive(Clone, Copy)]
+#[derive(Clone, Copy, Debug, PartialEq, Eq)]
 pub enum Command {
     Capabilities,
     Rule,
@@ -33,79 +33,92 @@ pub enum Command {
     Unknown,
 }
 
-// Why a line cannot be read. A word is named by its number in the line, from 1.
-#[derive(Clone, Copy)]
+/// Why a line cannot be read. A word is named by its number in the line, from 1.
+#[derive(Clone, Copy, Debug, PartialEq, Eq)]
 pub enum Reason {
     NotANumber(u32),
     TooLarge(u32),
-    // The word is no command, or has too few or too many numbers after it.
+    /// The word is no command, or has too few or too many numbers after it.
     Usage(Command),
-    // A byte that no line may hold.
     ByteOrderMark,
     Nul,
     Return,
 }
 
-// The next number of a text, and where it ends.
-#[derive(Clone, Copy)]
-pub enum Next {
-    End,
-    Value { value: u32, end: usize },
-    NotANumber,
-    TooLarge,
-}
+impl From<Stray> for Reason {
+    ghost from_gives = { λ stray result. result ≡ reason_of_stray stray };
 
-// How many numbers were read.
-#[derive(Clone, Copy)]
-pub enum Count {
-    Numbers(u32),
-    Wrong(Reason),
-}
-
-// The next number from `at` on.
-fn next_number(s: &[u8], at: usize) -> Next
-    requires { at ≤ length s.now }
-    ensures { NumberAt s.now at result }
-{
-    match program_words::next_word(s, at) {
-        Word::End => Next::End,
-        Word::Found { start, end } => match program_words::number_of(&s[start..end]) {
-            Number::Value(value) => Next::Value { value, end },
-            Number::NotANumber => Next::NotANumber,
-            Number::TooLarge => Next::TooLarge,
-        },
+    fn from(stray: Stray) -> Reason {
+        match stray {
+            Stray::ByteOrderMark => Reason::ByteOrderMark,
+            Stray::Nul => Reason::Nul,
+            Stray::Return => Reason::Return,
+        }
     }
 }
 
-// The numbers from `at` on, at most `most`, into the lent words.
-pub fn read_numbers(s: &[u8], at: usize, command: Command, most: u32, numbers: &mut [u32]) -> Count
+// A number of a text, and where it ends.
+#[derive(Clone, Copy)]
+struct NumberRead {
+    value: u32,
+    end: usize,
+}
+
+// Why word `at` of a line is no number.
+fn reason_of(error: NumberError, at: u32) -> Reason
+    ensures { result ≡ reason_of error at }
+{
+    match error {
+        NumberError::NotANumber => Reason::NotANumber(at),
+        NumberError::TooLarge => Reason::TooLarge(at),
+    }
+}
+
+// The next number from `at` on, where there is a word.
+fn next_number(s: &[u8], at: usize) -> Result<Option<NumberRead>, NumberError>
+    requires { at ≤ length s.now }
+    ensures { NumberAt s.now at result }
+{
+    let Some(word) = program_words::next_word(s, at) else {
+        return Ok(None);
+    };
+    let value = program_words::number_of(&s[word.start..word.end])?;
+    Ok(Some(NumberRead {
+        value,
+        end: word.end,
+    }))
+}
+
+/// Reads the numbers from `at` on, at most `most`, into the lent words, and tells how many there are.
+pub fn read_numbers(
+    s: &[u8],
+    at: usize,
+    command: Command,
+    most: u32,
+    numbers: &mut [u32],
+) -> Result<u32, Reason>
     requires at_in_bounds { at ≤ length s.now }
     requires most_in_bounds { (most ≤ length numbers.old) × (most ≤ 1025) }
     ensures numbers_after { numbers_in result numbers.new ≡ numbers_of command most 2 (words (drop at s.now)) }
     ensures result_bound { count_of result ≤ most }
 {
     let mut from = at;
-    let mut k: u32 = 0;
-    while k < most {
+    for k in 0..most {
         match next_number(s, from) {
-            Next::End => {
-                return Count::Numbers(k);
+            Ok(None) => {
+                return Ok(k);
             }
-            Next::Value { value, end } => {
-                numbers[k as usize] = value;
-                from = end;
+            Ok(Some(number)) => {
+                numbers[k as usize] = number.value;
+                from = number.end;
             }
-            Next::NotANumber => {
-                return Count::Wrong(Reason::NotANumber(k + 2));
-            }
-            Next::TooLarge => {
-                return Count::Wrong(Reason::TooLarge(k + 2));
+            Err(error) => {
+                return Err(reason_of(error, k + 2));
             }
         }
-        k += 1;
     }
     match program_words::next_word(s, from) {
-        Word::End => Count::Numbers(k),
-        Word::Found { start: _, end: _ } => Count::Wrong(Reason::Usage(command)),
+        None => Ok(most),
+        Some(_) => Err(Reason::Usage(command)),
     }
 }

@@ -1,6 +1,7 @@
 -- What the program says of an argument.
 -- Assumes nothing.
-use Rattle.std.specs.Prelude.{Bool, ◌&&◌, List, ◌++◌, ℕ, eqb, length, get_or}
+use Rattle.std.specs.Prelude.{Bool, List, ◌++◌, ℕ, nat_eq}
+use Rattle.std.specs.Cmp.Lexicographic.{pointwise}
 use Rattle.ir_records.specs.Result.{pick}
 use Rattle.program_output.specs.Bytes.{ascii}
 
@@ -9,9 +10,7 @@ help_text = ascii "inspect answers the commands on standard input, one to a line
 
 -- --help
 abbrev pub is_help : List ℕ → Bool
-is_help name =
-    eqb (length name) 6 && eqb (get_or name 0 0) 45 && eqb (get_or name 1 0) 45 && eqb (get_or name 2 0) 104 && eqb (get_or name 3 0) 101 && eqb (get_or name 4 0) 108
-    && eqb (get_or name 5 0) 112
+is_help name = pointwise nat_eq name (ascii "--help")
 
 abbrev pub unknown_bytes : List ℕ → List ℕ
 unknown_bytes name = name ++ ascii ": no such argument; there is --help\n"

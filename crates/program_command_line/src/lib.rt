@@ -1,36 +1,18 @@
 // The program `inspect`: it answers its arguments, and without one the commands on standard input.
 #![tactic(auto)]
 
-ghost use Rattle.std.specs.Prelude.{◌≡◌, length, get_or};
+ghost use Rattle.std.specs.Prelude.{◌≡◌};
 ghost use Rattle.program_output.specs.Bytes.{Puts};
 ghost use Rattle.program_command_line.specs.Arguments.{help_text, is_help, unknown_bytes, argument_bytes};
 
 use program_output::Buffer;
 use std::rt::Env;
 
-fn byte_at(s: &[u8], at: usize) -> u8
-    ensures { result ≡ get_or s.now at 0 }
-{
-    if at < s.len() { s[at] } else { 0 }
-}
-
 // Whether an argument is --help.
 fn is_help(name: &[u8]) -> bool
     ensures { result ≡ is_help name.now }
 {
-    let a = byte_at(name, 0);
-    let b = byte_at(name, 1);
-    let c = byte_at(name, 2);
-    let d = byte_at(name, 3);
-    let e = byte_at(name, 4);
-    let f = byte_at(name, 5);
-    (name.len() == 6)
-        & (a == b'-')
-        & (b == b'-')
-        & (c == b'h')
-        & (d == b'e')
-        & (e == b'l')
-        & (f == b'p')
+    name == b"--help".as_slice()
 }
 
 fn put_help(at: usize, out: &mut Buffer) -> usize

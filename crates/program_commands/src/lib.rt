@@ -114,11 +114,7 @@ fn store(arena: &mut Arena, at: usize, words: &[u32])
     requires { at + length words.now ≤ 22528 }
     ensures { arena.new ≡ sets arena.old at words.now }
 {
-    let mut i = 0;
-    while i < words.len() {
-        arena[at + i] = words[i];
-        i += 1;
-    }
+    arena[at..at + words.len()].copy_from_slice(words);
 }
 
 fn add_type(mut s: Session, arena: &mut Arena, words: &[u32]) -> Session

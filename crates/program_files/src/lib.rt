@@ -13,10 +13,10 @@ use std::rt::{Env, Files};
 
 const STDERR: i32 = 2;
 
-// How the input ended: with so many bytes, with more than there is room for, or with a read that failed.
-#[derive(Clone, Copy)]
-pub enum Held {
-    Bytes(usize),
+/// Why an input is not held.
+#[derive(Clone, Copy, Debug, PartialEq, Eq)]
+pub enum ReadError {
+    /// There are more bytes than there is room for.
     Long,
     Failed,
 }
@@ -73,39 +73,30 @@ pub fn opened<R: Env + Files + Input>(rt: &R) -> Option<Source<R::Reader, R::Fil
     Some(Source::Named(named(rt, 1)?))
 }
 
-// One read, after the bytes that are held.
-fn read_more<S: Read>(source: &mut S, bytes: &mut [u8], held: usize) -> Held
+// One read, after the bytes that are held, and how many are held then.
+fn read_more<S: Read>(source: &mut S, bytes: &mut [u8], held: usize) -> Result<usize, ReadError>
     requires { held ≤ length bytes.old }
     ensures { HeldWithin held (length bytes.old) result }
 {
     if bytes.len() <= held {
-        return Held::Long;
+        return Err(ReadError::Long);
     }
     match source.read(&mut bytes[held..]) {
-        Ok(more) => Held::Bytes(held + more),
-        Err(_) => Held::Failed,
+        Ok(more) => Ok(held + more),
+        Err(_) => Err(ReadError::Failed),
     }
 }
 
-// All bytes of the input. They must be fewer than there is room for, since a full buffer does not tell whether there are more.
-pub fn read_all<S: Read>(source: &mut S, bytes: &mut [u8]) -> Held
+/// Reads all bytes of the input, and tells how many there are. They must be fewer than there is room for, since a full buffer does not tell whether there are more.
+pub fn read_all<S: Read>(source: &mut S, bytes: &mut [u8]) -> Result<usize, ReadError>
     ensures { HeldWithin 0 (length bytes.old) result }
 {
     let mut held: usize = 0;
     loop {
-        match read_more(source, bytes, held) {
-            Held::Bytes(now) => {
-                if now <= held {
-                    return Held::Bytes(held);
-                }
-                held = now;
-            }
-            Held::Long => {
-                return Held::Long;
-            }
-            Held::Failed => {
-                return Held::Failed;
-            }
+        let now = read_more(source, bytes, held)?;
+        if now <= held {
+            return Ok(held);
         }
+        held = now;
     }
 }

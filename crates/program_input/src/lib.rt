@@ -58,12 +58,7 @@ pub fn keep_rest(buffer: &mut [u8], from: usize, end: usize)
     requires { end ≤ length buffer.old }
     ensures { Kept buffer.old from end buffer.new }
 {
-    if from == 0 {
-        return;
-    }
-    let mut i = from;
-    while i < end {
-        buffer[i - from] = buffer[i];
-        i += 1;
+    if from < end {
+        buffer.copy_within(from..end, 0);
     }
 }

@@ -1,3 +1,2 @@
 pub mod LineLaws
 pub mod Examples
-pub mod NameLaws

@@ -1,23 +1,20 @@
 -- What a line says, by its bytes and its words: the command and the numbers after it.
 -- Assumes nothing.
-use Rattle.std.specs.Prelude.{◌≡◌, Bool, true, false, ◌&&◌, List, [], ◌∷◌, ℕ, ◌-◌, eqb, leb, length, get_or, take}
+use Rattle.std.specs.Prelude.{◌≡◌, Bool, List, [], ◌∷◌, ℕ, ◌-◌, nat_eq, leb, length, get_or, take, Option, Some, None}
+use Rattle.std.specs.Cmp.Lexicographic.{pointwise}
 use Rattle.ir_records.specs.Result.{pick}
 use Rattle.program_words.specs.Words.{text_of, words}
 use Rattle.program_words.specs.Stray.{stray_in}
 use Rattle.program_words.specs.declared.Stray.{Stray}
-use Rattle.program_words.specs.declared.Stray.TheVariants as stray
-use Rattle.program_arguments.specs.Arguments.{Arguments, read, wrong, numbers_of}
+use Rattle.program_arguments.specs.Arguments.{Arguments, read, wrong, reason_of_stray, numbers_of}
 use Rattle.program_arguments.specs.declared.Command.{Command}
 use Rattle.program_arguments.specs.declared.Command.TheVariants as command
 use Rattle.program_arguments.specs.declared.Reason.TheVariants as reason
 use Rattle.program_lines.specs.declared.Line.{Line}
 use Rattle.program_lines.specs.declared.Line.TheVariants as line
 
-unfoldable pub same : List ℕ → List ℕ → Bool
-same [] [] = true
-same [] (y ∷ t) = false
-same (x ∷ s) [] = false
-same (x ∷ s) (y ∷ t) = eqb x y && same s t
+abbrev pub same : List ℕ → List ℕ → Bool
+same s t = pointwise nat_eq s t
 
 -- pass, set, choose, run, clear, order
 unfoldable pub last_command_of : List ℕ → Command
@@ -156,20 +153,16 @@ numbers_read [] = []
 numbers_read (w ∷ ws) = list_of (arguments_of (command_of w) ws)
 
 -- ---- a line of bytes: a byte that no line may hold, or what its words say
-abbrev pub line_unless : Stray → List (List ℕ) → Line
-line_unless stray.Nothing ws = line_of ws
-line_unless stray.ByteOrderMark ws = line.Wrong reason.ByteOrderMark
-line_unless stray.Nul ws = line.Wrong reason.Nul
-line_unless stray.Return ws = line.Wrong reason.Return
+abbrev pub line_unless : Option Stray → List (List ℕ) → Line
+line_unless None ws = line_of ws
+line_unless (Some s) ws = line.Wrong (reason_of_stray s)
 
 abbrev pub line_in : List ℕ → Line
 line_in s = line_unless (stray_in s) (words (text_of s))
 
-abbrev pub numbers_unless : Stray → List (List ℕ) → List ℕ
-numbers_unless stray.Nothing ws = numbers_read ws
-numbers_unless stray.ByteOrderMark ws = []
-numbers_unless stray.Nul ws = []
-numbers_unless stray.Return ws = []
+abbrev pub numbers_unless : Option Stray → List (List ℕ) → List ℕ
+numbers_unless None ws = numbers_read ws
+numbers_unless (Some s) ws = []
 
 abbrev pub line_numbers : List ℕ → List ℕ
 line_numbers s = numbers_unless (stray_in s) (words (text_of s))

@@ -3,13 +3,11 @@
 
 ghost use Rattle.std.specs.Prelude.{◌≡◌, ◌≤◌, length, drop};
 ghost use Rattle.program_words.specs.Words.{text_of, words};
-ghost use Rattle.program_lines.specs.Line.{command_of, least_of, most_of, arguments_of, list_of, Holds, line_by, line_with, line_of, numbers_read, line_in, line_numbers};
-ghost use Rattle.program_lines.specs.Serving.{name_of};
+ghost use Rattle.program_lines.specs.Line.{last_command_of, answer_command_of, later_command_of, command_of, least_of, most_of, arguments_of, list_of, Holds, line_by, line_with, line_of, numbers_read, line_in, line_numbers};
 
-use program_arguments::{Command, Count, Reason};
-use program_words::{Stray, Word};
+use program_arguments::{Command, Reason};
 
-#[derive(Clone, Copy)]
+#[derive(Clone, Copy, Debug, PartialEq, Eq)]
 pub enum Line {
     Nothing,
     Capabilities(u32),
@@ -70,68 +68,96 @@ pub enum Line {
     Wrong(Reason),
 }
 
-// A word as one number, its first byte lowest and a 1 above its last, so that one match finds a command; 0 for more than seven bytes.
-fn name_of(word: &[u8]) -> u64
-    ensures { result ≡ name_of word.now }
+// pass, set, choose, run, clear and order.
+#[tactic(auto, unfolding(crate::specs::Line::last_command_of))]
+fn last_command_of(word: &[u8]) -> Command
+    ensures { result ≡ last_command_of word.now }
 {
-    let mut i = word.len();
-    if i > 7 {
-        return 0;
+    if word == b"pass".as_slice() {
+        return Command::Pass;
     }
-    let mut name: u64 = 1;
-    while i > 0 {
-        i -= 1;
-        name = word[i] as u64 + name * 256;
+    if word == b"set".as_slice() {
+        return Command::SetRange;
     }
-    name
+    if word == b"choose".as_slice() {
+        return Command::Choose;
+    }
+    if word == b"run".as_slice() {
+        return Command::Run;
+    }
+    if word == b"clear".as_slice() {
+        return Command::Clear;
+    }
+    if word == b"order".as_slice() {
+        return Command::Order;
+    }
+    Command::Unknown
 }
 
+// range, place, short, report, plain, and those above.
+#[tactic(auto, unfolding(crate::specs::Line::answer_command_of))]
+fn answer_command_of(word: &[u8]) -> Command
+    ensures { result ≡ answer_command_of word.now }
+{
+    if word == b"range".as_slice() {
+        return Command::Range;
+    }
+    if word == b"place".as_slice() {
+        return Command::Place;
+    }
+    if word == b"short".as_slice() {
+        return Command::Short;
+    }
+    if word == b"report".as_slice() {
+        return Command::Report;
+    }
+    if word == b"plain".as_slice() {
+        return Command::Plain;
+    }
+    last_command_of(word)
+}
+
+// layout, judge, check, members, slots, and those above.
+#[tactic(auto, unfolding(crate::specs::Line::later_command_of))]
+fn later_command_of(word: &[u8]) -> Command
+    ensures { result ≡ later_command_of word.now }
+{
+    if word == b"layout".as_slice() {
+        return Command::Layout;
+    }
+    if word == b"judge".as_slice() {
+        return Command::Judge;
+    }
+    if word == b"check".as_slice() {
+        return Command::Check;
+    }
+    if word == b"members".as_slice() {
+        return Command::Members;
+    }
+    if word == b"slots".as_slice() {
+        return Command::Slots;
+    }
+    answer_command_of(word)
+}
+
+/// The command that a word is, by its bytes.
+#[tactic(auto, unfolding(crate::specs::Line::command_of))]
 pub fn command_of(word: &[u8]) -> Command
     ensures { result ≡ command_of word.now }
 {
-    match name_of(word) {
-        // caps
-        0x173706163 => Command::Capabilities,
-        // rule
-        0x1656c7572 => Command::Rule,
-        // type
-        0x165707974 => Command::TypeRecord,
-        // member
-        0x17265626d656d => Command::MemberRecord,
-        // layout
-        0x174756f79616c => Command::Layout,
-        // judge
-        0x1656764756a => Command::Judge,
-        // check
-        0x16b63656863 => Command::Check,
-        // members
-        0x1737265626d656d => Command::Members,
-        // slots
-        0x173746f6c73 => Command::Slots,
-        // range
-        0x165676e6172 => Command::Range,
-        // place
-        0x16563616c70 => Command::Place,
-        // short
-        0x174726f6873 => Command::Short,
-        // report
-        0x174726f706572 => Command::Report,
-        // plain
-        0x16e69616c70 => Command::Plain,
-        // pass
-        0x173736170 => Command::Pass,
-        // set
-        0x1746573 => Command::SetRange,
-        // choose
-        0x165736f6f6863 => Command::Choose,
-        // run
-        0x16e7572 => Command::Run,
-        // clear
-        0x17261656c63 => Command::Clear,
-        // order
-        0x1726564726f => Command::Order,
-        _ => Command::Unknown,
+    if word == b"caps".as_slice() {
+        return Command::Capabilities;
     }
+    if word == b"rule".as_slice() {
+        return Command::Rule;
+    }
+    if word == b"type".as_slice() {
+        return Command::TypeRecord;
+    }
+    if word == b"member".as_slice() {
+        return Command::MemberRecord;
+    }
+    later_command_of(word)
 }
 
 // The fewest and the most numbers that a command takes. No count of numbers is right after a word that is no command.
@@ -239,16 +265,14 @@ fn read_command(s: &[u8], at: usize, command: Command, numbers: &mut [u32]) -> L
     ensures holds { Holds numbers.new (list_of (arguments_of command (words (drop at s.now)))) }
 {
     let usage = usage_of(command);
-    let least = usage.least;
     match program_arguments::read_numbers(s, at, command, usage.most, numbers) {
-        Count::Numbers(count) => {
-            if count < least {
+        Ok(count) => {
+            if count < usage.least {
                 return Line::Wrong(Reason::Usage(command));
             }
-            let n = count as usize;
-            line_by(command, &numbers[..n])
+            line_by(command, &numbers[..count as usize])
         }
-        Count::Wrong(reason) => Line::Wrong(reason),
+        Err(reason) => Line::Wrong(reason),
     }
 }
 
@@ -260,24 +284,22 @@ fn read_words(line: &[u8], numbers: &mut [u32]) -> Line
 {
     let s = program_words::text_of(line);
     match program_words::next_word(s, 0) {
-        Word::End => Line::Nothing,
-        Word::Found { start, end } => {
-            let command = command_of(&s[start..end]);
-            read_command(s, end, command, numbers)
+        None => Line::Nothing,
+        Some(word) => {
+            let command = command_of(&s[word.start..word.end]);
+            read_command(s, word.end, command, numbers)
         }
     }
 }
 
-// What a line says. Its numbers are left in the lent words.
+/// What a line says. Its numbers are left in the lent words.
 pub fn read_line(line: &[u8], numbers: &mut [u32]) -> Line
     requires { 1025 ≤ length numbers.old }
     ensures value { result ≡ line_in line.now }
     ensures holds { Holds numbers.new (line_numbers line.now) }
 {
     match program_words::stray_in(line) {
-        Stray::Nothing => read_words(line, numbers),
-        Stray::ByteOrderMark => Line::Wrong(Reason::ByteOrderMark),
-        Stray::Nul => Line::Wrong(Reason::Nul),
-        Stray::Return => Line::Wrong(Reason::Return),
+        None => read_words(line, numbers),
+        Some(stray) => Line::Wrong(Reason::from(stray)),
     }
 }

@@ -4,11 +4,13 @@
 
 ghost use Rattle.std.specs.Prelude.{◌≡◌, false, [], ◌∷◌, ◌++◌, ◌≤◌, ◌<◌, ◌-◌, ◌+◌, ◌*◌, length, take, drop, eqb};
 ghost use Rattle.ir_records.specs.Result.{pick};
+ghost use Rattle.ir_records.specs.Refusal.{number_of, outcome_of};
+ghost use Rattle.immediates_ranges.specs.Slots.{slots_answer_of};
 ghost use Rattle.program_output.specs.Bytes.{Puts, ascii, line_at, joined, decimal, number, named, numbers, newline, words_line, row_line, row_lines, report_line, report_lines};
 ghost use Rattle.program_output.specs.Answers.{refusal_line, outcome_lines, slots_line, place_line, totals_lines, step_line, dispatch_lines, reasons, usage_line, word_part, numbered_line, stop_line};
 
-use immediates_ranges::SlotsAnswer;
-use ir_records::Outcome;
+use immediates_ranges::Slots;
+use ir_records::Refusal;
 
 // A reference to an array of a known length is proved sooner than one to a slice.
 // There is room for every answer: 1,048,576 bytes of a WGSL text, which may be one token, and what is said of it.
@@ -18,7 +20,7 @@ const STDOUT: i32 = 1;
 
 const STDERR: i32 = 2;
 
-const NEWLINE: u8 = 10;
+const NEWLINE: u8 = b'\n';
 
 // Writes out what waits; false where that fails, or where there was no room for all of it.
 // A program has no exit status, so a failed write is told where the answers do not go.
@@ -56,10 +58,8 @@ pub fn put_text(out: &mut Buffer, at: usize, text: &[u8]) -> usize
     ensures { Puts out.old at text.now out.new result }
 {
     let mut end = at;
-    let mut i = 0;
-    while i < text.len() {
-        end = put_byte(out, end, text[i]);
-        i += 1;
+    for b in text {
+        end = put_byte(out, end, *b);
     }
     end
 }
@@ -94,10 +94,8 @@ fn put_numbers(out: &mut Buffer, at: usize, words: &[u32]) -> usize
     ensures { Puts out.old at (numbers words.now) out.new result }
 {
     let mut end = at;
-    let mut i = 0;
-    while i < words.len() {
-        end = put_number(out, end, ir_records::word_at(words, i) as u64);
-        i += 1;
+    for word in words {
+        end = put_number(out, end, u64::from(*word));
     }
     end
 }
@@ -129,25 +127,22 @@ fn put_rows(out: &mut Buffer, at: usize, rows: &[u32]) -> usize
 {
     let n = rows.len() / ir_records::ROW_WORDS;
     let mut end = at;
-    let mut i = 0;
-    while i < n {
+    for i in 0..n {
         end = put_row(out, end, rows, i);
-        i += 1;
     }
     end
 }
 
-pub fn put_refusal(
-    out: &mut Buffer,
-    at: usize,
-    number: u32,
-    ty: u32,
-    member: u32,
-    detail: u32,
-) -> usize
-    ensures { Puts out.old at (refusal_line number ty member detail) out.new result }
+pub fn put_refusal(out: &mut Buffer, at: usize, refusal: Refusal) -> usize
+    ensures { Puts out.old at (refusal_line (number_of refusal.fault) refusal.ty refusal.member refusal.detail) out.new result }
 {
-    put_words(out, at, b"refused", &[number, ty, member, detail])
+    let number = u32::from(refusal.fault);
+    put_words(
+        out,
+        at,
+        b"refused",
+        &[number, refusal.ty, refusal.member, refusal.detail],
+    )
 }
 
 pub fn put_members(out: &mut Buffer, at: usize, words: &[u32]) -> usize
@@ -157,20 +152,15 @@ pub fn put_members(out: &mut Buffer, at: usize, words: &[u32]) -> usize
 }
 
 // The answer over an arena, with the rows of the types.
-pub fn put_outcome(out: &mut Buffer, at: usize, outcome: Outcome, rows: &[u32]) -> usize
-    ensures { Puts out.old at (outcome_lines outcome rows.now) out.new result }
+pub fn put_outcome(out: &mut Buffer, at: usize, outcome: Result<(), Refusal>, rows: &[u32]) -> usize
+    ensures { Puts out.old at (outcome_lines (outcome_of outcome) rows.now) out.new result }
 {
     match outcome {
-        Outcome::Accepted => {
+        Ok(()) => {
             let end = put_text(out, at, b"ok\n");
             put_rows(out, end, rows)
         }
-        Outcome::Refused {
-            number,
-            ty,
-            member,
-            detail,
-        } => put_refusal(out, at, number, ty, member, detail),
+        Err(refusal) => put_refusal(out, at, refusal),
     }
 }
 
@@ -183,17 +173,12 @@ fn put_two(out: &mut Buffer, at: usize, name: &[u8], n: u64, m: u64) -> usize
     put_byte(out, b, NEWLINE)
 }
 
-pub fn put_slots(out: &mut Buffer, at: usize, answer: SlotsAnswer) -> usize
-    ensures { Puts out.old at (slots_line answer) out.new result }
+pub fn put_slots(out: &mut Buffer, at: usize, answer: Result<Slots, Refusal>) -> usize
+    ensures { Puts out.old at (slots_line (slots_answer_of answer)) out.new result }
 {
     match answer {
-        SlotsAnswer::Slots { touched, partly } => put_two(out, at, b"slots", touched, partly),
-        SlotsAnswer::Refused {
-            number,
-            ty,
-            member,
-            detail,
-        } => put_refusal(out, at, number, ty, member, detail),
+        Ok(slots) => put_two(out, at, b"slots", slots.touched, slots.partly),
+        Err(refusal) => put_refusal(out, at, refusal),
     }
 }
 
@@ -222,10 +207,8 @@ fn put_report_lines(out: &mut Buffer, at: usize, report: &[u64]) -> usize
 {
     let n = report.len() / 2;
     let mut end = at;
-    let mut i = 0;
-    while i < n {
+    for i in 0..n {
         end = put_counts(out, end, report, i);
-        i += 1;
     }
     end
 }
@@ -260,33 +243,34 @@ fn put_one(out: &mut Buffer, at: usize, name: &[u8], n: u64) -> usize
 }
 
 // The slots after a step of a pass that was accepted.
-pub fn put_step(out: &mut Buffer, at: usize, name: &[u8], mask: u64, outcome: Outcome) -> usize
-    ensures { Puts out.old at (step_line name.now mask outcome) out.new result }
+pub fn put_step(
+    out: &mut Buffer,
+    at: usize,
+    name: &[u8],
+    mask: u64,
+    outcome: Result<(), Refusal>,
+) -> usize
+    ensures { Puts out.old at (step_line name.now mask (outcome_of outcome)) out.new result }
 {
     match outcome {
-        Outcome::Accepted => put_one(out, at, name, mask),
-        Outcome::Refused {
-            number,
-            ty,
-            member,
-            detail,
-        } => put_refusal(out, at, number, ty, member, detail),
+        Ok(()) => put_one(out, at, name, mask),
+        Err(refusal) => put_refusal(out, at, refusal),
     }
 }
 
 // Whether a dispatch passes, and the slots that are missing where it does not.
-pub fn put_dispatch(out: &mut Buffer, at: usize, outcome: Outcome, missing: u64) -> usize
-    ensures { Puts out.old at (dispatch_lines outcome missing) out.new result }
+pub fn put_dispatch(
+    out: &mut Buffer,
+    at: usize,
+    outcome: Result<(), Refusal>,
+    missing: u64,
+) -> usize
+    ensures { Puts out.old at (dispatch_lines (outcome_of outcome) missing) out.new result }
 {
     match outcome {
-        Outcome::Accepted => put_text(out, at, b"passes\n"),
-        Outcome::Refused {
-            number,
-            ty,
-            member,
-            detail,
-        } => {
-            let end = put_refusal(out, at, number, ty, member, detail);
+        Ok(()) => put_text(out, at, b"passes\n"),
+        Err(refusal) => {
+            let end = put_refusal(out, at, refusal);
             put_one(out, end, b"missing", missing)
         }
     }
@@ -341,7 +325,7 @@ fn lines_left(left: u32, b: u8) -> u32
     ensures { result ≡ pick (eqb b 10) (left - 1) left }
 {
     if b == NEWLINE {
-        if left > 0 { left - 1 } else { 0 }
+        left.saturating_sub(1)
     } else {
         left
     }
@@ -352,15 +336,13 @@ fn line_start(text: &[u8], k: u32) -> usize
     ensures { (result ≤ length text.now) × (line_at k text.now ≡ line_at 0 (drop result text.now)) }
 {
     let mut left = k;
-    let mut i = 0;
-    while i < text.len() {
+    for i in 0..text.len() {
         if left == 0 {
             return i;
         }
         left = lines_left(left, text[i]);
-        i += 1;
     }
-    i
+    text.len()
 }
 
 // The end of the line that starts at `start`, after its newline.
@@ -368,14 +350,12 @@ fn line_end(text: &[u8], start: usize) -> usize
     requires { start ≤ length text.now }
     ensures { (start ≤ result) × (result ≤ length text.now) × (line_at 0 (drop start text.now) ≡ take (result - start) (drop start text.now)) }
 {
-    let mut i = start;
-    while i < text.len() {
+    for i in start..text.len() {
         if text[i] == NEWLINE {
             return i + 1;
         }
-        i += 1;
     }
-    i
+    text.len()
 }
 
 // A line of a text, with its end. Its lines are numbered from `first` on.

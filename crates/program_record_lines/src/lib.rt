@@ -35,10 +35,8 @@ fn put_types(out: &mut Buffer, at: usize, types: &[u32], n: u32) -> usize
     ensures { Puts out.old at (joined (type_line types.now) n) out.new result }
 {
     let mut end = at;
-    let mut i: u32 = 0;
-    while i < n {
+    for i in 0..n {
         end = put_type(out, end, types, i);
-        i += 1;
     }
     end
 }
@@ -48,10 +46,8 @@ fn put_members(out: &mut Buffer, at: usize, members: &[u32], n: u32) -> usize
     ensures { Puts out.old at (joined (member_line members.now) n) out.new result }
 {
     let mut end = at;
-    let mut i: u32 = 0;
-    while i < n {
+    for i in 0..n {
         end = put_member(out, end, members, i);
-        i += 1;
     }
     end
 }

@@ -2,17 +2,20 @@
 ghost use Rattle.std.specs.Prelude.{◌≡◌, length};
 
 use immediates_pass::Tried;
-use ir_records::Outcome;
-use order_call::OrderAnswer;
-use place_lookup::PlaceAnswer;
-use place_report::ReportAnswer;
-use proc_plain_types::PlainAnswer;
+use ir_records::Refusal;
+use place_descent::Place;
 use program_commands::{Arena, Rows, Session};
 use program_lines::Line;
 use program_output::Buffer;
 use valid_type_info::UniformRule;
 
-fn put_rows(out: &mut Buffer, at: usize, outcome: Outcome, types: &[u32], rows: &Rows) -> usize {
+fn put_rows(
+    out: &mut Buffer,
+    at: usize,
+    outcome: Result<(), Refusal>,
+    types: &[u32],
+    rows: &Rows,
+) -> usize {
     let end = ir_records::type_count(types) * ir_records::ROW_WORDS;
     program_output::put_outcome(out, at, outcome, program_commands::part(rows, 0, end))
 }
@@ -77,6 +80,13 @@ fn put_slots(
     program_output::put_slots(out, at, answer)
 }
 
+fn put_found(out: &mut Buffer, at: usize, found: Result<Place, Refusal>) -> usize {
+    match found {
+        Ok(place) => program_output::put_place(out, at, place.byte, place.leaf),
+        Err(refusal) => program_output::put_refusal(out, at, refusal),
+    }
+}
+
 fn put_place(
     out: &mut Buffer,
     at: usize,
@@ -88,15 +98,8 @@ fn put_place(
     start: u32,
     steps: &[u32],
 ) -> usize {
-    match place_lookup::lookup(types, members, capabilities, rule, rows, start, steps) {
-        PlaceAnswer::Found { byte, leaf } => program_output::put_place(out, at, byte, leaf),
-        PlaceAnswer::Refused {
-            number,
-            ty,
-            member,
-            detail,
-        } => program_output::put_refusal(out, at, number, ty, member, detail),
-    }
+    let found = place_lookup::lookup(types, members, capabilities, rule, rows, start, steps);
+    put_found(out, at, found)
 }
 
 // The same by three words for each type; they take the first words of the rows.
@@ -110,23 +113,13 @@ fn put_short(
     start: u32,
     steps: &[u32],
 ) -> usize {
-    match place_short::lookup(types, members, capabilities, rows, start, steps) {
-        PlaceAnswer::Found { byte, leaf } => program_output::put_place(out, at, byte, leaf),
-        PlaceAnswer::Refused {
-            number,
-            ty,
-            member,
-            detail,
-        } => program_output::put_refusal(out, at, number, ty, member, detail),
-    }
+    let found = place_short::lookup(types, members, capabilities, rows, start, steps);
+    put_found(out, at, found)
 }
 
 // The first words of a report.
 fn first_words(report: &[u64], count: usize) -> &[u64] {
-    if report.len() < count {
-        return &report[..0];
-    }
-    &report[0..count]
+    report.get(..count).unwrap_or(&[])
 }
 
 fn put_report(
@@ -140,32 +133,18 @@ fn put_report(
 ) -> usize {
     let mut words = [0u64; 2048];
     match place_report::report(types, members, capabilities, rule, rows, &mut words) {
-        ReportAnswer::Totals { carried, wasted } => {
+        Ok(totals) => {
             let own = first_words(&words, ir_records::type_count(types) * 2);
-            program_output::put_report(out, at, carried, wasted, own)
+            program_output::put_report(out, at, totals.carried, totals.wasted, own)
         }
-        ReportAnswer::Refused {
-            number,
-            ty,
-            member,
-            detail,
-        } => program_output::put_refusal(out, at, number, ty, member, detail),
+        Err(refusal) => program_output::put_refusal(out, at, refusal),
     }
 }
 
 fn put_plain(out: &mut Buffer, at: usize, shape: u32, width: u32) -> usize {
     match proc_plain_types::plain(shape, width) {
-        PlainAnswer::Found {
-            size,
-            alignment,
-            step,
-        } => program_output::put_plain(out, at, size, alignment, step),
-        PlainAnswer::Refused {
-            number,
-            ty,
-            member,
-            detail,
-        } => program_output::put_refusal(out, at, number, ty, member, detail),
+        Ok(plain) => program_output::put_plain(out, at, plain.size, plain.alignment, plain.step),
+        Err(refusal) => program_output::put_refusal(out, at, refusal),
     }
 }
 
@@ -307,11 +286,7 @@ fn put_order(
         span,
     );
     match made {
-        OrderAnswer::Found {
-            ty: _,
-            span: _,
-            order: _,
-        } => {
+        Ok(_) => {
             let words = order_words::found_words(given.len(), made);
             s.waiting = program_output::put_order(
                 out,
@@ -321,13 +296,8 @@ fn put_order(
             order_struct::put(arena, program_commands::MEMBERS_AT, &members, 16384);
             program_commands::held(s, n, m, given.len())
         }
-        OrderAnswer::Refused {
-            number,
-            ty,
-            member,
-            detail,
-        } => {
-            s.waiting = program_output::put_refusal(out, s.waiting, number, ty, member, detail);
+        Err(refusal) => {
+            s.waiting = program_output::put_refusal(out, s.waiting, refusal);
             s
         }
     }
@@ -361,11 +331,9 @@ pub fn answer(
     let read = program_lines::read_line(line, &mut numbers);
     s = program_commands::change(read, s, arena);
     let tried = step_of(read, s, arena, rows);
-    let pass = tried.pass;
-    s.pass = pass;
+    s.pass = tried.pass;
     s.waiting = put_step(read, tried, s.waiting, out);
-    let waiting = put_answer(read, &numbers, s, arena, rows, out);
-    s.waiting = waiting;
+    s.waiting = put_answer(read, &numbers, s, arena, rows, out);
     match read {
         Line::Order { span, given } => put_order(
             program_commands::part(&numbers, 1, given as usize + 1),

@@ -21,6 +21,7 @@ fn answer_lines(
 {
     let mut at: usize = 0;
     let mut end = program_words::run_end(input, at, program_words::Class::Line);
+    // Kept: a step is as long as a line, and the bytes after the last one stay, so no range counts it.
     while end < input.len() {
         s = answer::answer(&input[at..end], s, arena, rows, out);
         if s.why > program_input::ENDED {

@@ -1,7 +1,6 @@
 -- Digits and decimal numbers, byte by byte.
 -- Assumes nothing.
 use mathlib.Core.Path.{◌≡◌}
-use mathlib.Core.Bool.{true, false}
 use mathlib.Core.List.{List, [], ◌∷◌}
 use Prim.Native.Nat.{ℕ, ◌+◌, ◌-◌, ◌*◌, ◌≤◌, ◌<◌, min}
 use native.Mathlib.Numerals.{add-one}
@@ -9,21 +8,9 @@ use native.Mathlib.Omega.{arith}
 use native.Mathlib.Decide.{dec_le}
 use lib.ListN.{length, get_or, drop, drop_of_length-le}
 use lib.Seq.{drop-cons}
-use Rattle.program_words.specs.Number.{is_digit, all_digits, decimal}
+use Rattle.program_words.specs.Number.{decimal}
 
 module _ (s : List ℕ) (i : ℕ) where
-  pub digits_more : i < length s → is_digit (get_or s i 0) ≡ true → all_digits (drop i s) ≡ all_digits (drop (i + 1) s)
-  unfolding all_digits
-  digits_more h e = rw (add-one, drop-cons s i 0 h, e)
-
-  pub digits_stop : i < length s → is_digit (get_or s i 0) ≡ false → all_digits (drop i s) ≡ false
-  unfolding all_digits
-  digits_stop h e = rw (drop-cons s i 0 h, e)
-
-  pub digits_done : length s ≤ i → all_digits (drop i s) ≡ true
-  unfolding all_digits
-  digits_done h = rw (drop_of_length-le s h)
-
   pub decimal_more : (n : ℕ) → i < length s → decimal n (drop i s) ≡ decimal (n * 10 + (get_or s i 0 - 48)) (drop (i + 1) s)
   unfolding decimal
   decimal_more n h = rw (add-one, drop-cons s i 0 h)

@@ -1,15 +1,15 @@
 -- The number that a word is: decimal, at most 4294967295.
 -- Assumes nothing.
-use Rattle.std.specs.Prelude.{Bool, true, cond, ◌&&◌, List, [], ◌∷◌, ℕ, ◌+◌, ◌-◌, ◌*◌, leb, ltb, length}
-use Rattle.program_words.specs.declared.Number.{Number}
-use Rattle.program_words.specs.declared.Number.TheVariants.{Value, NotANumber, TooLarge}
+use Rattle.std.specs.Prelude.{Bool, cond, ◌&&◌, List, [], ◌∷◌, ℕ, ◌+◌, ◌-◌, ◌*◌, leb, ltb, length, Result, Ok, Err}
+use Rattle.std.specs.List.{list_all}
+use Rattle.program_words.specs.declared.NumberError.{NumberError}
+use Rattle.program_words.specs.declared.NumberError.TheVariants.{NotANumber, TooLarge}
 
 abbrev pub is_digit : ℕ → Bool
 is_digit b = leb 48 b && leb b 57
 
 unfoldable pub all_digits : List ℕ → Bool
-all_digits [] = true
-all_digits (b ∷ s) = is_digit b && all_digits s
+all_digits s = list_all is_digit s
 
 -- n followed by the digits of s
 unfoldable pub decimal : ℕ → List ℕ → ℕ
@@ -19,8 +19,8 @@ decimal n (b ∷ s) = decimal (n * 10 + (b - 48)) s
 abbrev pub largest : ℕ
 largest = 4294967295
 
-unfoldable pub number_of : List ℕ → Number
+unfoldable pub number_of : List ℕ → Result ℕ NumberError
 number_of w =
     cond (ltb 0 (length w) && all_digits w)
-    (cond (leb (decimal 0 w) largest) (Value (decimal 0 w)) TooLarge)
-    NotANumber
+    (cond (leb (decimal 0 w) largest) (Ok (decimal 0 w)) (Err TooLarge))
+    (Err NotANumber)

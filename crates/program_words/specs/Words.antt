@@ -1,9 +1,9 @@
 -- The words of a line: what stands before its comment, split at blanks.
 -- Assumes nothing.
-use Rattle.std.specs.Prelude.{◌≡◌, Bool, true, false, cond, not, ◌||◌, List, [], ◌∷◌, ℕ, zero, suc, ◌-◌, ◌≤◌, ◌<◌, eqb, length, get_or, take, drop}
+use Rattle.std.specs.Prelude.{◌≡◌, Bool, cond, not, ◌||◌, List, [], ◌∷◌, ℕ, zero, suc, ◌-◌, ◌≤◌, ◌<◌, eqb, length, get_or, take, drop, Option, None, Some}
 use Rattle.program_words.specs.declared.Class.{Class}
 use Rattle.program_words.specs.declared.Class.TheVariants.{Blank, Word, Text, Line}
-use Rattle.program_words.specs.declared.Word as Next
+use Rattle.program_words.specs.declared.Span.{Span}
 
 -- a space or a tab
 abbrev pub is_blank : ℕ → Bool
@@ -54,7 +54,7 @@ abbrev pub part : List ℕ → ℕ → ℕ → List ℕ
 part s a e = take (e - a) (drop a s)
 
 -- the answer is the first word from `at` on, and the others follow it
-abbrev pub WordAt : List ℕ → ℕ → Next.Word → Type 0
-WordAt s at Next.TheVariants.End = words (drop at s) ≡ []
-WordAt s at (Next.TheVariants.Found start end) =
-    (start < end) × (end ≤ length s) × (words (drop at s) ≡ part s start end ∷ words (drop end s))
+abbrev pub WordAt : List ℕ → ℕ → Option Span → Type 0
+WordAt s at None = words (drop at s) ≡ []
+WordAt s at (Some word) =
+    (word.start < word.end) × (word.end ≤ length s) × (words (drop at s) ≡ part s word.start word.end ∷ words (drop word.end s))

@@ -1,63 +1,47 @@
 // The words of a line, the number that a word is, and the bytes that no line may hold.
 #![tactic(auto)]
 
-ghost use Rattle.std.specs.Prelude.{◌≡◌, ◌+◌, ◌-◌, ◌≤◌, ◌<◌, min, ltb, length, get_or, drop};
+ghost use Rattle.std.specs.Prelude.{◌≡◌, ◌+◌, ◌≤◌, ◌<◌, min, ltb, length, get_or, drop};
 ghost use Rattle.program_words.specs.Words.{is_in, run_of, before_comment, text_of, WordAt};
 ghost use Rattle.program_words.specs.Number.{is_digit, all_digits, decimal, number_of};
 ghost use Rattle.program_words.specs.Stray.{is_mark, stray_of, stray_at, stray_in};
 
-// What a byte is looked at for.
-#[derive(Clone, Copy)]
+/// What a byte is looked at for.
+#[derive(Clone, Copy, Debug, PartialEq, Eq)]
 pub enum Class {
-    // A space or a tab.
+    /// A space or a tab.
     Blank,
-    // A byte of a word.
+    /// A byte of a word.
     Word,
-    // A byte before a comment.
+    /// A byte before a comment.
     Text,
-    // A byte before the end of a line.
+    /// A byte before the end of a line.
     Line,
 }
 
-// The next word of a text.
-#[derive(Clone, Copy)]
-pub enum Word {
-    End,
-    Found { start: usize, end: usize },
+/// Where a word stands in a text.
+#[derive(Clone, Copy, Debug, PartialEq, Eq)]
+pub struct Span {
+    pub start: usize,
+    pub end: usize,
 }
 
-#[derive(Clone, Copy)]
-pub enum Number {
-    Value(u32),
+/// Why a word is no number from 0 to 4294967295.
+#[derive(Clone, Copy, Debug, PartialEq, Eq)]
+pub enum NumberError {
     NotANumber,
     TooLarge,
 }
 
-// What no line may hold.
-#[derive(Clone, Copy)]
+/// What no line may hold.
+#[derive(Clone, Copy, Debug, PartialEq, Eq)]
 pub enum Stray {
-    Nothing,
     ByteOrderMark,
     Nul,
-    // A carriage return that is not the last byte.
+    /// A carriage return that is not the last byte.
     Return,
 }
 
-const SPACE: u8 = 32;
-
-const TAB: u8 = 9;
-
-const NUL: u8 = 0;
-
-const RETURN: u8 = 13;
-
-const NEWLINE: u8 = 10;
-
-const HASH: u8 = 35;
-
-const ZERO: u8 = 48;
-
-const NINE: u8 = 57;
 // One above the largest number.
 const ABOVE: u64 = 4294967296;
 
@@ -65,55 +49,48 @@ fn is_in(class: Class, b: u8) -> bool
     ensures { result ≡ is_in class b }
 {
     match class {
-        Class::Blank => (b == SPACE) | (b == TAB),
-        Class::Word => !((b == SPACE) | (b == TAB)),
-        Class::Text => !(b == HASH),
-        Class::Line => !(b == NEWLINE),
+        Class::Blank => (b == b' ') | (b == b'\t'),
+        Class::Word => !((b == b' ') | (b == b'\t')),
+        Class::Text => b != b'#',
+        Class::Line => b != b'\n',
     }
 }
 
-// Where the run of bytes of a class that starts at `at` ends.
+/// Where the run of bytes of a class that starts at `at` ends.
 pub fn run_end(s: &[u8], at: usize, class: Class) -> usize
     requires { at ≤ length s.now }
     ensures value { result ≡ at + run_of (is_in class) (drop at s.now) }
     ensures lower_bound { (at ≤ result) × (result ≤ length s.now) }
 {
-    let mut i = at;
-    while i < s.len() {
+    for i in at..s.len() {
         if !is_in(class, s[i]) {
             return i;
         }
-        i += 1;
     }
-    i
+    s.len()
 }
 
-// The next word from `at` on.
-pub fn next_word(s: &[u8], at: usize) -> Word
+/// The next word from `at` on.
+pub fn next_word(s: &[u8], at: usize) -> Option<Span>
     requires { at ≤ length s.now }
     ensures { WordAt s.now at result }
 {
     let start = run_end(s, at, Class::Blank);
     if start == s.len() {
-        return Word::End;
+        return None;
     }
     let end = run_end(s, start, Class::Word);
-    Word::Found { start, end }
+    Some(Span { start, end })
 }
 
-// A line without its comment, and without the carriage return that may stand before a newline.
+/// A line without its comment, and without the carriage return that may stand before a newline.
 pub fn text_of(line: &[u8]) -> &[u8]
     ensures { result.now ≡ text_of line.now }
 {
-    let n = line.len();
-    if n == 0 {
-        return before_comment(line);
+    match line.strip_suffix(b"\r") {
+        Some(front) => before_comment(front),
+        None => before_comment(line),
     }
-    let last = n - 1;
-    if line[last] == RETURN {
-        return before_comment(&line[..last]);
-    }
-    before_comment(line)
 }
 
 fn before_comment(line: &[u8]) -> &[u8]
@@ -126,32 +103,14 @@ fn before_comment(line: &[u8]) -> &[u8]
 fn is_digit(b: u8) -> bool
     ensures { result ≡ is_digit b }
 {
-    (ZERO <= b) & (b <= NINE)
+    b.is_ascii_digit()
 }
 
-fn digit_of(b: u8) -> u64
-    ensures { (result ≡ b - 48) × (result < 256) }
-{
-    if ZERO <= b { (b - ZERO) as u64 } else { 0 }
-}
-
+#[tactic(auto, unfolding(crate::specs::Number::all_digits))]
 fn all_digits(word: &[u8]) -> bool
     ensures { result ≡ all_digits word.now }
 {
-    let mut i = 0;
-    while i < word.len() {
-        if !is_digit(word[i]) {
-            return false;
-        }
-        i += 1;
-    }
-    true
-}
-
-fn least(a: u64, b: u64) -> u64
-    ensures { result ≡ min a b }
-{
-    if a < b { a } else { b }
+    word.iter().all(|b| is_digit(*b))
 }
 
 // A decimal number, cut down to ABOVE so that it fits however long the word is.
@@ -159,37 +118,35 @@ fn capped(word: &[u8]) -> u64
     ensures { result ≡ min (decimal 0 word.now) 4294967296 }
 {
     let mut n: u64 = 0;
-    let mut i = 0;
-    while i < word.len() {
-        let next = n * 10 + digit_of(word[i]);
-        n = least(next, ABOVE);
-        i += 1;
+    for b in word {
+        let next = n * 10 + u64::from(b.saturating_sub(b'0'));
+        n = next.min(ABOVE);
     }
     n
 }
 
-// The number that a word is.
-pub fn number_of(word: &[u8]) -> Number
+/// The number that a word is.
+pub fn number_of(word: &[u8]) -> Result<u32, NumberError>
     ensures { result ≡ number_of word.now }
 {
-    if word.len() == 0 {
-        return Number::NotANumber;
+    if word.is_empty() {
+        return Err(NumberError::NotANumber);
     }
     if !all_digits(word) {
-        return Number::NotANumber;
+        return Err(NumberError::NotANumber);
     }
     let n = capped(word);
     if n < ABOVE {
-        Number::Value(n as u32)
+        Ok(n as u32)
     } else {
-        Number::TooLarge
+        Err(NumberError::TooLarge)
     }
 }
 
 fn byte_at(s: &[u8], at: usize) -> u8
     ensures { result ≡ get_or s.now at 0 }
 {
-    if at < s.len() { s[at] } else { 0 }
+    s.get(at).copied().unwrap_or(0)
 }
 
 // A byte order mark, of UTF-8 or UTF-16.
@@ -202,22 +159,22 @@ fn is_mark(a: u8, b: u8, c: u8) -> bool
 }
 
 // What a byte is, by the two after it and whether it is not the last.
-fn stray_of(a: u8, b: u8, c: u8, more: bool) -> Stray
+fn stray_of(a: u8, b: u8, c: u8, more: bool) -> Option<Stray>
     ensures { result ≡ stray_of a b c more }
 {
-    if a == NUL {
-        return Stray::Nul;
+    if a == b'\0' {
+        return Some(Stray::Nul);
     }
-    if (a == RETURN) & more {
-        return Stray::Return;
+    if (a == b'\r') & more {
+        return Some(Stray::Return);
     }
     if is_mark(a, b, c) {
-        return Stray::ByteOrderMark;
+        return Some(Stray::ByteOrderMark);
     }
-    Stray::Nothing
+    None
 }
 
-fn stray_at(line: &[u8], i: usize) -> Stray
+fn stray_at(line: &[u8], i: usize) -> Option<Stray>
     requires { i < length line.now }
     ensures { result ≡ stray_at line.now i }
 {
@@ -226,25 +183,14 @@ fn stray_at(line: &[u8], i: usize) -> Stray
     stray_of(line[i], b, c, i + 1 < line.len())
 }
 
-// The first of a line's bytes that no line may hold.
-pub fn stray_in(line: &[u8]) -> Stray
+/// The first of a line's bytes that no line may hold.
+pub fn stray_in(line: &[u8]) -> Option<Stray>
     ensures { result ≡ stray_in line.now }
 {
-    let mut i = 0;
-    while i < line.len() {
-        match stray_at(line, i) {
-            Stray::Nothing => {}
-            Stray::ByteOrderMark => {
-                return Stray::ByteOrderMark;
-            }
-            Stray::Nul => {
-                return Stray::Nul;
-            }
-            Stray::Return => {
-                return Stray::Return;
-            }
+    for i in 0..line.len() {
+        if let Some(stray) = stray_at(line, i) {
+            return Some(stray);
         }
-        i += 1;
     }
-    Stray::Nothing
+    None
 }

@@ -3,12 +3,10 @@
 
 ghost use Rattle.std.specs.Prelude.{◌≡◌, length};
 
-use ir_records::Outcome;
-use program_output::Buffer;
 use sheet_lines::Form;
-use spirv_read::Section;
+use sheet_names::Named;
+use sheet_output::Writer;
 use valid_type_info::UniformRule;
-use wgsl_read::TextAt;
 
 // The form, the rule of uniform verdicts and the capability word.
 #[derive(Clone, Copy)]
@@ -30,137 +28,101 @@ fn front(words: &[u32], n: usize) -> &[u32] {
 }
 
 // The sheet of an accepted arena.
-fn put_sheet(
-    asked: Asked,
-    out: &mut Buffer,
-    at: usize,
-    text: &[u8],
-    names: &[usize],
-    types: &[u32],
-    members: &[u32],
-    rows: &mut [u32],
-) -> usize {
+fn put_sheet(asked: Asked, out: &mut Writer, named: Named, members: &[u32], rows: &mut [u32]) {
     let mut counts = [0u64; 4096];
-    let form = asked.form;
-    let rule = asked.rule;
-    sheet_counts::fill(types, members, asked.capabilities, rule, rows, &mut counts);
-    sheet_structs::put_all(form, out, at, text, names, types, members, rows, &counts)
+    sheet_counts::fill(
+        named.types,
+        members,
+        asked.capabilities,
+        asked.rule,
+        rows,
+        &mut counts,
+    );
+    sheet_structs::put_all(asked.form, out, named, members, rows, &counts);
 }
 
 // The records of a text.
-fn answer_records(
-    asked: Asked,
-    out: &mut Buffer,
-    at: usize,
-    text: &[u8],
-    types: &[u32],
-    members: &[u32],
-) -> usize {
+fn answer_records(asked: Asked, out: &mut Writer, text: &[u8], types: &[u32], members: &[u32]) {
     let mut names = [0usize; 10240];
     let mut rows = [0u32; 14336];
     sheet_names::from_text(text, types, &mut names);
-    let rule = asked.rule;
-    match valid_arena::judge(types, members, asked.capabilities, rule, &mut rows) {
-        Outcome::Accepted => put_sheet(asked, out, at, text, &names, types, members, &mut rows),
-        Outcome::Refused {
-            number,
-            ty,
-            member,
-            detail,
-        } => sheet_refusals::put_text_arena(
-            out, at, text, &names, types, members, number, ty, member, detail,
-        ),
+    let named = Named {
+        text,
+        names: &names,
+        types,
+    };
+    match valid_arena::judge(types, members, asked.capabilities, asked.rule, &mut rows) {
+        Ok(()) => put_sheet(asked, out, named, members, &mut rows),
+        Err(refusal) => sheet_refusals::put_text_arena(out, named, members, refusal),
     }
 }
 
-fn answer_text(asked: Asked, out: &mut Buffer, at: usize, text: &[u8]) -> usize {
+fn answer_text(asked: Asked, out: &mut Writer, text: &[u8]) {
     let mut types = [0u32; 6144];
     let mut members = [0u32; 16384];
     match wgsl_read::read_at(text, &mut types, &mut members) {
-        TextAt::Records {
-            types: t,
-            members: m,
-        } => {
-            let type_words = (t as usize) * ir_records::TYPE_WORDS;
-            let member_words = (m as usize) * ir_records::MEMBER_WORDS;
+        Ok(records) => {
+            let type_words = (records.types as usize) * ir_records::TYPE_WORDS;
+            let member_words = (records.members as usize) * ir_records::MEMBER_WORDS;
             answer_records(
                 asked,
                 out,
-                at,
                 text,
                 front(&types, type_words),
                 front(&members, member_words),
-            )
+            );
         }
-        TextAt::Refused(r) => sheet_refusals::put_text(out, at, text, r),
+        Err(refusal) => sheet_refusals::put_text(out, text, refusal),
     }
-}
-
-fn place_at(places: &[usize], i: u32) -> usize {
-    let at = i as usize;
-    if at < places.len() { places[at] } else { 0 }
 }
 
 // The records of a module.
 fn answer_section(
     asked: Asked,
-    out: &mut Buffer,
-    at: usize,
+    out: &mut Writer,
     bytes: &[u8],
     words: &[u32],
     types: &[u32],
     members: &[u32],
-) -> usize {
+) {
     let mut names = [0usize; 10240];
     let mut places = [0usize; 1024];
     let mut rows = [0u32; 14336];
     sheet_names::type_places(words, &mut places);
     sheet_names::from_module(words, bytes, types, &places, &mut names);
-    let rule = asked.rule;
-    match valid_arena::judge(types, members, asked.capabilities, rule, &mut rows) {
-        Outcome::Accepted => put_sheet(asked, out, at, bytes, &names, types, members, &mut rows),
-        Outcome::Refused {
-            number,
-            ty,
-            member,
-            detail,
-        } => {
-            let place = place_at(&places, ty);
-            sheet_refusals::put_module_arena(
-                out, at, bytes, &names, types, words, place, number, ty, member, detail,
-            )
+    let named = Named {
+        text: bytes,
+        names: &names,
+        types,
+    };
+    match valid_arena::judge(types, members, asked.capabilities, asked.rule, &mut rows) {
+        Ok(()) => put_sheet(asked, out, named, members, &mut rows),
+        Err(refusal) => {
+            let place = places.get(refusal.ty as usize).copied().unwrap_or(0);
+            sheet_refusals::put_module_arena(out, named, words, place, refusal);
         }
     }
 }
 
-fn answer_words(asked: Asked, out: &mut Buffer, at: usize, bytes: &[u8], words: &[u32]) -> usize {
+fn answer_words(asked: Asked, out: &mut Writer, bytes: &[u8], words: &[u32]) {
     let mut types = [0u32; 6144];
     let mut members = [0u32; 16384];
     match spirv_reader::read_module(words, &mut types, &mut members) {
-        Section::Read {
-            types: t,
-            members: m,
-        } => {
-            let type_words = (t as usize) * ir_records::TYPE_WORDS;
-            let member_words = (m as usize) * ir_records::MEMBER_WORDS;
+        Ok(records) => {
+            let type_words = (records.types as usize) * ir_records::TYPE_WORDS;
+            let member_words = (records.members as usize) * ir_records::MEMBER_WORDS;
             answer_section(
                 asked,
                 out,
-                at,
                 bytes,
                 words,
                 front(&types, type_words),
                 front(&members, member_words),
-            )
+            );
         }
-        Section::Refused { number } => sheet_refusals::put_module(
-            out,
-            at,
-            words,
-            &mut types,
-            &mut members,
-            number,
-        ),
+        Err(fault) => {
+            sheet_refusals::put_module(out, words, &mut types, &mut members, u32::from(fault));
+        }
     }
 }
 
@@ -184,35 +146,31 @@ fn no_words() -> [u32; 262144]
     [0; 262144]
 }
 
-fn answer_module(asked: Asked, out: &mut Buffer, at: usize, bytes: &[u8]) -> usize {
+fn answer_module(asked: Asked, out: &mut Writer, bytes: &[u8]) {
     let mut words = no_words();
     if bytes.len() % 4 != 0 {
         program_files::tell(b"sheet: the module is no whole number of words\n");
-        return at;
+        return;
     }
-    if words.len() < bytes.len() / 4 {
-        return at;
+    if bytes.len() / 4 <= words.len() {
+        let n = spirv_input::append(&mut words, 0, bytes);
+        answer_words(asked, out, bytes, front(&words, n));
     }
-    let n = spirv_input::append(&mut words, 0, bytes);
-    answer_words(asked, out, at, bytes, front(&words, n))
 }
 
-// What is printed of the bytes of a file with this name.
-pub fn answer(asked: Asked, name: &[u8], bytes: &[u8]) {
-    let mut out = [0u8; 1114112];
-    answer_into(asked, &mut out, name, bytes);
-}
-
-fn answer_bytes(asked: Asked, out: &mut Buffer, at: usize, bytes: &[u8]) -> usize {
+fn answer_bytes(asked: Asked, out: &mut Writer, bytes: &[u8]) {
     if is_module(bytes) {
-        return answer_module(asked, out, at, bytes);
+        answer_module(asked, out, bytes);
+    } else {
+        answer_text(asked, out, bytes);
     }
-    answer_text(asked, out, at, bytes)
 }
 
-fn answer_into(asked: Asked, out: &mut Buffer, name: &[u8], bytes: &[u8]) {
-    let form = asked.form;
-    let at = sheet_structs::put_start(form, out, 0, name);
-    let end = answer_bytes(asked, out, at, bytes);
-    program_output::flush(out, end);
+/// What is printed of the bytes of a file with this name.
+pub fn answer(asked: Asked, name: &[u8], bytes: &[u8]) {
+    let mut buffer = [0u8; 1114112];
+    let mut out = Writer::new(&mut buffer);
+    sheet_structs::put_start(asked.form, &mut out, name);
+    answer_bytes(asked, &mut out, bytes);
+    out.finish();
 }

@@ -7,33 +7,13 @@ ghost use Rattle.sheet_bytes.specs.Holder.{holds, holder_of};
 
 // One step from a type towards the byte: to a byte of a part of it; or, at the end of the way, whether a leaf holds the byte.
 #[derive(Clone, Copy)]
-struct Inside {
-    ends: bool,
-    held: bool,
-    ty: u32,
-    byte: u64,
+enum Inside {
+    Within { ty: u32, byte: u64 },
+    Leaf(bool),
 }
 
 // Types that stand in one another are fewer than this.
 const MOST_DEPTH: u32 = 1024;
-
-fn leaf(held: bool) -> Inside {
-    Inside {
-        ends: true,
-        held,
-        ty: 0,
-        byte: 0,
-    }
-}
-
-fn within(ty: u32, byte: u64) -> Inside {
-    Inside {
-        ends: false,
-        held: false,
-        ty,
-        byte,
-    }
-}
 
 // Whether member j of a struct's rows holds a byte of the struct.
 fn holds(part: &[u32], rows: &[u32], j: u32, byte: u64) -> bool
@@ -48,12 +28,10 @@ fn holds(part: &[u32], rows: &[u32], j: u32, byte: u64) -> bool
 fn holder_in(part: &[u32], rows: &[u32], count: u32, byte: u64) -> u32
     ensures { result ≡ holder_of part.now rows.now count byte }
 {
-    let mut j: u32 = 0;
-    while j < count {
+    for j in 0..count {
         if holds(part, rows, j, byte) {
             return j;
         }
-        j += 1;
     }
     count
 }
@@ -71,22 +49,25 @@ fn in_struct(types: &[u32], members: &[u32], rows: &[u32], t: u32, byte: u64) ->
     let count = ir_records::type_word(types, t, 2);
     let j = holder_in(part, rows, count, byte);
     if j == count {
-        return leaf(false);
+        return Inside::Leaf(false);
     }
     let offset = ir_records::member_offset(part, j) as u64;
-    within(
-        ir_records::member_type(part, j),
-        sheet_output::gap(offset, byte),
-    )
+    Inside::Within {
+        ty: ir_records::member_type(part, j),
+        byte: sheet_output::gap(offset, byte),
+    }
 }
 
 // The byte as one of an element.
 fn in_array(types: &[u32], t: u32, byte: u64) -> Inside {
     let stride = ir_records::type_word(types, t, 4) as u64;
     if stride == 0 {
-        return leaf(false);
+        return Inside::Leaf(false);
     }
-    within(ir_records::type_word(types, t, 1), byte % stride)
+    Inside::Within {
+        ty: ir_records::type_word(types, t, 1),
+        byte: byte % stride,
+    }
 }
 
 // The bytes of a column of 2, 3 or 4 rows.
@@ -104,11 +85,11 @@ fn column_bytes(rows: u32, width: u64) -> u64
 fn in_matrix(types: &[u32], t: u32, byte: u64) -> Inside {
     let step = sheet_types::column_step(types, t);
     if step == 0 {
-        return leaf(false);
+        return Inside::Leaf(false);
     }
     let rows = ir_records::type_word(types, t, 2);
     let width = ir_records::type_word(types, t, 4) as u64;
-    leaf(byte % step < column_bytes(rows, width))
+    Inside::Leaf(byte % step < column_bytes(rows, width))
 }
 
 fn step(types: &[u32], members: &[u32], rows: &[u32], t: u32, byte: u64) -> Inside {
@@ -116,7 +97,7 @@ fn step(types: &[u32], members: &[u32], rows: &[u32], t: u32, byte: u64) -> Insi
         2 => in_matrix(types, t, byte),
         7 => in_array(types, t, byte),
         8 => in_struct(types, members, rows, t, byte),
-        _ => leaf(byte < sheet_verdicts::row_word(rows, t, 0) as u64),
+        _ => Inside::Leaf(byte < sheet_verdicts::row_word(rows, t, 0) as u64),
     }
 }
 
@@ -124,15 +105,16 @@ fn step(types: &[u32], members: &[u32], rows: &[u32], t: u32, byte: u64) -> Insi
 pub fn in_leaf(types: &[u32], members: &[u32], rows: &[u32], ty: u32, byte: u64) -> bool {
     let mut t = ty;
     let mut b = byte;
-    let mut left = MOST_DEPTH;
-    while 0 < left {
-        left -= 1;
-        let inside = step(types, members, rows, t, b);
-        if inside.ends {
-            return inside.held;
+    for _ in 0..MOST_DEPTH {
+        match step(types, members, rows, t, b) {
+            Inside::Leaf(held) => {
+                return held;
+            }
+            Inside::Within { ty, byte } => {
+                t = ty;
+                b = byte;
+            }
         }
-        t = inside.ty;
-        b = inside.byte;
     }
     false
 }

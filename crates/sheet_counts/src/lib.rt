@@ -5,8 +5,9 @@
 ghost use Rattle.std.specs.Prelude.{◌≡◌, ◌+◌, ◌*◌, get_or};
 ghost use Rattle.sheet_counts.specs.Counts.{carried_in, wasted_in, is_counted};
 
-use immediates_ranges::SlotsAnswer;
-use program_output::Buffer;
+use immediates_ranges::Slots;
+use ir_records::Refusal;
+use sheet_output::Writer;
 use valid_type_info::UniformRule;
 
 const MOST_TYPES: u32 = 1024;
@@ -19,7 +20,7 @@ const MOST_IMMEDIATE: u32 = 256;
 fn count_word(counts: &[u64], at: usize) -> u64
     ensures { result ≡ get_or counts.now at 0 }
 {
-    if at < counts.len() { counts[at] } else { 0 }
+    counts.get(at).copied().unwrap_or(0)
 }
 
 fn put_word(counts: &mut [u64], at: usize, word: u64) {
@@ -28,34 +29,15 @@ fn put_word(counts: &mut [u64], at: usize, word: u64) {
     }
 }
 
-fn touched_of(answer: SlotsAnswer) -> u64 {
-    match answer {
-        SlotsAnswer::Slots { touched, partly: _ } => touched,
-        SlotsAnswer::Refused {
-            number: _,
-            ty: _,
-            member: _,
-            detail: _,
-        } => 0,
-    }
-}
-
-fn partly_of(answer: SlotsAnswer) -> u64 {
-    match answer {
-        SlotsAnswer::Slots { touched: _, partly } => partly,
-        SlotsAnswer::Refused {
-            number: _,
-            ty: _,
-            member: _,
-            detail: _,
-        } => 0,
-    }
-}
-
-fn put_answer(counts: &mut [u64], i: u32, answer: SlotsAnswer) {
+// The slots of type i; none where they are refused.
+fn put_answer(counts: &mut [u64], i: u32, answer: Result<Slots, Refusal>) {
     let at = SLOTS_AT + (i as usize) * 2;
-    put_word(counts, at, touched_of(answer));
-    put_word(counts, at + 1, partly_of(answer));
+    let slots = answer.unwrap_or(Slots {
+        touched: 0,
+        partly: 0,
+    });
+    put_word(counts, at, slots.touched);
+    put_word(counts, at + 1, slots.partly);
 }
 
 // Whether the slots of type i are asked for: of a struct that may be an immediate and is no longer than these are.
@@ -92,11 +74,10 @@ pub fn fill(
     rows: &mut [u32],
     counts: &mut [u64],
 ) {
-    place_report::report(types, members, capabilities, rule, rows, counts);
-    let mut i: u32 = 0;
-    while i < MOST_TYPES {
+    // Its totals are not asked for, and a refusal leaves zeros.
+    let _ = place_report::report(types, members, capabilities, rule, rows, counts);
+    for i in 0..MOST_TYPES {
         put_slots_of(types, members, capabilities, rule, rows, counts, i);
-        i += 1;
     }
 }
 
@@ -125,29 +106,32 @@ pub fn is_counted(rows: &[u32], counts: &[u64], i: u32) -> bool
 }
 
 // Why a struct has no slots: it is not host-shareable, has no fixed size or has 16-bit scalars.
-fn put_no_slots(out: &mut Buffer, at: usize, rows: &[u32], i: u32) -> usize {
+fn put_no_slots(out: &mut Writer, rows: &[u32], i: u32) {
     if !sheet_verdicts::is_shareable(rows, i) {
-        return sheet_output::put_text(out, at, b"no, the struct is not host-shareable");
+        out.put_text(b"no, the struct is not host-shareable");
+        return;
     }
     if !sheet_verdicts::is_sized(rows, i) {
-        return sheet_output::put_text(out, at, b"no, the struct is runtime-sized");
+        out.put_text(b"no, the struct is runtime-sized");
+        return;
     }
-    sheet_output::put_text(out, at, b"no, a member has 16-bit scalars")
+    out.put_text(b"no, a member has 16-bit scalars");
 }
 
 // The slots of struct i in words, or why there are none.
-pub fn put_slots(out: &mut Buffer, at: usize, rows: &[u32], counts: &[u64], i: u32) -> usize {
+pub fn put_slots(out: &mut Writer, rows: &[u32], counts: &[u64], i: u32) {
     if !sheet_verdicts::may_be_immediate(rows, i) {
-        return put_no_slots(out, at, rows, i);
+        put_no_slots(out, rows, i);
+        return;
     }
     if MOST_IMMEDIATE < sheet_verdicts::row_word(rows, i, 0) {
-        return sheet_output::put_text(out, at, b"no, the struct ends past byte 256");
+        out.put_text(b"no, the struct ends past byte 256");
+        return;
     }
     let place = SLOTS_AT + (i as usize) * 2;
     sheet_verdicts::put_slots(
         out,
-        at,
         count_word(counts, place),
         count_word(counts, place + 1),
-    )
+    );
 }

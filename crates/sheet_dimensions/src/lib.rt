@@ -7,41 +7,59 @@ ghost use Rattle.sheet_dimensions.specs.Scalars.{leaf_in, leaf_kind, leaf_width,
 
 use ir_records::{Leaf, TypeInner};
 
-// So many dimensions over the type inside; or none that keep the steps, so that the member is bytes.
-#[derive(Clone, Copy)]
-pub enum Dimensions {
-    Over { count: usize, base: u32 },
-    Bytes,
-}
-
 // More arrays in one another are not written out.
 const MOST_DEPTH: u32 = 32;
+
+/// Dimensions over a type, outermost first. `count` is above the room where there are more.
+#[derive(Clone, Copy)]
+pub struct Dimensions {
+    list: [u64; 36],
+    count: usize,
+    pub base: u32,
+}
 
 // How often a unit goes into a step; 0 where it does not go evenly.
 fn divided(step: u64, unit: u64) -> u64 {
     if unit == 0 {
         return 0;
     }
-    if step % unit != 0 {
-        return 0;
-    }
-    step / unit
+    if step % unit == 0 { step / unit } else { 0 }
 }
 
-// One dimension more. Past the lent list there is none, which `count` shows by being above its length.
-fn put(list: &mut [u64], count: usize, n: u64) -> usize {
-    if count < list.len() {
-        list[count] = n;
-        return count + 1;
+impl Dimensions {
+    fn none() -> Dimensions {
+        Dimensions {
+            list: [0; 36],
+            count: 0,
+            base: 0,
+        }
     }
-    list.len() + 1
-}
 
-fn over(list: &[u64], count: usize, base: u32, fits: bool) -> Dimensions {
-    if fits & (count <= list.len()) {
-        return Dimensions::Over { count, base };
+    // One dimension more.
+    fn put(&mut self, n: u64) {
+        if self.count < self.list.len() {
+            self.list[self.count] = n;
+        }
+        self.count = self.count.saturating_add(1);
     }
-    Dimensions::Bytes
+
+    // The dimensions over a type, where they fit.
+    fn over(mut self, base: u32, fits: bool) -> Option<Dimensions> {
+        self.base = base;
+        if fits & (self.count <= self.list.len()) {
+            Some(self)
+        } else {
+            None
+        }
+    }
+
+    pub fn as_slice(&self) -> &[u64] {
+        if self.count <= self.list.len() {
+            &self.list[..self.count]
+        } else {
+            &self.list
+        }
+    }
 }
 
 // A type that is neither array nor struct; a scalar of kind 0 and no width in the place of another.
@@ -50,14 +68,7 @@ fn leaf_of(inner: TypeInner) -> Leaf
 {
     match inner {
         TypeInner::Plain(leaf) => leaf,
-        TypeInner::Array {
-            base: _,
-            count: _,
-            stride: _,
-        } => Leaf::Scalar(0, 0),
-        TypeInner::RuntimeArray { base: _, stride: _ } => Leaf::Scalar(0, 0),
-        TypeInner::Struct { count: _, span: _ } => Leaf::Scalar(0, 0),
-        TypeInner::Other(_) => Leaf::Scalar(0, 0),
+        _ => Leaf::Scalar(0, 0),
     }
 }
 
@@ -115,35 +126,35 @@ pub fn is_runtime(types: &[u32], t: u32) -> bool
 }
 
 // A matrix by itself: its columns, and the scalars of a column step. In an array, a step apart: the columns of a step.
-fn matrix_in(types: &[u32], t: u32, step: u64, list: &mut [u64], count: usize) -> Dimensions {
+fn matrix_in(types: &[u32], t: u32, step: u64, mut dimensions: Dimensions) -> Option<Dimensions> {
     let column = sheet_types::column_step(types, t);
     let mut columns = ir_records::type_word(types, t, 1) as u64;
     if step != 0 {
         columns = divided(step, column);
     }
     let scalars = divided(column, bytes_of(types, t));
-    let first = put(list, count, columns);
-    let last = put(list, first, scalars);
-    over(list, last, t, (0 < columns) & (0 < scalars))
+    dimensions.put(columns);
+    dimensions.put(scalars);
+    dimensions.over(t, (0 < columns) & (0 < scalars))
 }
 
-fn vector_in(types: &[u32], t: u32, step: u64, list: &mut [u64], count: usize) -> Dimensions {
+fn vector_in(types: &[u32], t: u32, step: u64, mut dimensions: Dimensions) -> Option<Dimensions> {
     let mut scalars = ir_records::type_word(types, t, 1) as u64;
     if step != 0 {
         scalars = divided(step, bytes_of(types, t));
     }
-    let last = put(list, count, scalars);
-    over(list, last, t, 0 < scalars)
+    dimensions.put(scalars);
+    dimensions.over(t, 0 < scalars)
 }
 
-fn scalar_in(types: &[u32], t: u32, step: u64, list: &mut [u64], count: usize) -> Dimensions {
+fn scalar_in(types: &[u32], t: u32, step: u64, mut dimensions: Dimensions) -> Option<Dimensions> {
     let width = bytes_of(types, t);
     if (step == 0) | (step == width) {
-        return over(list, count, t, true);
+        return dimensions.over(t, true);
     }
     let scalars = divided(step, width);
-    let last = put(list, count, scalars);
-    over(list, last, t, 0 < scalars)
+    dimensions.put(scalars);
+    dimensions.over(t, 0 < scalars)
 }
 
 // The type inside all arrays, whose elements lie a step apart; no step where there is no array.
@@ -152,20 +163,19 @@ fn base_in(
     rows: &[u32],
     t: u32,
     step: u64,
-    list: &mut [u64],
-    count: usize,
-) -> Dimensions {
+    dimensions: Dimensions,
+) -> Option<Dimensions> {
     let kind = ir_records::type_word(types, t, 0);
     match kind {
-        0 => scalar_in(types, t, step, list, count),
-        1 => vector_in(types, t, step, list, count),
-        2 => matrix_in(types, t, step, list, count),
-        4 => scalar_in(types, t, step, list, count),
+        0 => scalar_in(types, t, step, dimensions),
+        1 => vector_in(types, t, step, dimensions),
+        2 => matrix_in(types, t, step, dimensions),
+        4 => scalar_in(types, t, step, dimensions),
         8 => {
             let size = sheet_verdicts::row_word(rows, t, 0) as u64;
-            over(list, count, t, (step == 0) | (step == size))
+            dimensions.over(t, (step == 0) | (step == size))
         }
-        _ => Dimensions::Bytes,
+        _ => None,
     }
 }
 
@@ -177,27 +187,25 @@ fn array_dimension(types: &[u32], t: u32, step: u64) -> u64 {
     divided(step, ir_records::type_word(types, t, 4) as u64)
 }
 
-// The dimensions of a type, in a lent list.
-pub fn of_type(types: &[u32], rows: &[u32], ty: u32, list: &mut [u64]) -> Dimensions {
+/// The dimensions of a type; none where they do not keep the steps, so that a member of the type is bytes.
+pub fn of_type(types: &[u32], rows: &[u32], ty: u32) -> Option<Dimensions> {
     let mut t = ty;
     let mut step: u64 = 0;
-    let mut count: usize = 0;
-    let mut k: u32 = 0;
-    while k < MOST_DEPTH {
+    let mut dimensions = Dimensions::none();
+    for _ in 0..MOST_DEPTH {
         if ir_records::type_word(types, t, 0) != ir_records::ARRAY_KIND {
-            return base_in(types, rows, t, step, list, count);
+            return base_in(types, rows, t, step, dimensions);
         }
         let n = array_dimension(types, t, step);
         if (0 < step) & (n == 0) {
-            return Dimensions::Bytes;
+            return None;
         }
-        count = put(list, count, n);
+        dimensions.put(n);
         step = ir_records::type_word(types, t, 4) as u64;
         if step == 0 {
-            return Dimensions::Bytes;
+            return None;
         }
         t = ir_records::type_word(types, t, 1);
-        k += 1;
     }
-    Dimensions::Bytes
+    None
 }

@@ -1,13 +1,11 @@
 // Numbers, capabilities and instructions in words.
 #![tactic(auto)]
 
-use program_output::Buffer;
+use sheet_output::Writer;
 
 // What each number stands for: of the records, from 1 to 27.
-fn put_first_meanings(out: &mut Buffer, at: usize, number: u32) -> usize {
-    sheet_output::put_line_of(
-        out,
-        at,
+fn put_first_meanings(out: &mut Writer, number: u32) {
+    out.put_line_of(
         b"there are more than 1024 types or 4096 members, or the capability word has a bit above 13
 a field of a record lies outside its set
 a pointer or binding array has a base that is no type
@@ -38,14 +36,12 @@ a host-shareable struct reaches an array with a stride below its element's size
 ",
         1,
         number,
-    )
+    );
 }
 
 // Of a module, of a text and of blend sources, from 28 on.
-fn put_last_meanings(out: &mut Buffer, at: usize, number: u32) -> usize {
-    sheet_output::put_line_of(
-        out,
-        at,
+fn put_last_meanings(out: &mut Writer, number: u32) {
+    out.put_line_of(
         b"the module's header is short or has another magic number, or a word count is 0, past the end or too small
 the module refers to a type that is not read, has a width, signedness, encoding or number of parts that is not supported, or stores a matrix otherwise
 an id of the module is missing, given twice or of the wrong sort, a size leaves 32 bits, or an Offset, an ArrayStride or an array's length is not in order
@@ -56,14 +52,12 @@ the blend sources of a struct's members are refused
 ",
         28,
         number,
-    )
+    );
 }
 
 // The bits of the capability word, from 0 on.
-pub fn put_capability(out: &mut Buffer, at: usize, bit: u32) -> usize {
-    sheet_output::put_line_of(
-        out,
-        at,
+pub fn put_capability(out: &mut Writer, bit: u32) {
+    out.put_line_of(
         b"FLOAT64, --capabilities 1
 SHADER_FLOAT16, --capabilities 2
 SHADER_INT16, --capabilities 4
@@ -81,14 +75,12 @@ DUAL_SOURCE_BLENDING, --capabilities 8192
 ",
         0,
         bit,
-    )
+    );
 }
 
 // Instructions by their opcodes: the types, from 19 on.
-fn put_type_instruction(out: &mut Buffer, at: usize, op: u32) -> usize {
-    sheet_output::put_line_of(
-        out,
-        at,
+fn put_type_instruction(out: &mut Writer, op: u32) {
+    out.put_line_of(
         b"OpTypeVoid
 OpTypeBool
 OpTypeInt
@@ -112,28 +104,30 @@ OpTypePipe
 ",
         19,
         op,
-    )
+    );
 }
 
-pub fn put_instruction(out: &mut Buffer, at: usize, op: u32) -> usize {
+pub fn put_instruction(out: &mut Writer, op: u32) {
     match op {
-        43 => sheet_output::put_text(out, at, b"OpConstant\n"),
-        71 => sheet_output::put_text(out, at, b"OpDecorate\n"),
-        72 => sheet_output::put_text(out, at, b"OpMemberDecorate\n"),
+        43 => out.put_text(b"OpConstant\n"),
+        71 => out.put_text(b"OpDecorate\n"),
+        72 => out.put_text(b"OpMemberDecorate\n"),
         _ => {
             if spirv_ids::is_type(op) {
-                return put_type_instruction(out, at, op);
+                put_type_instruction(out, op);
+                return;
             }
-            sheet_output::put_with(out, at, b"opcode ", op as u64, b"\n")
+            out.put_with(b"opcode ", op as u64, b"\n")
         }
     }
 }
 
 // The number and its meaning.
-pub fn put_number(out: &mut Buffer, at: usize, number: u32) -> usize {
-    let end = sheet_output::put_with(out, at, b"refused ", number as u64, b": ");
+pub fn put_number(out: &mut Writer, number: u32) {
+    out.put_with(b"refused ", number as u64, b": ");
     if number < 28 {
-        return put_first_meanings(out, end, number);
+        put_first_meanings(out, number);
+        return;
     }
-    put_last_meanings(out, end, number)
+    put_last_meanings(out, number);
 }

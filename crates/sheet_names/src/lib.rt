@@ -4,7 +4,7 @@
 
 ghost use Rattle.std.specs.Prelude.{◌≡◌, ◌+◌, ◌*◌, ◌<◌, ◌≤◌, length, slice_index};
 ghost use Rattle.ir_records.specs.Record.{type_word};
-ghost use Rattle.sheet_names.specs.Names.{member_entry, part_of, name_at, after_instruction};
+ghost use Rattle.sheet_names.specs.Names.{member_entry, part_of, name_at, member_name, after_instruction};
 
 use wgsl_tokens::Lexed;
 
@@ -59,7 +59,7 @@ pub fn member_row(types: &[u32], i: u32, j: u32) -> usize
 fn entry_word(names: &[usize], at: usize) -> usize
     ensures { result ≡ slice_index names.now at }
 {
-    if at < names.len() { names[at] } else { 0 }
+    names.get(at).copied().unwrap_or(0)
 }
 
 // Where the name of an entry starts.
@@ -97,6 +97,31 @@ pub fn name_at<'a>(text: &'a [u8], names: &[usize], entry: usize) -> &'a [u8]
     part(text, start, end)
 }
 
+/// Type records, and the names of their types and members as parts of a text or of a module's bytes.
+#[derive(Clone, Copy)]
+pub struct Named<'a> {
+    pub text: &'a [u8],
+    pub names: &'a [usize],
+    pub types: &'a [u32],
+}
+
+impl<'a> Named<'a> {
+    /// The name of type i.
+    pub fn type_name(self, i: u32) -> &'a [u8]
+        ensures { result.now ≡ name_at self.entry.text.now self.entry.names.now (i * 2) }
+    {
+        name_at(self.text, self.names, type_entry(i))
+    }
+
+    /// The name of member j of struct i.
+    pub fn member_name(self, i: u32, j: u32) -> &'a [u8]
+        ensures { result.now ≡ member_name self.entry.text.now self.entry.names.now self.entry.types.now i j }
+    {
+        let row = member_row(self.types, i, j);
+        name_at(self.text, self.names, member_entry(row))
+    }
+}
+
 fn put_word(names: &mut [usize], at: usize, word: usize) {
     if at < names.len() {
         names[at] = word;
@@ -110,12 +135,10 @@ fn put_entry(names: &mut [usize], entry: usize, start: usize, end: usize) {
 
 // The first struct from a type on; 1,024 where there is none.
 fn struct_from(types: &[u32], from: u32) -> u32 {
-    let mut i = from;
-    while i < MOST_TYPES {
+    for i in from..MOST_TYPES {
         if ir_records::type_word(types, i, 0) == ir_records::STRUCT_KIND {
             return i;
         }
-        i += 1;
     }
     MOST_TYPES
 }
@@ -126,7 +149,7 @@ fn with_word(text: &[u8], w: Walk, ty: u32, start: usize, end: usize) -> Walk {
         at: end,
         start,
         end,
-        after_struct: wgsl_names::same(part(text, start, end), b"struct"),
+        after_struct: part(text, start, end) == b"struct".as_slice(),
         ty,
         row: w.row,
     }
@@ -170,8 +193,7 @@ fn after_other(w: Walk, row: u32, at: usize) -> Walk {
 }
 
 fn after_token(text: &[u8], types: &[u32], names: &mut [usize], w: Walk) -> Walk {
-    let at = w.at;
-    match wgsl_tokens::next_token(text, at) {
+    match wgsl_tokens::next_token(text, w.at) {
         Lexed::Word { start, end } => after_word(text, types, names, w, start, end),
         Lexed::Mark { byte, end } => after_mark(names, w, byte, end),
         Lexed::Number { value: _, end } => after_other(w, w.row, end),
@@ -191,12 +213,9 @@ pub fn from_text(text: &[u8], types: &[u32], names: &mut [usize]) {
         ty: 0,
         row: 0,
     };
-    let mut left = text.len();
-    while 0 < left {
-        left -= 1;
+    for _ in 0..text.len() {
         w = after_token(text, types, names, w);
-        let at = w.at;
-        if text.len() <= at {
+        if text.len() <= w.at {
             return;
         }
     }
@@ -229,6 +248,7 @@ fn place_type(words: &[u32], places: &mut [usize], at: usize, n: usize) -> usize
 pub fn type_places(words: &[u32], places: &mut [usize]) {
     let mut at: usize = spirv_words::HEADER_WORDS;
     let mut n: usize = 0;
+    // Kept: a step is as long as an instruction, so no range counts it.
     while at < words.len() {
         n = place_type(words, places, at, n);
         at = after_instruction(words, at);
@@ -246,28 +266,24 @@ fn second_after(words: &[u32], at: usize) -> u32 {
 
 // The type that an id names; 1,024 for none.
 fn type_of(words: &[u32], places: &[usize], id: u32) -> u32 {
-    let mut i: u32 = 0;
-    while i < MOST_TYPES {
+    for i in 0..MOST_TYPES {
         let place = entry_word(places, i as usize);
         let named = word_after(words, place) == id;
         if (0 < place) & named {
             return i;
         }
-        i += 1;
     }
     MOST_TYPES
 }
 
 // Where a string of the module's bytes ends: before a NUL, or at the limit.
 fn string_end(bytes: &[u8], start: usize, limit: usize) -> usize {
-    let mut i = start;
-    while i < limit {
+    for i in start..limit {
         if wgsl_tokens::byte_at(bytes, i) == 0 {
             return i;
         }
-        i += 1;
     }
-    i
+    limit.max(start)
 }
 
 // The string from one word up to another, as the name of an entry.
@@ -363,6 +379,7 @@ pub fn from_module(
     names: &mut [usize],
 ) {
     let mut at: usize = spirv_words::HEADER_WORDS;
+    // Kept: a step is as long as an instruction, so no range counts it.
     while at < words.len() {
         let next = after_instruction(words, at);
         let op = spirv_words::opcode_of(words, at);

@@ -9,14 +9,14 @@ use program_output::Buffer;
 pub fn missing(n: usize, width: usize) -> usize
     ensures { result ≡ width - n }
 {
-    if n < width { width - n } else { 0 }
+    width.saturating_sub(n)
 }
 
 // The bytes from the end of one part to the start of the next; none where that starts before it.
 pub fn gap(end: u64, start: u64) -> u64
     ensures { result ≡ start - end }
 {
-    if end < start { start - end } else { 0 }
+    start.saturating_sub(end)
 }
 
 const FULL: usize = 1114113;
@@ -31,85 +31,95 @@ fn written(out: &Buffer, at: usize) -> usize {
 }
 
 // A position with room for n bytes after it: a sheet may be longer than the buffer, and what waits is written out where there is no room.
-pub fn room(out: &Buffer, at: usize, n: usize) -> usize
+fn room(out: &Buffer, at: usize, n: usize) -> usize
     ensures { at + n ≤ 1114112 → result ≡ at }
 {
-    if at <= out.len() {
-        if n <= out.len() - at {
-            return at;
-        }
-        return written(out, at);
+    if (at <= out.len()) && (n <= out.len() - at) {
+        return at;
     }
     written(out, at)
 }
 
-pub fn put_byte(out: &mut Buffer, at: usize, b: u8) -> usize {
-    let from = room(out, at, 1);
-    program_output::put_byte(out, from, b)
+/// The buffer of the answers and how many bytes wait in it. What waits is written out where there is no room for more.
+pub struct Writer<'a> {
+    pub out: &'a mut Buffer,
+    pub end: usize,
 }
 
-// No text is longer than the buffer: it is a part of the input, or one of the program's own.
-pub fn put_text(out: &mut Buffer, at: usize, text: &[u8]) -> usize {
-    let from = room(out, at, text.len());
-    program_output::put_text(out, from, text)
-}
-
-pub fn put_line_of(out: &mut Buffer, at: usize, text: &[u8], first: u32, number: u32) -> usize {
-    let from = room(out, at, text.len());
-    program_output::put_line_of(out, from, text, first, number)
-}
-
-// A number with nothing before it.
-pub fn put_number(out: &mut Buffer, at: usize, n: u64) -> usize {
-    let from = room(out, at, 20);
-    program_output::put_decimal(out, from, n)
-}
-
-// A number between two texts.
-pub fn put_with(out: &mut Buffer, at: usize, before: &[u8], n: u64, after: &[u8]) -> usize {
-    let a = put_text(out, at, before);
-    let b = put_number(out, a, n);
-    put_text(out, b, after)
-}
-
-pub fn put_blanks(out: &mut Buffer, at: usize, n: usize) -> usize {
-    let mut end = at;
-    let mut i = 0;
-    while i < n {
-        end = put_byte(out, end, b' ');
-        i += 1;
+impl<'a> Writer<'a> {
+    pub fn new(out: &'a mut Buffer) -> Writer<'a> {
+        Writer { out, end: 0 }
     }
-    end
-}
 
-// A number at the right of so many columns.
-pub fn put_right(out: &mut Buffer, at: usize, width: usize, n: u64) -> usize {
-    let mut digits = [0u8; 20];
-    let k = io::decimal(n, &mut digits);
-    let end = put_blanks(out, at, missing(k, width));
-    put_text(out, end, &digits[..k])
-}
+    /// Writes out what waits at the end of a sheet; a writer is not let go without it.
+    pub fn finish(self) {
+        let Writer { out, end } = self;
+        program_output::write_out(out, end);
+    }
 
-// `<` or `>`, which a page writes in another way.
-pub fn put_mark(out: &mut Buffer, at: usize, mark: u8, page: bool) -> usize {
-    if !page {
-        return put_byte(out, at, mark);
+    /// Makes room for n more bytes.
+    pub fn make_room(&mut self, n: usize) {
+        self.end = room(self.out, self.end, n);
     }
-    match mark {
-        b'<' => put_text(out, at, b"&lt;"),
-        b'>' => put_text(out, at, b"&gt;"),
-        b'&' => put_text(out, at, b"&amp;"),
-        _ => put_byte(out, at, mark),
-    }
-}
 
-// A name, byte by byte as a page has it.
-pub fn put_name(out: &mut Buffer, at: usize, name: &[u8], page: bool) -> usize {
-    let mut end = at;
-    let mut i = 0;
-    while i < name.len() {
-        end = put_mark(out, end, name[i], page);
-        i += 1;
+    pub fn put_byte(&mut self, b: u8) {
+        self.make_room(1);
+        self.end = program_output::put_byte(self.out, self.end, b);
     }
-    end
+
+    /// No text is longer than the buffer: it is a part of the input, or one of the program's own.
+    pub fn put_text(&mut self, text: &[u8]) {
+        self.make_room(text.len());
+        self.end = program_output::put_text(self.out, self.end, text);
+    }
+
+    /// A line of a text whose lines are numbered from `first` on.
+    pub fn put_line_of(&mut self, text: &[u8], first: u32, number: u32) {
+        self.make_room(text.len());
+        self.end = program_output::put_line_of(self.out, self.end, text, first, number);
+    }
+
+    /// A number with nothing before it.
+    pub fn put_number(&mut self, n: u64) {
+        self.make_room(20);
+        self.end = program_output::put_decimal(self.out, self.end, n);
+    }
+
+    /// A number between two texts.
+    pub fn put_with(&mut self, before: &[u8], n: u64, after: &[u8]) {
+        self.put_text(before);
+        self.put_number(n);
+        self.put_text(after);
+    }
+
+    pub fn put_blanks(&mut self, n: usize) {
+        for _ in 0..n {
+            self.put_byte(b' ');
+        }
+    }
+
+    /// A number at the right of so many columns.
+    pub fn put_right(&mut self, width: usize, n: u64) {
+        let mut digits = [0u8; 20];
+        let k = io::decimal(n, &mut digits);
+        self.put_blanks(missing(k, width));
+        self.put_text(&digits[..k]);
+    }
+
+    /// `<`, `>` or `&`, which a page writes in another way.
+    pub fn put_mark(&mut self, mark: u8, page: bool) {
+        match mark {
+            b'<' if page => self.put_text(b"&lt;"),
+            b'>' if page => self.put_text(b"&gt;"),
+            b'&' if page => self.put_text(b"&amp;"),
+            _ => self.put_byte(mark),
+        }
+    }
+
+    /// A name, byte by byte as a page has it.
+    pub fn put_name(&mut self, name: &[u8], page: bool) {
+        for b in name {
+            self.put_mark(*b, page);
+        }
+    }
 }

@@ -1,12 +1,11 @@
 // The sheet as a page that stands alone: its head and its end, and for each struct what it measures and a table of its members.
 #![tactic(auto)]
 
-use program_output::Buffer;
+use sheet_names::Named;
+use sheet_output::Writer;
 
-pub fn put_start(out: &mut Buffer, at: usize) -> usize {
-    sheet_output::put_text(
-        out,
-        at,
+pub fn put_start(out: &mut Writer) {
+    out.put_text(
         b"<!DOCTYPE html>
 <html lang=\"en\">
 <head>
@@ -40,106 +39,82 @@ table { border-collapse: collapse; width: 100%; margin: 0 0 1em; }
     )
 }
 
-pub fn put_end(out: &mut Buffer, at: usize) -> usize {
-    sheet_output::put_text(out, at, b"</body>\n</html>\n")
+pub fn put_end(out: &mut Writer) {
+    out.put_text(b"</body>\n</html>\n");
 }
 
 // The name, the size and the alignment.
-pub fn put_head(
-    out: &mut Buffer,
-    at: usize,
-    text: &[u8],
-    names: &[usize],
-    rows: &[u32],
-    i: u32,
-) -> usize {
-    let mut end = sheet_output::put_text(out, at, b"<h2>struct ");
-    end = sheet_types::put_struct_name(out, end, text, names, i, true);
-    end = sheet_output::put_text(out, end, b"</h2>\n<p>");
-    end = sheet_verdicts::put_measures(out, end, rows, i);
-    sheet_output::put_text(out, end, b"<br>\nstorage: ")
+pub fn put_head(out: &mut Writer, named: Named, rows: &[u32], i: u32) {
+    out.put_text(b"<h2>struct ");
+    sheet_types::put_struct_name(out, named, i, true);
+    out.put_text(b"</h2>\n<p>");
+    sheet_verdicts::put_measures(out, rows, i);
+    out.put_text(b"<br>\nstorage: ");
 }
 
 // The verdicts, after the word `storage:`.
-pub fn put_verdicts(
-    out: &mut Buffer,
-    at: usize,
-    text: &[u8],
-    names: &[usize],
-    types: &[u32],
-    rows: &[u32],
-    i: u32,
-) -> usize {
-    let mut end = sheet_verdicts::put_verdict(out, at, text, names, types, rows, i, 8, true);
-    end = sheet_output::put_text(out, end, b"<br>\nuniform: ");
-    sheet_verdicts::put_verdict(out, end, text, names, types, rows, i, 3, true)
+pub fn put_verdicts(out: &mut Writer, named: Named, rows: &[u32], i: u32) {
+    sheet_verdicts::put_verdict(out, named, rows, i, 8, true);
+    out.put_text(b"<br>\nuniform: ");
+    sheet_verdicts::put_verdict(out, named, rows, i, 3, true);
 }
 
-pub fn put_bytes(out: &mut Buffer, at: usize, carried: u64, wasted: u64) -> usize {
-    let end = sheet_output::put_with(out, at, b"<br>\nbytes: ", carried, b" carried, ");
-    sheet_output::put_with(out, end, b"", wasted, b" wasted")
+pub fn put_bytes(out: &mut Writer, carried: u64, wasted: u64) {
+    out.put_with(b"<br>\nbytes: ", carried, b" carried, ");
+    out.put_with(b"", wasted, b" wasted");
 }
 
-pub fn put_table_head(out: &mut Buffer, at: usize) -> usize {
-    sheet_output::put_text(
-        out,
-        at,
+pub fn put_table_head(out: &mut Writer) {
+    out.put_text(
         b"</p>
 <table class=\"members\">
 <tr><th class=\"n\">offset</th><th class=\"n\">size</th><th class=\"n\">align</th><th>member</th><th>type</th></tr>
 ",
-    )
+    );
 }
 
-pub fn put_table_end(out: &mut Buffer, at: usize) -> usize {
-    sheet_output::put_text(out, at, b"</table>\n")
+pub fn put_table_end(out: &mut Writer) {
+    out.put_text(b"</table>\n");
 }
 
 // A cell with a number.
-fn put_cell(out: &mut Buffer, at: usize, n: u64) -> usize {
-    sheet_output::put_with(out, at, b"<td class=\"n\">", n, b"</td>")
+fn put_cell(out: &mut Writer, n: u64) {
+    out.put_with(b"<td class=\"n\">", n, b"</td>");
 }
 
 // Bytes between two members, or after the last one.
-pub fn put_gap(out: &mut Buffer, at: usize, start: u64, bytes: u64) -> usize {
-    let a = sheet_output::put_text(out, at, b"<tr>");
-    let b = put_cell(out, a, start);
-    let c = put_cell(out, b, bytes);
-    sheet_output::put_text(
-        out,
-        c,
-        b"<td></td><td class=\"gap\"></td><td>unused</td></tr>\n",
-    )
+pub fn put_gap(out: &mut Writer, start: u64, bytes: u64) {
+    out.put_text(b"<tr>");
+    put_cell(out, start);
+    put_cell(out, bytes);
+    out.put_text(b"<td></td><td class=\"gap\"></td><td>unused</td></tr>\n");
 }
 
 // The offset, the size and the alignment of a member.
-fn put_measures(out: &mut Buffer, at: usize, rows: &[u32], ty: u32, offset: u32) -> usize {
+fn put_measures(out: &mut Writer, rows: &[u32], ty: u32, offset: u32) {
     let size = sheet_verdicts::row_word(rows, ty, 0) as u64;
     let alignment = sheet_verdicts::row_word(rows, ty, 1) as u64;
-    let a = sheet_output::put_text(out, at, b"<tr>");
-    let b = put_cell(out, a, offset as u64);
-    let c = put_cell(out, b, size);
-    put_cell(out, c, alignment)
+    out.put_text(b"<tr>");
+    put_cell(out, offset as u64);
+    put_cell(out, size);
+    put_cell(out, alignment);
 }
 
 // The line of member j of struct i.
 pub fn put_member(
-    out: &mut Buffer,
-    at: usize,
-    text: &[u8],
-    names: &[usize],
-    types: &[u32],
+    out: &mut Writer,
+    named: Named,
     rows: &[u32],
     i: u32,
     j: u32,
     ty: u32,
     offset: u32,
-) -> usize {
-    let mut end = put_measures(out, at, rows, ty, offset);
-    end = sheet_output::put_with(out, end, b"<td class=\"c", (j % 8) as u64, b"\">");
-    end = sheet_types::put_member_name(out, end, text, names, types, i, j, true);
-    end = sheet_output::put_text(out, end, b"</td><td>");
-    end = sheet_types::put_type(out, end, text, names, types, ty, true);
-    end = sheet_table::put_steps(out, end, types, ty);
-    sheet_output::put_text(out, end, b"</td></tr>\n")
+) {
+    put_measures(out, rows, ty, offset);
+    out.put_with(b"<td class=\"c", (j % 8) as u64, b"\">");
+    sheet_types::put_member_name(out, named, i, j, true);
+    out.put_text(b"</td><td>");
+    sheet_types::put_type(out, named, ty, true);
+    sheet_table::put_steps(out, named.types, ty);
+    out.put_text(b"</td></tr>\n");
 }

@@ -3,21 +3,20 @@
 
 ghost use Rattle.std.specs.Prelude.{◌≤◌, ◌<◌};
 
-use program_output::Buffer;
+use sheet_names::Named;
+use sheet_output::Writer;
 
 // Bytes of a struct that are drawn at most.
 const MOST_DRAWN: u64 = 4096;
 
 const ROW_BYTES: u64 = 16;
 
-pub fn put_head(out: &mut Buffer, at: usize) -> usize {
-    sheet_output::put_text(
-        out,
-        at,
+pub fn put_head(out: &mut Writer) {
+    out.put_text(
         b"<table class=\"bytes\">
 <tr><th>byte</th><th>0</th><th>1</th><th>2</th><th>3</th><th>4</th><th>5</th><th>6</th><th>7</th><th>8</th><th>9</th><th>10</th><th>11</th><th>12</th><th>13</th><th>14</th><th>15</th></tr>
 ",
-    )
+    );
 }
 
 // Whether two bytes of struct i belong to one member and both lie in leaves, or neither.
@@ -31,69 +30,63 @@ fn alike(types: &[u32], members: &[u32], rows: &[u32], i: u32, a: u64, b: u64) -
 
 // The end of the run of bytes that are like the one at `from`, before the limit.
 fn run_end(types: &[u32], members: &[u32], rows: &[u32], i: u32, from: u64, limit: u64) -> u64 {
-    let mut b = from;
-    while b < limit {
+    for b in from..limit {
         if !alike(types, members, rows, i, from, b) {
             return b;
         }
-        b += 1;
     }
-    b
+    limit
 }
 
 // A run of so many bytes: a member's name, or nothing where no leaf holds them.
 fn put_run(
-    out: &mut Buffer,
-    at: usize,
-    text: &[u8],
-    names: &[usize],
-    types: &[u32],
+    out: &mut Writer,
+    named: Named,
     members: &[u32],
     rows: &[u32],
     i: u32,
     from: u64,
     bytes: u64,
-) -> usize {
-    let mut end = sheet_output::put_with(out, at, b"<td colspan=\"", bytes, b"\" class=\"");
-    if !sheet_bytes::in_leaf(types, members, rows, i, from) {
-        return sheet_output::put_text(out, end, b"gap\"></td>");
+) {
+    out.put_with(b"<td colspan=\"", bytes, b"\" class=\"");
+    if !sheet_bytes::in_leaf(named.types, members, rows, i, from) {
+        out.put_text(b"gap\"></td>");
+        return;
     }
-    let j = sheet_bytes::holder(types, members, rows, i, from);
-    end = sheet_output::put_with(out, end, b"c", (j % 8) as u64, b"\">");
-    end = sheet_types::put_member_name(out, end, text, names, types, i, j, true);
-    sheet_output::put_text(out, end, b"</td>")
+    let j = sheet_bytes::holder(named.types, members, rows, i, from);
+    out.put_with(b"c", (j % 8) as u64, b"\">");
+    sheet_types::put_member_name(out, named, i, j, true);
+    out.put_text(b"</td>");
 }
 
-fn put_row_start(out: &mut Buffer, at: usize, from: u64) -> usize {
-    sheet_output::put_with(out, at, b"<tr><th>", from, b"</th>")
+fn put_row_start(out: &mut Writer, from: u64) {
+    out.put_with(b"<tr><th>", from, b"</th>");
 }
 
-fn put_row_end(out: &mut Buffer, at: usize) -> usize {
-    sheet_output::put_text(out, at, b"</tr>\n")
+fn put_row_end(out: &mut Writer) {
+    out.put_text(b"</tr>\n");
 }
 
 // The row of the bytes from one up to a limit.
 fn put_row(
-    out: &mut Buffer,
-    at: usize,
-    text: &[u8],
-    names: &[usize],
-    types: &[u32],
+    out: &mut Writer,
+    named: Named,
     members: &[u32],
     rows: &[u32],
     i: u32,
     from: u64,
     limit: u64,
-) -> usize {
-    let mut end = put_row_start(out, at, from);
+) {
+    put_row_start(out, from);
     let mut b = from;
+    // Kept: a step is as long as a run of bytes, so no range counts it.
     while b < limit {
-        let next = run_end(types, members, rows, i, b, limit);
+        let next = run_end(named.types, members, rows, i, b, limit);
         let bytes = sheet_output::gap(b, next);
-        end = put_run(out, end, text, names, types, members, rows, i, b, bytes);
+        put_run(out, named, members, rows, i, b, bytes);
         b = past(next, b, limit);
     }
-    put_row_end(out, end)
+    put_row_end(out);
 }
 
 // Where the row goes on after a run.
@@ -104,53 +97,28 @@ fn past(next: u64, b: u64, limit: u64) -> u64
     if b < next { next } else { b + 1 }
 }
 
-fn smaller(a: u64, b: u64) -> u64
-    ensures { result ≤ b }
-{
-    if a < b { a } else { b }
-}
-
+// The bytes of struct i that are drawn.
 fn drawn_bytes(rows: &[u32], i: u32) -> u64
     ensures { result ≤ 4096 }
 {
-    smaller(sheet_verdicts::row_word(rows, i, 0) as u64, MOST_DRAWN)
+    MOST_DRAWN.min(sheet_verdicts::row_word(rows, i, 0) as u64)
 }
 
 // The bytes of struct i, as far as they are drawn.
-pub fn put_rows(
-    out: &mut Buffer,
-    at: usize,
-    text: &[u8],
-    names: &[usize],
-    types: &[u32],
-    members: &[u32],
-    rows: &[u32],
-    i: u32,
-) -> usize {
+pub fn put_rows(out: &mut Writer, named: Named, members: &[u32], rows: &[u32], i: u32) {
     let drawn = drawn_bytes(rows, i);
-    let mut end = at;
-    let mut b: u64 = 0;
-    while b < drawn {
-        let next = b + ROW_BYTES;
-        let limit = smaller(next, drawn);
-        end = put_row(out, end, text, names, types, members, rows, i, b, limit);
-        b = next;
+    for row in 0..drawn.div_ceil(ROW_BYTES) {
+        let from = row * ROW_BYTES;
+        let limit = drawn.min(from + ROW_BYTES);
+        put_row(out, named, members, rows, i, from, limit);
     }
-    end
 }
 
 // Under the picture: what is not drawn.
-pub fn put_rest(out: &mut Buffer, at: usize, rows: &[u32], i: u32) -> usize {
+pub fn put_rest(out: &mut Writer, rows: &[u32], i: u32) {
     let size = sheet_verdicts::row_word(rows, i, 0) as u64;
-    let end = sheet_output::put_text(out, at, b"</table>\n");
+    out.put_text(b"</table>\n");
     if MOST_DRAWN < size {
-        return sheet_output::put_with(
-            out,
-            end,
-            b"<p>Bytes from ",
-            MOST_DRAWN,
-            b" on are not drawn.</p>\n",
-        );
+        out.put_with(b"<p>Bytes from ", MOST_DRAWN, b" on are not drawn.</p>\n");
     }
-    end
 }

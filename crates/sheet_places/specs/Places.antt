@@ -3,8 +3,7 @@
 use Rattle.std.specs.Prelude.{ℕ, zero, suc, Bool, true, false, List, length, take, nat_lt}
 use Rattle.ir_records.specs.Result.{pick}
 use Rattle.spirv_words.specs.Module.{header_words}
-use Rattle.spirv_read.specs.declared.Section.{Section}
-use Rattle.spirv_read.specs.declared.Section.TheVariants.{Read, Refused}
+use Rattle.spirv_read.specs.Section.{Section, Read, Refused}
 use Rattle.sheet_names.specs.Names.{after_instruction}
 
 -- so many instructions after the one at `at`; past the words where there are fewer

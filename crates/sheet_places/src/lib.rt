@@ -5,16 +5,12 @@ ghost use Rattle.std.specs.Prelude.{◌≡◌, ◌<◌};
 ghost use Rattle.spirv_read.specs.Read.{read_into, section_of, types_after, members_after};
 ghost use Rattle.sheet_places.specs.Places.{place_of, words_before, is_refusal};
 
-use spirv_read::Section;
-
 // Where the instruction with number k stands; past the words where there are fewer.
 pub fn place_of(words: &[u32], k: usize) -> usize
     ensures { result ≡ place_of words.now k }
 {
     let mut at: usize = spirv_words::HEADER_WORDS;
-    let mut left = k;
-    while 0 < left {
-        left -= 1;
+    for _ in 0..k {
         if words.len() <= at {
             return at;
         }
@@ -34,23 +30,11 @@ pub fn before(words: &[u32], k: usize) -> &[u32]
     words
 }
 
-fn is_refusal(section: Section) -> bool
-    ensures { result ≡ is_refusal section }
-{
-    match section {
-        Section::Read {
-            types: _,
-            members: _,
-        } => false,
-        Section::Refused { number: _ } => true,
-    }
-}
-
 // Whether the words are refused as a module. The tables hold what the reader leaves there.
 pub fn is_refused(words: &[u32], types: &mut [u32], members: &mut [u32]) -> bool
     ensures { (result ≡ is_refusal (section_of (read_into words.now types.old members.old))) × (types.new ≡ types_after (read_into words.now types.old members.old) types.old) × (members.new ≡ members_after (read_into words.now types.old members.old) members.old) }
 {
-    is_refusal(spirv_reader::read_module(words, types, members))
+    spirv_reader::read_module(words, types, members).is_err()
 }
 
 // So many instructions from one on, among which the refused one is.
@@ -81,6 +65,7 @@ fn halved(words: &[u32], types: &mut [u32], members: &mut [u32], low: usize, cou
 pub fn refused_at(words: &[u32], types: &mut [u32], members: &mut [u32]) -> usize {
     let mut low: usize = 0;
     let mut count = words.len();
+    // Kept: each step halves the count, so no range counts it.
     while 1 < count {
         let span = halved(words, types, members, low, count);
         low = span.low;

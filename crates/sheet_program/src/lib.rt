@@ -3,8 +3,8 @@
 
 ghost use Rattle.std.specs.Prelude.{◌≡◌, length};
 
-use program_files::Held;
-use program_words::Number;
+use program_files::ReadError;
+use program_words::NumberError;
 use sheet_answers::Asked;
 use sheet_lines::Form;
 use std::io::Read;
@@ -43,15 +43,17 @@ fn no_bytes() -> [u8; 1048577]
     [0; 1048577]
 }
 
-fn answer_held(asked: Asked, name: &[u8], bytes: &[u8], held: Held) {
+fn answer_held(asked: Asked, name: &[u8], bytes: &[u8], held: Result<usize, ReadError>) {
     match held {
-        Held::Bytes(n) => {
+        Ok(n) => {
             if n <= bytes.len() {
                 sheet_answers::answer(asked, name, &bytes[0..n]);
             }
         }
-        Held::Long => program_files::tell(b"sheet: the input is longer than 1048576 bytes\n"),
-        Held::Failed => program_files::tell(b"sheet: the input cannot be read\n"),
+        Err(ReadError::Long) => program_files::tell(
+            b"sheet: the input is longer than 1048576 bytes\n",
+        ),
+        Err(ReadError::Failed) => program_files::tell(b"sheet: the input cannot be read\n"),
     }
 }
 
@@ -63,11 +65,9 @@ fn answer_open<S: Read>(asked: Asked, name: &[u8], source: &mut S) {
 
 // What the options ask of a file.
 fn asked_by(o: Options) -> Asked {
-    let form = o.form;
-    let rule = o.rule;
     Asked {
-        form,
-        rule,
+        form: o.form,
+        rule: o.rule,
         capabilities: o.capabilities,
     }
 }
@@ -108,104 +108,84 @@ fn argument_of(word: &[u8]) -> Argument {
     if wgsl_tokens::byte_at(word, 0) != b'-' {
         return Argument::File;
     }
-    if wgsl_names::same(word, b"--c") {
+    if word == b"--c".as_slice() {
         return Argument::OfForm(Form::C);
     }
-    if wgsl_names::same(word, b"--rust") {
+    if word == b"--rust".as_slice() {
         return Argument::OfForm(Form::Rust);
     }
-    if wgsl_names::same(word, b"--html") {
+    if word == b"--html".as_slice() {
         return Argument::OfForm(Form::Page);
     }
-    if wgsl_names::same(word, b"--text") {
+    if word == b"--text".as_slice() {
         return Argument::OfForm(Form::Text);
     }
     other_argument(word)
 }
 
 fn other_argument(word: &[u8]) -> Argument {
-    if wgsl_names::same(word, b"--rule") {
+    if word == b"--rule".as_slice() {
         return Argument::Rule;
     }
-    if wgsl_names::same(word, b"--capabilities") {
+    if word == b"--capabilities".as_slice() {
         return Argument::Capabilities;
     }
-    if wgsl_names::same(word, b"--help") {
+    if word == b"--help".as_slice() {
         return Argument::Help;
     }
     Argument::Unknown
 }
 
 // After an option that took so many arguments.
-fn with(o: Options, form: Form, rule: UniformRule, capabilities: u32, taken: usize) -> Options {
-    Options {
-        form,
-        rule,
-        capabilities,
-        next: std::num::wrapping_add_usize(o.next, taken),
-        open: true,
-        files: o.files,
-        done: false,
-    }
+fn after_option(mut o: Options, taken: usize) -> Options {
+    o.next = std::num::wrapping_add_usize(o.next, taken);
+    o.open = true;
+    o
 }
 
-fn after_file(o: Options) -> Options {
-    let form = o.form;
-    let rule = o.rule;
-    Options {
-        form,
-        rule,
-        capabilities: o.capabilities,
-        next: std::num::wrapping_add_usize(o.next, 1),
-        open: false,
-        files: true,
-        done: false,
-    }
+fn after_file(mut o: Options) -> Options {
+    o.next = std::num::wrapping_add_usize(o.next, 1);
+    o.open = false;
+    o.files = true;
+    o
 }
 
 // Nothing more is answered.
-fn stop(o: Options) -> Options {
-    let form = o.form;
-    let rule = o.rule;
-    Options {
-        form,
-        rule,
-        capabilities: o.capabilities,
-        next: o.next,
-        open: o.open,
-        files: o.files,
-        done: true,
-    }
+fn stop(mut o: Options) -> Options {
+    o.done = true;
+    o
 }
 
 // The rule that argument i names.
-fn rule_step<R: Env>(rt: &R, o: Options, i: usize) -> Options {
+fn rule_step<R: Env>(rt: &R, mut o: Options, i: usize) -> Options {
     let mut word = io::buffer();
     let n = program_files::argument(rt, i, &mut word);
-    let form = o.form;
-    if wgsl_names::same(&word[..n], b"older") {
-        return with(o, form, UniformRule::Older, o.capabilities, 2);
+    if &word[..n] == b"older".as_slice() {
+        o.rule = UniformRule::Older;
+        return after_option(o, 2);
     }
-    if wgsl_names::same(&word[..n], b"newer") {
-        return with(o, form, UniformRule::Newer, o.capabilities, 2);
+    if &word[..n] == b"newer".as_slice() {
+        o.rule = UniformRule::Newer;
+        return after_option(o, 2);
     }
     program_files::tell(b"sheet: --rule takes older or newer\n");
     stop(o)
 }
 
 // The capability word that argument i is.
-fn capabilities_step<R: Env>(rt: &R, o: Options, i: usize) -> Options {
+fn capabilities_step<R: Env>(rt: &R, mut o: Options, i: usize) -> Options {
     let mut word = io::buffer();
     let n = program_files::argument(rt, i, &mut word);
-    let form = o.form;
-    let rule = o.rule;
     match program_words::number_of(&word[..n]) {
-        Number::Value(capabilities) => with(o, form, rule, capabilities, 2),
-        Number::TooLarge => {
+        Ok(capabilities) => {
+            o.capabilities = capabilities;
+            after_option(o, 2)
+        }
+        Err(NumberError::TooLarge) => {
             program_files::tell(b"sheet: --capabilities takes a number of at most 4294967295\n");
             stop(o)
         }
-        Number::NotANumber => {
+        Err(NumberError::NotANumber) => {
             program_files::tell(b"sheet: --capabilities takes a decimal number\n");
             stop(o)
         }
@@ -219,11 +199,13 @@ fn tell_unknown(word: &[u8]) {
 }
 
 // One argument, and the one after it where an option takes that.
-fn answer_argument<R: Env + Files>(rt: &R, o: Options, word: &[u8]) -> Options {
-    let rule = o.rule;
+fn answer_argument<R: Env + Files>(rt: &R, mut o: Options, word: &[u8]) -> Options {
     let value = std::num::wrapping_add_usize(o.next, 1);
     match argument_of(word) {
-        Argument::OfForm(form) => with(o, form, rule, o.capabilities, 1),
+        Argument::OfForm(form) => {
+            o.form = form;
+            after_option(o, 1)
+        }
         Argument::Rule => rule_step(rt, o, value),
         Argument::Capabilities => capabilities_step(rt, o, value),
         Argument::File => {

@@ -1,7 +1,8 @@
 -- The layout sheet: the width of the column of names, which is wide enough for all that are not too long.
 -- Assumes nothing.
 use Rattle.std.specs.Prelude.{List, ℕ, zero, suc, min, max}
-use Rattle.sheet_types.specs.Types.{member_name, name_length}
+use Rattle.sheet_names.specs.Names.{member_name}
+use Rattle.sheet_types.specs.Types.{name_length}
 
 -- its head is `member`
 abbrev pub head_length : ℕ

@@ -7,28 +7,14 @@ use Prim.Native.Nat.{ℕ, zero, suc, ◌+◌, ◌-◌, ◌/◌, ◌%◌, ◌≤�
 use native.Mathlib.Omega.{arith}
 use native.Mathlib.Numerals.{add-one}
 use borrow.Author.Tests.{ne_eqb}
-use lib.ListN.{length, get_or, length-append}
+use lib.ListN.{length, length-append}
 use Rattle.ir_records.specs.Record.{type_word}
 use Rattle.io.specs.Digits.{last_digits, hex_digit_ascii, IsDigitCount}
 use Rattle.program_output.proofs.TextLaws.{fewest_digits, fewest_few}
-use Rattle.sheet_types.specs.Types.{is_hidden, visible_from, is_printable, name_length, inside_arrays}
+use Rattle.sheet_types.specs.Types.{is_printable, name_length, inside_arrays}
 
 one_more : (n k : ℕ) → k < n → n - k ≡ suc (n - (k + 1))
 one_more n k h = omega arith
-
--- ---- the bytes of a name
-module _ (name : List ℕ) (n i : ℕ) where
-  pub visible_step : i < n → is_hidden (get_or name i 0) ≡ false → visible_from name (n - i) i ≡ visible_from name (n - (i + 1)) (i + 1)
-  unfolding visible_from
-  visible_step h e = rw (one_more n i h, e)
-
-  pub visible_stop : i < n → is_hidden (get_or name i 0) ≡ true → visible_from name (n - i) i ≡ false
-  unfolding visible_from
-  visible_stop h e = rw (one_more n i h, e)
-
-  pub visible_done : n ≤ i → visible_from name (n - i) i ≡ true
-  unfolding visible_from
-  visible_done h = let none : n - i ≡ 0 = omega arith in rw none
 
 -- ---- the types inside arrays
 module _ (types : List ℕ) (depth k t : ℕ) where

@@ -1,29 +1,20 @@
 -- The layout sheet: names that can be printed, the types inside arrays, and the column step of a record.
 -- Assumes nothing.
-use Rattle.std.specs.Prelude.{Bool, true, false, ◌&&◌, ◌||◌, List, ℕ, zero, suc, ◌+◌, eqb, leb, ltb, length, get_or}
+use Rattle.std.specs.Prelude.{Bool, not, ◌&&◌, List, ℕ, zero, suc, eqb, leb, length}
+use Rattle.std.specs.List.{list_all}
 use Rattle.ir_records.specs.Result.{pick}
 use Rattle.ir_records.specs.Record.{type_word, matrix_kind, array_kind}
 use Rattle.proc_type_methods.specs.TypeMethods.{column_step}
 use Rattle.program_output.specs.Bytes.{decimal}
-use Rattle.sheet_names.specs.Names.{name_at, member_entry}
 
 -- ---- names
--- a blank, a control character or a byte that is not ASCII
-abbrev pub is_hidden : (byte : ℕ) → Bool
-is_hidden byte = leb byte 32 || leb 127 byte
+-- neither a blank nor a control character, and ASCII
+abbrev pub is_visible : (byte : ℕ) → Bool
+is_visible byte = leb 33 byte && leb byte 126
 
--- none among so many bytes from `at` on
-unfoldable pub visible_from : (name : List ℕ) (left at : ℕ) → Bool
-visible_from name zero at = true
-visible_from name (suc left) at = pick (is_hidden (get_or name at 0)) false (visible_from name left (at + 1))
-
--- none in the whole name; an empty name is none
+-- every byte of the name; an empty name is none
 abbrev pub is_printable : (name : List ℕ) → Bool
-is_printable name = visible_from name (length name) 0 && ltb 0 (length name)
-
--- the name of member j of struct i
-abbrev pub member_name : (text names types : List ℕ) (i j : ℕ) → List ℕ
-member_name text names types i j = name_at text names (member_entry (type_word types i 1 + j))
+is_printable name = list_all is_visible name && not (eqb (length name) 0)
 
 -- how many bytes stand for member j: its name's, or the digits of its number
 abbrev pub name_length : (name : List ℕ) (j : ℕ) → ℕ

@@ -6,7 +6,8 @@ ghost use Rattle.ir_rows.specs.Rows.{row_word};
 ghost use Rattle.valid_flags.specs.Flags.{bit, sized_bit, host_shareable_bit};
 ghost use Rattle.sheet_verdicts.specs.Row.{may_be_immediate, is_usable};
 
-use program_output::Buffer;
+use sheet_names::Named;
+use sheet_output::Writer;
 
 const SIZED: u32 = 2;
 
@@ -47,184 +48,121 @@ pub fn is_usable(rows: &[u32], i: u32) -> bool
 }
 
 // Size and alignment. A runtime-sized array counts as one element.
-pub fn put_measures(out: &mut Buffer, at: usize, rows: &[u32], i: u32) -> usize {
+pub fn put_measures(out: &mut Writer, rows: &[u32], i: u32) {
     let size = row_word(rows, i, 0) as u64;
     let alignment = row_word(rows, i, 1) as u64;
-    let mut end = sheet_output::put_with(out, at, b"size ", size, b"");
+    out.put_with(b"size ", size, b"");
     if !is_sized(rows, i) {
-        end = sheet_output::put_text(out, end, b" with one element");
+        out.put_text(b" with one element");
     }
-    sheet_output::put_with(out, end, b", alignment ", alignment, b"")
+    out.put_with(b", alignment ", alignment, b"");
 }
 
 // A member by its number and, where it has one, its name; and its struct, where that is another one.
-fn put_member(
-    out: &mut Buffer,
-    at: usize,
-    text: &[u8],
-    names: &[usize],
-    types: &[u32],
-    i: u32,
-    ty: u32,
-    j: u32,
-    page: bool,
-) -> usize {
-    let mut end = sheet_output::put_with(out, at, b"member ", j as u64, b" (");
-    end = sheet_types::put_member_name(out, end, text, names, types, ty, j, page);
-    end = sheet_output::put_byte(out, end, b')');
+fn put_member(out: &mut Writer, named: Named, i: u32, ty: u32, j: u32, page: bool) {
+    out.put_with(b"member ", j as u64, b" (");
+    sheet_types::put_member_name(out, named, ty, j, page);
+    out.put_byte(b')');
     if ty != i {
-        end = sheet_output::put_text(out, end, b" of ");
-        end = sheet_types::put_struct_name(out, end, text, names, ty, page);
+        out.put_text(b" of ");
+        sheet_types::put_struct_name(out, named, ty, page);
     }
-    end
 }
 
 // The type that a verdict names.
-fn put_subject(
-    out: &mut Buffer,
-    at: usize,
-    text: &[u8],
-    names: &[usize],
-    types: &[u32],
-    rows: &[u32],
-    i: u32,
-    word: u32,
-    page: bool,
-) -> usize {
+fn put_subject(out: &mut Writer, named: Named, rows: &[u32], i: u32, word: u32, page: bool) {
     let code = row_word(rows, i, word);
     let ty = row_word(rows, i, std::num::wrapping_add_u32(word, 1));
     let index = row_word(rows, i, std::num::wrapping_add_u32(word, 2));
     if (3 <= code) & (code <= 5) {
-        return put_member(out, at, text, names, types, i, ty, index, page);
+        put_member(out, named, i, ty, index, page);
+        return;
     }
-    sheet_types::put_type(out, at, text, names, types, ty, page)
+    sheet_types::put_type(out, named, ty, page);
 }
 
 // A number between two texts that must be a multiple of another one.
-fn put_multiple(
-    out: &mut Buffer,
-    at: usize,
-    before: &[u8],
-    value: u64,
-    after: &[u8],
-    bound: u64,
-) -> usize {
-    let end = sheet_output::put_with(out, at, before, value, after);
-    sheet_output::put_with(out, end, b" must be a multiple of ", bound, b"")
+fn put_multiple(out: &mut Writer, before: &[u8], value: u64, after: &[u8], bound: u64) {
+    out.put_with(before, value, after);
+    out.put_with(b" must be a multiple of ", bound, b"");
 }
 
 // What is wrong with a member that stands after a struct, is runtime-sized or is not host-shareable.
-fn put_other(out: &mut Buffer, at: usize, code: u32, value: u64, bound: u64) -> usize {
+fn put_other(out: &mut Writer, code: u32, value: u64, bound: u64) {
     if code == 4 {
-        let end = sheet_output::put_with(
-            out,
-            at,
-            b" at ",
-            value,
-            b" stands after a struct and must",
-        );
-        return sheet_output::put_with(out, end, b" be at ", bound, b" or later");
+        out.put_with(b" at ", value, b" stands after a struct and must");
+        out.put_with(b" be at ", bound, b" or later");
+        return;
     }
     if code == 5 {
-        return sheet_output::put_text(out, at, b" is runtime-sized");
+        out.put_text(b" is runtime-sized");
+        return;
     }
-    sheet_output::put_text(out, at, b" is not host-shareable")
+    out.put_text(b" is not host-shareable");
 }
 
 // What is wrong: a stride, a size or an offset, or something else.
-fn put_predicate(out: &mut Buffer, at: usize, code: u32, value: u64, bound: u64) -> usize {
+fn put_predicate(out: &mut Writer, code: u32, value: u64, bound: u64) {
     match code {
-        1 => put_multiple(
-            out,
-            at,
-            b" has its elements ",
-            value,
-            b" apart, which",
-            bound,
-        ),
-        2 => put_multiple(out, at, b" has size ", value, b", which", bound),
-        3 => put_multiple(out, at, b" at ", value, b"", bound),
-        _ => put_other(out, at, code, value, bound),
+        1 => put_multiple(out, b" has its elements ", value, b" apart, which", bound),
+        2 => put_multiple(out, b" has size ", value, b", which", bound),
+        3 => put_multiple(out, b" at ", value, b"", bound),
+        _ => put_other(out, code, value, bound),
     }
 }
 
 // A verdict that is not Ok, from its first word in the row of type i.
-fn put_reason(
-    out: &mut Buffer,
-    at: usize,
-    text: &[u8],
-    names: &[usize],
-    types: &[u32],
-    rows: &[u32],
-    i: u32,
-    word: u32,
-    page: bool,
-) -> usize {
-    let end = put_subject(out, at, text, names, types, rows, i, word, page);
+fn put_reason(out: &mut Writer, named: Named, rows: &[u32], i: u32, word: u32, page: bool) {
+    put_subject(out, named, rows, i, word, page);
     let code = row_word(rows, i, word);
     let value = row_word(rows, i, std::num::wrapping_add_u32(word, 3));
     let bound = row_word(rows, i, std::num::wrapping_add_u32(word, 4));
-    put_predicate(out, end, code, value as u64, bound as u64)
+    put_predicate(out, code, value as u64, bound as u64);
 }
 
 // The verdict whose words begin at `word` of the row: 3 for uniform, 8 for storage.
-pub fn put_verdict(
-    out: &mut Buffer,
-    at: usize,
-    text: &[u8],
-    names: &[usize],
-    types: &[u32],
-    rows: &[u32],
-    i: u32,
-    word: u32,
-    page: bool,
-) -> usize {
+pub fn put_verdict(out: &mut Writer, named: Named, rows: &[u32], i: u32, word: u32, page: bool) {
     if row_word(rows, i, word) != 0 {
-        return put_reason(out, at, text, names, types, rows, i, word, page);
+        put_reason(out, named, rows, i, word, page);
+        return;
     }
     if !is_shareable(rows, i) {
-        return sheet_output::put_text(out, at, b"no, the struct is not host-shareable");
+        out.put_text(b"no, the struct is not host-shareable");
+        return;
     }
     let alignment = row_word(rows, i, std::num::wrapping_add_u32(word, 1)) as u64;
-    sheet_output::put_with(out, at, b"ok, ", alignment, b"")
+    out.put_with(b"ok, ", alignment, b"");
 }
 
 // Whether bit k of a mask is set.
 fn has_slot(mask: u64, k: u32) -> bool {
-    if k < 64 {
-        return mask >> k & 1 == 1;
-    }
-    false
+    (k < 64) && (mask >> k & 1 == 1)
 }
 
 // The slot after a run of slots that are all set.
 fn run_end(mask: u64, from: u32) -> u32 {
-    let mut k = from;
-    while k < 64 {
+    for k in from..64 {
         if !has_slot(mask, k) {
             return k;
         }
-        k += 1;
     }
-    k
+    64
 }
 
 // The slots from one up to another, which is not among them.
-fn put_run(out: &mut Buffer, at: usize, from: u32, end: u32) -> usize {
+fn put_run(out: &mut Writer, from: u32, end: u32) {
     let last = std::num::wrapping_sub_u32(end, 1);
-    let first = sheet_output::put_with(out, at, b" ", from as u64, b"");
-    if from == last {
-        return first;
+    out.put_with(b" ", from as u64, b"");
+    if from != last {
+        out.put_with(b"-", last as u64, b"");
     }
-    sheet_output::put_with(out, first, b"-", last as u64, b"")
 }
 
 // A run, where there is one.
-fn put_some(out: &mut Buffer, at: usize, from: u32, end: u32) -> usize {
+fn put_some(out: &mut Writer, from: u32, end: u32) {
     if from < end {
-        return put_run(out, at, from, end);
+        put_run(out, from, end);
     }
-    at
 }
 
 // The slot to look at after a run from k up to `last`, or after k where there is none.
@@ -236,24 +174,22 @@ fn past(k: u32, last: u32) -> u32
 }
 
 // The slots of a mask, in runs.
-fn put_mask(out: &mut Buffer, at: usize, mask: u64) -> usize {
-    let mut end = at;
+fn put_mask(out: &mut Writer, mask: u64) {
     let mut k: u32 = 0;
+    // Kept: a step is as long as a run of slots, so no range counts it.
     while k < 64 {
         let last = run_end(mask, k);
-        end = put_some(out, end, k, last);
+        put_some(out, k, last);
         k = past(k, last);
     }
-    end
 }
 
 // Slots that are touched, and those of them that are covered only in part.
-pub fn put_slots(out: &mut Buffer, at: usize, touched: u64, partly: u64) -> usize {
-    let end = sheet_output::put_text(out, at, b"slots");
-    let last = put_mask(out, end, touched);
-    if partly == 0 {
-        return last;
+pub fn put_slots(out: &mut Writer, touched: u64, partly: u64) {
+    out.put_text(b"slots");
+    put_mask(out, touched);
+    if partly != 0 {
+        out.put_text(b"; only a part of");
+        put_mask(out, partly);
     }
-    let next = sheet_output::put_text(out, last, b"; only a part of");
-    put_mask(out, next, partly)
 }

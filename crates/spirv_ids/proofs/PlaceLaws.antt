@@ -1,26 +1,23 @@
 -- The instructions before a place, split at one of them; how many types are read before it; where a search may begin.
 -- Assumes nothing.
 use mathlib.Core.Path.{◌≡◌, refl, sym, ap, ◌∙◌}
-use mathlib.Core.Bool.{Bool, true, false, ◌&&◌, ◌||◌}
+use mathlib.Core.Bool.{Bool, true, false, not, ◌&&◌, ◌||◌}
 use mathlib.Core.List.{List, [], ◌∷◌, ◌++◌, append_assoc}
 use Prim.Native.Nat.{ℕ, ◌+◌, ◌-◌, ◌≤◌, ◌<◌}
 use native.Mathlib.Omega.{arith}
 use native.Mathlib.Decide.{dec_le}
 use lib.Dec.{eqb, leb}
-use borrow.Author.Tests.{leb-true, le-leb, eqb-true}
+use borrow.Author.Tests.{leb-true, le-leb, eqb-true, eqb-false, ne_eqb}
+use Rattle.std.specs.Prelude.{None, Some}
+use Rattle.std.specs.Option.{is_some}
+use Rattle.std.proofs.lemmas.Option.{none-some, same_Some}
 use Rattle.ir_records.specs.Result.{pick}
 use Rattle.spirv_words.specs.Module.{opcode, word_count, is_type, is_read, type_int, header_words, starts, between, before, first, count}
 use Rattle.spirv_words.specs.Decorations.{is_integer}
 use Rattle.spirv_words.proofs.SearchLaws.{between_next, between_end, search_on, search_end, found_below}
-use Rattle.spirv_ids.specs.Ids.{integer_before, is_constant, gives, giver, type_number}
+use Rattle.spirv_ids.specs.declared.Giver.{Giver}
+use Rattle.spirv_ids.specs.Ids.{integer_before, is_constant, gives, giver, giver_found, type_number}
 use Rattle.spirv_ids.specs.Places.{Stands, may_give, GivesFrom}
-
-pub asked_first : (p q r : Bool) → ((p && q) && r) ≡ ((p && r) && (p && q))
-asked_first true true true = refl
-asked_first true true false = refl
-asked_first true false true = refl
-asked_first true false false = refl
-asked_first false q r = refl
 
 and_true : (a b : Bool) → (a && b) ≡ true → (a ≡ true) × (b ≡ true)
 and_true true b e = (refl, e)
@@ -148,3 +145,37 @@ giver_before ws at id = by (dec_le 1 (giver ws at id))
     by : Dec (1 ≤ giver ws at id) → giver ws at id ≤ at
     by (yes h) = omega (arith, giver_below ws at id h)
     by (no h) = omega (arith, h)
+
+-- ---- the giver as an option
+module _ (ws : List ℕ) (at id : ℕ) where
+  pub giver_missing : giver ws at id ≡ 0 → None ≡ giver_found ws at id
+  giver_missing e = rw e
+
+  pub giver_here : (p n : ℕ) → 0 < p → p ≡ giver ws at id → n ≡ type_number ws p → Some (record { at = p; number = n }) ≡ giver_found ws at id
+  giver_here p n h e f = rw (sym e, ne_eqb p 0 (λ z. omega (arith, h, z)), f)
+
+  pub giver_none : None ≡ giver_found ws at id → giver ws at id ≡ 0
+  giver_none e = by (eqb (giver ws at id) 0) refl
+    where
+      by : (b : Bool) → eqb (giver ws at id) 0 ≡ b → giver ws at id ≡ 0
+      by true t = eqb-true (giver ws at id) 0 t
+      by false t = absurd (none-some _ (rw t at e))
+
+  pub giver_some : (g : Giver) → Some g ≡ giver_found ws at id → (giver ws at id ≡ g.at) × (g.number ≡ type_number ws g.at) × (0 < g.at)
+  giver_some g e = by (eqb (giver ws at id) 0) refl
+    where
+      by : (b : Bool) → eqb (giver ws at id) 0 ≡ b → (giver ws at id ≡ g.at) × (g.number ≡ type_number ws g.at) × (0 < g.at)
+      by true t = absurd (none-some _ (sym (rw t at e)))
+      by false t =
+          let is = same_Some _ _ (rw t at e) in
+          let place : g.at ≡ giver ws at id = ap (λ (x : Giver). x.at) is in
+          (sym place, ap (λ (x : Giver). x.number) is ∙ ap (type_number ws) (sym place), omega (arith, eqb-false (giver ws at id) 0 t, place))
+
+  pub giver_is : (r : Bool) → is_some (giver_found ws at id) ≡ not r → r ≡ eqb (giver ws at id) 0
+  giver_is r e = by r (eqb (giver ws at id) 0) refl e
+    where
+      by : (r b : Bool) → eqb (giver ws at id) 0 ≡ b → is_some (giver_found ws at id) ≡ not r → r ≡ eqb (giver ws at id) 0
+      by true true t e = sym t
+      by false false t e = sym t
+      by true false t e = absurd (true_false (rw t at e))
+      by false true t e = absurd (true_false (sym (rw t at e)))

@@ -1,9 +1,10 @@
 -- What an id stands for at an instruction, by the instructions before it (Khronos SPIR-V specification, 'Result <id>').
 -- Assumes nothing.
-use Rattle.std.specs.Prelude.{Bool, ◌&&◌, ◌||◌, List, ℕ, eqb, ltb}
+use Rattle.std.specs.Prelude.{Bool, ◌&&◌, ◌||◌, List, Option, Some, None, ℕ, eqb, ltb}
 use Rattle.ir_records.specs.Result.{pick}
 use Rattle.spirv_words.specs.Module.{opcode, word, is_type, is_read, constant, before, first, count}
 use Rattle.spirv_words.specs.Decorations.{is_integer}
+use Rattle.spirv_ids.specs.declared.Giver.{Giver}
 use Rattle.spirv_ids.specs.declared.Sort.{Sort}
 use Rattle.spirv_ids.specs.declared.Sort.TheVariants.{Unknown, OtherType, TypeRead, ConstantAt}
 
@@ -26,6 +27,11 @@ giver ws at id = first (gives ws id) (before ws at)
 -- the number of the type that is read at `at`: one record a type, in word order
 unfoldable pub type_number : (ws : List ℕ) (at : ℕ) → ℕ
 type_number ws at = count (λ p. is_read (opcode ws p)) (before ws at)
+
+-- the giver as an option, with its number
+abbrev pub giver_found : (ws : List ℕ) (at id : ℕ) → Option Giver
+giver_found ws at id =
+    pick (eqb (giver ws at id) 0) None (Some (record { at = giver ws at id; number = type_number ws (giver ws at id) }))
 
 -- what the instruction at g gives
 unfoldable pub sort_at : (ws : List ℕ) (g : ℕ) → Sort

@@ -4,19 +4,13 @@
 ghost use Rattle.std.specs.Prelude.{◌≡◌, ◌++◌, ◌+◌, ◌*◌, ◌/◌, ◌≤◌, length, take, drop};
 ghost use Rattle.spirv_input.specs.Bytes.{word_of, words_in};
 
-fn word_from(a: u8, b: u8, c: u8, d: u8) -> u32
-    ensures { result ≡ a + 256 * b + 65536 * c + 16777216 * d }
-{
-    (a as u32) + 256 * (b as u32) + 65536 * (c as u32) + 16777216 * (d as u32)
-}
-
 // Word k of the bytes.
 pub fn word_of(bytes: &[u8], k: usize) -> u32
     requires { k * 4 + 4 ≤ length bytes.now }
     ensures { result ≡ word_of bytes.now k }
 {
     let at = k * 4;
-    word_from(bytes[at], bytes[at + 1], bytes[at + 2], bytes[at + 3])
+    u32::from_le_bytes([bytes[at], bytes[at + 1], bytes[at + 2], bytes[at + 3]])
 }
 
 // Appends the words of the bytes after those that are held, and answers how many are held then.
@@ -25,10 +19,8 @@ pub fn append(words: &mut [u32], held: usize, bytes: &[u8]) -> usize
     ensures { (result ≡ held + length bytes.now / 4) × (words.new ≡ take held words.old ++ words_in bytes.now (length bytes.now / 4) ++ drop (held + length bytes.now / 4) words.old) }
 {
     let n = bytes.len() / 4;
-    let mut k = 0;
-    while k < n {
+    for k in 0..n {
         words[held + k] = word_of(bytes, k);
-        k += 1;
     }
     held + n
 }

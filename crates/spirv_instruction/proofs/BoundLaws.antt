@@ -17,7 +17,8 @@ use Rattle.spirv_members.specs.Members.{is_type_read, is_other, number_of, membe
 use Rattle.spirv_members.specs.Serving.{Bounded}
 use Rattle.spirv_members.proofs.MemberLaws.{scalar-width, vector_bounds}
 use Rattle.spirv_members.proofs.NumberLaws.{and_true}
-use Rattle.spirv_types.specs.Types.{State, Typed, judged, typed, words_of, is_fresh, width_ok, sign_kind, parts_ok, base_sort, base_word, stride_at, stride_of, length_of, length_sort, span_of, bool_type, int_type, float_type, vector_type, matrix_type, array_type, runtime_array_type, struct_type, type_by, type_at}
+use Rattle.spirv_types.specs.declared.Typed.{Typed}
+use Rattle.spirv_types.specs.Types.{State, judged, typed, words_of, is_fresh, width_ok, sign_kind, parts_ok, base_sort, base_word, stride_at, stride_of, length_of, length_sort, span_of, bool_type, int_type, float_type, vector_type, matrix_type, array_type, runtime_array_type, struct_type, type_by, type_at}
 use Rattle.spirv_types.proofs.TypeLaws.{width_within}
 
 zero_one : ◌≡◌ {A = ℕ} 0 1 → ⊥

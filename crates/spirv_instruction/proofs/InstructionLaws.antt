@@ -13,11 +13,9 @@ use Rattle.ir_records.specs.Record.{member_words, member_count}
 use Rattle.spirv_words.specs.Module.{word_count, opcode, is_read}
 use Rattle.spirv_members.specs.Members.{member_rows}
 use Rattle.spirv_members.proofs.NumberLaws.{and_true}
-use Rattle.spirv_types.specs.Types.{State, Typed, type_at}
-use Rattle.spirv_instruction.specs.declared.Judged.{Judged}
-use Rattle.spirv_instruction.specs.declared.Judged.TheVariants as judge
+use Rattle.spirv_types.specs.declared.Typed.{Typed}
+use Rattle.spirv_types.specs.Types.{State, type_at}
 use Rattle.spirv_instruction.specs.Instruction.{told_by, words_ok, row_count, fits, with_type, type_read, other_read, instruction}
-use Rattle.spirv_instruction.specs.Serving.{NoType, TypeTold, Told}
 
 -- a table of so many rows
 abbrev pub some_rows : (n : ℕ) → List ℕ
@@ -58,13 +56,3 @@ module _ (t m : ℕ) (ws : List ℕ) (at : ℕ) where
     pub instruction_other : words_ok ws at ≡ true → is_read (opcode ws at) ≡ false → instruction t m ws at s ≡ other_read ws at s
     unfolding instruction
     instruction_other e f = rw (e, f)
-
-  pub told_type : (types members : ℕ) → 0 < word_count ws at → is_read (opcode ws at) ≡ true → (r : Judged) → TypeTold t m types members r → Told t m ws at types members r
-  told_type types members k e judge.Skipped h = absurd h
-  told_type types members k e (judge.Type words alignment rows) h = (k, e, h.0, h.1, h.2)
-  told_type types members k e (judge.Refused number) h = tt
-
-  pub told_other : (types members : ℕ) → 0 < word_count ws at → is_read (opcode ws at) ≡ false → (r : Judged) → NoType r → Told t m ws at types members r
-  told_other types members k e judge.Skipped h = (k, e)
-  told_other types members k e (judge.Type words alignment rows) h = absurd h
-  told_other types members k e (judge.Refused number) h = tt

@@ -9,7 +9,8 @@ use Rattle.spirv_words.specs.Module.{word_count, opcode, word, is_type, is_read,
 use Rattle.spirv_words.specs.Decorations.{array_stride, offset, matrix_stride}
 use Rattle.spirv_ids.specs.Ids.{giver, integer_before, is_constant}
 use Rattle.spirv_members.specs.Members.{member_count_at, member_rows}
-use Rattle.spirv_types.specs.Types.{State, Typed, type_at}
+use Rattle.spirv_types.specs.declared.Typed.{Typed}
+use Rattle.spirv_types.specs.Types.{State, type_at}
 
 -- ---- 28: the least word count of an instruction whose words are looked at
 -- an OpConstant of a 64-bit integer type has two words of value; one of no integer type is skipped

@@ -7,7 +7,7 @@ use Prim.Native.Nat.{ℕ, ◌+◌, ◌≤◌, ◌<◌}
 use native.Mathlib.Omega.{arith}
 use lib.ListN.{length, get_elem?}
 use Rattle.valid_type_info.specs.declared.UniformRule.{UniformRule}
-use Rattle.place_descent.specs.declared.Place.TheVariants.{At}
+use Rattle.place_descent.specs.Place.{At}
 use Rattle.place_descent.specs.Place.{place_of}
 use Rattle.place_term3.specs.Term3.{row_in, leaf_measure, InLeaf, BetweenColumns, rewrite}
 use Rattle.place_term3.proofs.Term3Proof.{term3}

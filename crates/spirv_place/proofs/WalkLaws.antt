@@ -10,7 +10,7 @@ use lib.ListN.{length}
 use borrow.Author.Tests.{lt-ltb, leb-true, ne_eqb}
 use Rattle.ir_records.specs.Result.{pick}
 use Rattle.ir_records.specs.Record.{Decoded, decoded, type_count, type_inner, inner_of, member_count, scalar_kind, vector_kind, matrix_kind, array_kind, struct_kind}
-use Rattle.ir_records.specs.declared.Outcome.TheVariants.{Accepted}
+use Rattle.ir_records.specs.Outcome.{Accepted}
 use Rattle.ir_records.specs.declared.Leaf.{Leaf}
 use Rattle.ir_records.specs.declared.Leaf.TheVariants.{Scalar, Vector, Matrix}
 use Rattle.ir_records.specs.declared.TypeInner.TheVariants.{Plain}
@@ -21,10 +21,10 @@ use Rattle.valid_type_info.specs.Verdict.{least_for}
 use Rattle.valid_arena.specs.Arena.{arena}
 use Rattle.valid_arena.proofs.AcceptedLaws.{row_size}
 use Rattle.valid_arena.proofs.ArenaLaws.{accepted_types}
-use Rattle.place_steps.specs.declared.Step.{Step}
-use Rattle.place_steps.specs.declared.Step.TheVariants.{To, Column, NoStep}
-use Rattle.place_descent.specs.declared.Place.{Place}
-use Rattle.place_descent.specs.declared.Place.TheVariants.{At, NoPlace}
+use Rattle.place_steps.specs.Step.{Step}
+use Rattle.place_steps.specs.Step.{To, Column, NoStep}
+use Rattle.place_descent.specs.Place.{Place}
+use Rattle.place_descent.specs.Place.{At, NoPlace}
 use Rattle.place_descent.specs.Place.{ended, follow, walk, place_in, place_of}
 use Rattle.place_term3.specs.Term3.{row_in, leaf_measure, first_element, after, FirstElements}
 use Rattle.spirv_words.specs.Module.{opcode, word, type_bool, type_vector, type_matrix, type_runtime_array}

@@ -4,10 +4,10 @@
 use Rattle.std.specs.Prelude.{Bool, ◌&&◌, List, [], ◌∷◌, ◌≡◌, ℕ, ◌+◌, ◌*◌, ◌^◌, eqb, leb, ltb}
 use Rattle.ir_records.specs.Result.{pick}
 use Rattle.proc_type_methods.specs.TypeMethods.{column_step}
-use Rattle.place_steps.specs.declared.Step.{Step}
-use Rattle.place_steps.specs.declared.Step.TheVariants.{To, Column, NoStep}
-use Rattle.place_descent.specs.declared.Place.{Place}
-use Rattle.place_descent.specs.declared.Place.TheVariants.{At, NoPlace}
+use Rattle.place_steps.specs.Step.{Step}
+use Rattle.place_steps.specs.Step.{To, Column, NoStep}
+use Rattle.place_descent.specs.Place.{Place}
+use Rattle.place_descent.specs.Place.{At, NoPlace}
 use Rattle.place_descent.specs.Place.{walk}
 use Rattle.spirv_words.specs.Module.{opcode, word, type_bool, type_vector, type_matrix, type_array, type_runtime_array, type_struct}
 use Rattle.spirv_ids.specs.Ids.{giver, type_number}

@@ -9,7 +9,7 @@ use Rattle.ir_records.specs.Record.{decoded}
 use Rattle.proc_type_methods.specs.TypeMethods.{column_step}
 use Rattle.valid_type_info.specs.declared.UniformRule.{UniformRule}
 use Rattle.valid_type_info.specs.Verdict.{is_ok, alignment_in}
-use Rattle.place_descent.specs.declared.Place.TheVariants.{At}
+use Rattle.place_descent.specs.Place.{At}
 use Rattle.place_descent.specs.Place.{place_of}
 use Rattle.place_term3.specs.Term3.{row_in, HostShareableData, StridesCover, rewrite}
 use Rattle.spirv_words.specs.Module.{opcode, word, type_matrix, type_struct, before}

@@ -17,7 +17,12 @@ use Rattle.spirv_ids.specs.Places.{Stands}
 use Rattle.spirv_ids.proofs.PlaceLaws.{stands_first, stands_next, number_next}
 use Rattle.spirv_types.specs.Types.{State}
 use Rattle.spirv_instruction.specs.Instruction.{instruction, types_room, members_room}
-use Rattle.spirv_read.specs.declared.Section.TheVariants.{Read, Refused}
+use Rattle.std.specs.Prelude as std
+use Rattle.std.specs.Result.{is_err}
+use Rattle.ir_records.specs.declared.Fault.{Fault}
+use Rattle.ir_records.specs.declared.Records.{Records}
+use Rattle.ir_records.specs.Refusal.{number_of}
+use Rattle.spirv_read.specs.Section.{Read, Refused, section_answer_of}
 use Rattle.spirv_read.specs.Read.{read_from, none, read_module, read_into, section_of, types_after, members_after}
 use Rattle.spirv_read.specs.Serving.{state_in, Room, Held, Stepped, FilledTypes, FilledMembers}
 use Rattle.spirv_read.proofs.PutLaws.{bounded_none}
@@ -146,18 +151,29 @@ module _ (ws types members : List ℕ) where
 read_refused : (a b n : ℕ) → Read a b ≡ Refused n → ⊥
 read_refused a b n e = let z : ◌≡◌ {A = ℕ} 0 1 = cc in absurd (omega arith)
 
-pub filled_types : (r : Result State) (a b : ℕ) (was is : List ℕ) → Read a b ≡ section_of r → FilledTypes r was is → is ≡ types_after r was
-filled_types (err n m d) a b was is e f = absurd (read_refused a b n e)
-filled_types (ok s) a b was is e f = f
+false_true : false ≡ true → ⊥
+false_true e = let z : ◌≡◌ {A = ℕ} 0 1 = cc in absurd (omega arith)
 
-pub filled_members : (r : Result State) (a b : ℕ) (was is : List ℕ) → Read a b ≡ section_of r → FilledMembers r was is → is ≡ members_after r was
-filled_members (err n m d) a b was is e f = absurd (read_refused a b n e)
-filled_members (ok s) a b was is e f = f
+pub filled_types : (r : Result State) (x : std.Result Records Fault) (was is : List ℕ) → is_err x ≡ false → section_answer_of x ≡ section_of r
+    → FilledTypes r was is → is ≡ types_after r was
+filled_types r (std.Err fault) was is b e f = absurd (false_true (sym b))
+filled_types (err n m d) (std.Ok records) was is b e f = absurd (read_refused _ _ n e)
+filled_types (ok s) (std.Ok records) was is b e f = f
 
-pub refused_types : (r : Result State) (n : ℕ) (was : List ℕ) → Refused n ≡ section_of r → replicate (length was) 0 ≡ types_after r was
-refused_types (err m x d) n was e = refl
-refused_types (ok s) n was e = absurd (read_refused _ _ n (sym e))
+pub filled_members : (r : Result State) (x : std.Result Records Fault) (was is : List ℕ) → is_err x ≡ false → section_answer_of x ≡ section_of r
+    → FilledMembers r was is → is ≡ members_after r was
+filled_members r (std.Err fault) was is b e f = absurd (false_true (sym b))
+filled_members (err n m d) (std.Ok records) was is b e f = absurd (read_refused _ _ n e)
+filled_members (ok s) (std.Ok records) was is b e f = f
 
-pub refused_members : (r : Result State) (n : ℕ) (was : List ℕ) → Refused n ≡ section_of r → replicate (length was) 0 ≡ members_after r was
-refused_members (err m x d) n was e = refl
-refused_members (ok s) n was e = absurd (read_refused _ _ n (sym e))
+pub refused_types : (r : Result State) (x : std.Result Records Fault) (was : List ℕ) → is_err x ≡ true → section_answer_of x ≡ section_of r
+    → replicate (length was) 0 ≡ types_after r was
+refused_types r (std.Ok records) was b e = absurd (false_true b)
+refused_types (err m d k) (std.Err fault) was b e = refl
+refused_types (ok s) (std.Err fault) was b e = absurd (read_refused _ _ (number_of fault) (sym e))
+
+pub refused_members : (r : Result State) (x : std.Result Records Fault) (was : List ℕ) → is_err x ≡ true → section_answer_of x ≡ section_of r
+    → replicate (length was) 0 ≡ members_after r was
+refused_members r (std.Ok records) was b e = absurd (false_true b)
+refused_members (err m d k) (std.Err fault) was b e = refl
+refused_members (ok s) (std.Err fault) was b e = absurd (read_refused _ _ (number_of fault) (sym e))

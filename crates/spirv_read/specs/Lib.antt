@@ -1,2 +1,3 @@
+pub mod Section
 pub mod Read
 pub mod Serving

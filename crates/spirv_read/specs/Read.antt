@@ -1,13 +1,12 @@
 -- 02, E5: the type section of a module, instruction by instruction in word order, and what the lent tables hold at the end.
 -- Assumes nothing.
-use Rattle.std.specs.Prelude.{List, [], ◌++◌, ℕ, zero, suc, ◌+◌, ◌*◌, ltb, length, take, drop, replicate}
+use Rattle.std.specs.Prelude.{List, [], ◌++◌, ℕ, zero, suc, ◌+◌, ltb, length, drop, replicate}
 use Rattle.ir_records.specs.Result.{Result, err, ok, pick, require, and_then}
-use Rattle.ir_records.specs.Record.{type_words, member_words, type_count, member_count}
+use Rattle.ir_records.specs.Record.{type_count, member_count}
 use Rattle.spirv_words.specs.Module.{header_ok, header_words, word_count}
 use Rattle.spirv_types.specs.Types.{State}
 use Rattle.spirv_instruction.specs.Instruction.{types_room, members_room, instruction}
-use Rattle.spirv_read.specs.declared.Section.{Section}
-use Rattle.spirv_read.specs.declared.Section.TheVariants.{Read, Refused}
+use Rattle.spirv_read.specs.Section.{Section, Read, Refused}
 
 -- ---- from word `at` on, at most `left` instructions
 unfoldable pub read_from : (t m : ℕ) (ws : List ℕ) (left at : ℕ) → State → Result State

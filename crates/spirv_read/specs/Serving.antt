@@ -9,8 +9,10 @@ use Rattle.spirv_ids.specs.Ids.{type_number}
 use Rattle.spirv_members.specs.Serving.{Bounded}
 use Rattle.spirv_types.specs.Types.{State}
 use Rattle.spirv_instruction.specs.Instruction.{instruction}
-use Rattle.spirv_read.specs.declared.Step.{Step}
-use Rattle.spirv_read.specs.declared.Step.TheVariants.{Next, Stopped}
+use Rattle.std.specs.Prelude as std
+use Rattle.ir_records.specs.declared.Fault.{Fault}
+use Rattle.ir_records.specs.declared.Records.{Records}
+use Rattle.ir_records.specs.Refusal.{number_of}
 
 abbrev pub state_in : (types members alignments : List ℕ) (t m : ℕ) → State
 state_in types members alignments t m =
@@ -44,11 +46,11 @@ pub record Stepped (t m : ℕ) (ws : List ℕ) (at : ℕ) (types members alignme
   pub rising_members : b ≤ b'
   pub bounded : Bounded (take (a' * type_words) types')
 
-abbrev pub StepIs : (t m : ℕ) (ws : List ℕ) (at : ℕ) (types members alignments types' members' alignments' : List ℕ) (a b : ℕ) → Step → Type 0
-StepIs t m ws at types members alignments types' members' alignments' a b (Next a' b') =
-    Stepped t m ws at types members alignments types' members' alignments' a b a' b'
-StepIs t m ws at types members alignments types' members' alignments' a b (Stopped number) =
-    instruction t m ws at (state_in types members alignments a b) ≡ err number 0 0
+abbrev pub StepIs : (t m : ℕ) (ws : List ℕ) (at : ℕ) (types members alignments types' members' alignments' : List ℕ) (a b : ℕ) → std.Result Records Fault → Type 0
+StepIs t m ws at types members alignments types' members' alignments' a b (std.Ok held) =
+    Stepped t m ws at types members alignments types' members' alignments' a b held.types held.members
+StepIs t m ws at types members alignments types' members' alignments' a b (std.Err fault) =
+    instruction t m ws at (state_in types members alignments a b) ≡ err (number_of fault) 0 0
 
 -- the tables of a reading that is not refused
 abbrev pub FilledTypes : Result State → (was is : List ℕ) → Type 0

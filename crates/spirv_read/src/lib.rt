@@ -8,25 +8,14 @@ ghost use Rattle.spirv_ids.specs.Places.{GivesFrom};
 ghost use Rattle.spirv_members.specs.Members.{member_number, offset_of, member_rows};
 ghost use Rattle.spirv_members.specs.Serving.{Ready};
 ghost use Rattle.spirv_instruction.specs.Instruction.{listed};
+ghost use Rattle.spirv_read.specs.Section.{section_answer_of};
 ghost use Rattle.spirv_read.specs.Read.{read_from, none, read_into, section_of, types_after, members_after};
 ghost use Rattle.spirv_read.specs.Serving.{Room, Held, StepIs, FilledTypes, FilledMembers};
 
-use ir_records::Words;
-use spirv_instruction::Judged;
-
-// How many types and members were read, or the number of the refusal.
-#[derive(Clone, Copy)]
-pub enum Section {
-    Read { types: u32, members: u32 },
-    Refused { number: u32 },
-}
-
-// How many types and members are held after an instruction, or the number of the refusal.
-#[derive(Clone, Copy)]
-pub enum Step {
-    Next { types: u32, members: u32 },
-    Stopped(u32),
-}
+use ir_records::{Fault, Records, Words};
+use spirv_ids::Place;
+use spirv_instruction::{Made, Space};
+use spirv_members::Tables;
 
 const MAGIC: u32 = 119734787;
 
@@ -39,11 +28,7 @@ fn put(words: &mut [u32], at: usize, part: &[u32])
     requires { at + length part.now ≤ length words.old }
     ensures { words.new ≡ with_part (length part.now) words.old at part.now }
 {
-    let mut j = 0;
-    while j < part.len() {
-        words[at + j] = part[j];
-        j += 1;
-    }
+    words[at..at + part.len()].copy_from_slice(part);
 }
 
 fn put_type(types: &mut [u32], t: u32, w: Words)
@@ -64,111 +49,82 @@ fn put_alignment(alignments: &mut [u32], t: u32, alignment: u32)
 }
 
 // The row of member j.
-fn put_member(words: &[u32], from: usize, at: usize, members: &mut [u32], row: usize, j: u32)
-    requires ready { Ready words.now from at }
+fn put_member(place: Place, members: &mut [u32], row: usize, j: u32)
+    requires ready { Ready place.words.now place.from place.at }
     requires j_bound { j ≤ 65533 }
     requires row_in_bounds { row * 4 + 4 ≤ length members.old }
-    ensures { members.new ≡ with_part 4 members.old (row * 4) (member_number words.now at j ∷ offset_of words.now at j ∷ 0 ∷ 0 ∷ []) }
+    ensures { members.new ≡ with_part 4 members.old (row * 4) (member_number place.entry.words.now place.entry.at j ∷ offset_of place.entry.words.now place.entry.at j ∷ 0 ∷ 0 ∷ []) }
 {
-    let place = row * ir_records::MEMBER_WORDS;
-    let number = spirv_members::number_of(spirv_members::member_sort(words, from, at, j));
-    let offset = spirv_members::offset_of(words, at, j);
+    let start = row * ir_records::MEMBER_WORDS;
+    let number = spirv_members::number_of(spirv_members::member_sort(place, j));
+    let offset = spirv_members::offset_of(place.words, place.at, j);
     let part = [number, offset, 0, 0];
-    put(members, place, &part);
+    put(members, start, &part);
 }
 
 // The rows of n members, from row m on.
-fn put_members(words: &[u32], from: usize, at: usize, members: &mut [u32], m: u32, n: u32)
-    requires ready { Ready words.now from at }
+fn put_members(place: Place, members: &mut [u32], m: u32, n: u32)
+    requires ready { Ready place.words.now place.from place.at }
     requires n_bound { m + n ≤ 4096 }
     requires n_in_bounds { (m + n) * 4 ≤ length members.old }
-    ensures { members.new ≡ with_part (n * 4) members.old (m * 4) (member_rows words.now at n) }
+    ensures { members.new ≡ with_part (n * 4) members.old (m * 4) (member_rows place.entry.words.now place.entry.at n) }
 {
-    let mut j: u32 = 0;
-    while j < n {
+    for j in 0..n {
         let row = (m as usize) + (j as usize);
-        put_member(words, from, at, members, row, j);
-        j += 1;
+        put_member(place, members, row, j);
     }
 }
 
-// The records of a type: its own, those of its members, and its alignment.
+// The records of a type: its own, those of its members, and its alignment. So many are held before it.
 fn put_all(
-    words: &[u32],
-    from: usize,
-    at: usize,
+    place: Place,
     types: &mut [u32],
     members: &mut [u32],
     alignments: &mut [u32],
-    t: u32,
-    m: u32,
-    w: Words,
-    alignment: u32,
-    rows: u32,
+    held: Records,
+    made: Made,
 )
-    requires ready { Ready words.now from at }
-    requires t_in_bounds { t * 6 + 6 ≤ length types.old }
-    requires rows_bound { m + rows ≤ 4096 }
-    requires rows_in_bounds { (m + rows) * 4 ≤ length members.old }
-    requires t_in_bounds_2 { t < length alignments.old }
-    ensures { (types.new ≡ with_part 6 types.old (t * 6) (listed w)) × (members.new ≡ with_part (rows * 4) members.old (m * 4) (member_rows words.now at rows)) × (alignments.new ≡ with_part 1 alignments.old t (alignment ∷ [])) }
+    requires ready { Ready place.words.now place.from place.at }
+    requires t_in_bounds { held.types * 6 + 6 ≤ length types.old }
+    requires rows_bound { held.members + made.rows ≤ 4096 }
+    requires rows_in_bounds { (held.members + made.rows) * 4 ≤ length members.old }
+    requires t_in_bounds_2 { held.types < length alignments.old }
+    ensures { (types.new ≡ with_part 6 types.old (held.types * 6) (listed made.typed.words)) × (members.new ≡ with_part (made.rows * 4) members.old (held.members * 4) (member_rows place.entry.words.now place.entry.at made.rows)) × (alignments.new ≡ with_part 1 alignments.old held.types (made.typed.alignment ∷ [])) }
 {
-    put_type(types, t, w);
-    put_members(words, from, at, members, m, rows);
-    put_alignment(alignments, t, alignment);
+    put_type(types, held.types, made.typed.words);
+    put_members(place, members, held.members, made.rows);
+    put_alignment(alignments, held.types, made.typed.alignment);
 }
 
-// One instruction: t types and m members are held before it.
+// One instruction: so many records are held before it, and so many after it.
 fn step_at(
-    words: &[u32],
-    from: usize,
-    at: usize,
+    place: Place,
     types: &mut [u32],
     members: &mut [u32],
     alignments: &mut [u32],
-    t: u32,
-    m: u32,
-    room: usize,
-    space: usize,
-) -> Step
-    requires ready { Ready words.now from at }
-    requires room { Room room space types.old members.old alignments.old }
-    requires held { Held room space words.now at types.old t m }
-    ensures { StepIs room space words.now at types.old members.old alignments.old types.new members.new alignments.new t m result }
+    held: Records,
+    space: Space,
+) -> Result<Records, Fault>
+    requires ready { Ready place.words.now place.from place.at }
+    requires room { Room space.types space.members types.old members.old alignments.old }
+    requires held { Held space.types space.members place.words.now place.at types.old held.types held.members }
+    ensures { StepIs space.types space.members place.entry.words.now place.entry.at types.old members.old alignments.old types.new members.new alignments.new held.types held.members result }
 {
-    let held = (t as usize) * ir_records::TYPE_WORDS;
-    let end = t as usize;
-    let judged = spirv_instruction::judge(
-        words,
-        from,
-        at,
-        &types[..held],
-        &alignments[..end],
-        m,
-        room,
-        space,
-    );
-    match judged {
-        Judged::Skipped => Step::Next {
-            types: t,
-            members: m,
-        },
-        Judged::Type {
-            words: w,
-            alignment,
-            rows,
-        } => {
-            put_all(
-                words, from, at, types, members, alignments, t, m, w, alignment, rows,
-            );
-            let next = t + 1;
-            let last = m + rows;
-            Step::Next {
-                types: next,
-                members: last,
-            }
+    let count = held.types as usize;
+    let end = count * ir_records::TYPE_WORDS;
+    let tables = Tables {
+        types: &types[..end],
+        alignments: &alignments[..count],
+    };
+    match spirv_instruction::judge(place, tables, held.members, space)? {
+        None => Ok(held),
+        Some(made) => {
+            put_all(place, types, members, alignments, held, made);
+            Ok(Records {
+                types: held.types + 1,
+                members: held.members + made.rows,
+            })
         }
-        Judged::Refused(number) => Step::Stopped(number),
     }
 }
 
@@ -179,44 +135,25 @@ fn read_from(
     types: &mut [u32],
     members: &mut [u32],
     alignments: &mut [u32],
-    room: usize,
-    space: usize,
-) -> Section
+    space: Space,
+) -> Result<Records, Fault>
     requires gives_from { GivesFrom words.now from }
-    requires room { Room room space types.old members.old alignments.old }
-    ensures { (result ≡ section_of (read_from room space words.now (length words.now) header_words none)) × FilledTypes (read_from room space words.now (length words.now) header_words none) types.old types.new × FilledMembers (read_from room space words.now (length words.now) header_words none) members.old members.new }
+    requires room { Room space.types space.members types.old members.old alignments.old }
+    ensures { (section_answer_of result ≡ section_of (read_from space.types space.members words.now (length words.now) header_words none)) × FilledTypes (read_from space.types space.members words.now (length words.now) header_words none) types.old types.new × FilledMembers (read_from space.types space.members words.now (length words.now) header_words none) members.old members.new }
 {
     let mut at: usize = spirv_words::HEADER_WORDS;
-    let mut t: u32 = 0;
-    let mut m: u32 = 0;
+    let mut held = Records {
+        types: 0,
+        members: 0,
+    };
+    // Kept: each step is the word count of an instruction; no range has such steps.
     while at < words.len() {
-        match step_at(
-            words, from, at, types, members, alignments, t, m, room, space,
-        ) {
-            Step::Next {
-                types: next,
-                members: last,
-            } => {
-                t = next;
-                m = last;
-            }
-            Step::Stopped(number) => {
-                return Section::Refused { number };
-            }
-        }
+        let place = Place { words, from, at };
+        held = step_at(place, types, members, alignments, held, space)?;
         let count = spirv_words::word_count(words, at);
         at += count;
     }
-    Section::Read {
-        types: t,
-        members: m,
-    }
-}
-
-fn least(a: usize, b: usize) -> usize
-    ensures { result ≡ min a b }
-{
-    if a <= b { a } else { b }
+    Ok(held)
 }
 
 fn header_ok(words: &[u32]) -> bool
@@ -230,35 +167,27 @@ fn header_ok(words: &[u32]) -> bool
 fn clear_both(types: &mut [u32], members: &mut [u32])
     ensures { (types.new ≡ replicate (length types.old) 0) × (members.new ≡ replicate (length members.old) 0) }
 {
-    let n = types.len();
-    let m = members.len();
-    ir_rows::clear(types, n);
-    ir_rows::clear(members, m);
+    types.fill(0);
+    members.fill(0);
 }
 
 // The type section of a module. Nothing is asked of the caller.
-pub fn read_words(words: &[u32], types: &mut [u32], members: &mut [u32]) -> Section
-    ensures { (result ≡ section_of (read_into words.now types.old members.old)) × (types.new ≡ types_after (read_into words.now types.old members.old) types.old) × (members.new ≡ members_after (read_into words.now types.old members.old) members.old) }
+pub fn read_words(words: &[u32], types: &mut [u32], members: &mut [u32]) -> Result<Records, Fault>
+    ensures { (section_answer_of result ≡ section_of (read_into words.now types.old members.old)) × (types.new ≡ types_after (read_into words.now types.old members.old) types.old) × (members.new ≡ members_after (read_into words.now types.old members.old) members.old) }
 {
-    if header_ok(words) {
-        let mut alignments = [0u32; 1024];
-        let from = spirv_ids::first_giver(words);
-        let room = least(MOST_TYPES, types.len() / ir_records::TYPE_WORDS);
-        let space = least(MOST_MEMBERS, members.len() / ir_records::MEMBER_WORDS);
-        let section = read_from(words, from, types, members, &mut alignments, room, space);
-        match section {
-            Section::Read {
-                types: _,
-                members: _,
-            } => {
-                return section;
-            }
-            Section::Refused { number: _ } => {
-                clear_both(types, members);
-                return section;
-            }
-        }
+    if !header_ok(words) {
+        clear_both(types, members);
+        return Err(Fault::ModuleHeader);
     }
-    clear_both(types, members);
-    Section::Refused { number: 28 }
+    let mut alignments = [0u32; 1024];
+    let from = spirv_ids::first_giver(words);
+    let space = Space {
+        types: MOST_TYPES.min(types.len() / ir_records::TYPE_WORDS),
+        members: MOST_MEMBERS.min(members.len() / ir_records::MEMBER_WORDS),
+    };
+    let section = read_from(words, from, types, members, &mut alignments, space);
+    if section.is_err() {
+        clear_both(types, members);
+    }
+    section
 }

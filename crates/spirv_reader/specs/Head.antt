@@ -1,9 +1,7 @@
--- What stands at a position of a list of words.
+-- What stands at a position of a list of words: a word, or nothing at the end of the words.
 -- Assumes nothing.
-use Rattle.std.specs.Prelude.{List, ℕ, ltb, length, get_or}
+use Rattle.std.specs.Prelude.{List, Option, Some, None, ℕ, ltb, length, get_or}
 use Rattle.ir_records.specs.Result.{pick}
-use Rattle.spirv_reader.specs.declared.Head.{Head}
-use Rattle.spirv_reader.specs.declared.Head.TheVariants.{Word, End}
 
-abbrev pub head_at : (ws : List ℕ) (at : ℕ) → Head
-head_at ws at = pick (ltb at (length ws)) (Word (get_or ws at 0)) End
+abbrev pub head_at : (ws : List ℕ) (at : ℕ) → Option ℕ
+head_at ws at = pick (ltb at (length ws)) (Some (get_or ws at 0)) None

@@ -1,7 +1,7 @@
 -- The module that begins at a position of a list of words: what its reading answers, and what the lent tables hold then (spirv_read: Read).
 -- Assumes nothing.
 use Rattle.std.specs.Prelude.{List, ℕ, drop}
-use Rattle.spirv_read.specs.declared.Section.{Section}
+use Rattle.spirv_read.specs.Section.{Section}
 use Rattle.spirv_read.specs.Read.{read_into, section_of, types_after, members_after}
 
 abbrev pub section_at : (ws : List ℕ) (at : ℕ) (ts ms : List ℕ) → Section

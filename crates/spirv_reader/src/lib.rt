@@ -2,11 +2,12 @@
 #![tactic(auto)]
 
 ghost use Rattle.std.specs.Prelude.{◌≡◌, ◌≤◌, length};
+ghost use Rattle.spirv_read.specs.Section.{section_answer_of};
 ghost use Rattle.spirv_read.specs.Read.{read_into, section_of, types_after, members_after};
 ghost use Rattle.spirv_reader.specs.Head.{head_at};
 ghost use Rattle.spirv_reader.specs.Section.{section_at, types_at, members_at};
 
-use spirv_read::Section;
+use ir_records::{Fault, Records};
 
 #[derive(Drop)]
 pub struct Reader<'a> {
@@ -14,22 +15,11 @@ pub struct Reader<'a> {
     pub at: usize,
 }
 
-// What stands at a position: a word, or the end of the words.
-#[derive(Clone, Copy)]
-pub enum Head {
-    Word(u32),
-    End,
-}
-
-// The work: what stands at a position of a slice.
-pub fn head_at(words: &[u32], at: usize) -> Head
+// The work: the word at a position of a slice; none at the end.
+pub fn head_at(words: &[u32], at: usize) -> Option<u32>
     ensures { result ≡ head_at words.now at }
 {
-    if at < words.len() {
-        Head::Word(words[at])
-    } else {
-        Head::End
-    }
+    words.get(at).copied()
 }
 
 // At the first word.
@@ -40,7 +30,7 @@ pub fn new<'a>(words: &'a [u32]) -> Reader<'a>
 }
 
 // What stands where the reader is.
-pub fn next<'a>(r: Reader<'a>) -> Head
+pub fn next<'a>(r: Reader<'a>) -> Option<u32>
     ensures { result ≡ head_at r.entry.words.now r.entry.at }
 {
     head_at(r.words, r.at)
@@ -53,8 +43,13 @@ pub fn moved<'a>(r: Reader<'a>, at: usize) -> Reader<'a>
 }
 
 // The module that begins at a position of a slice; past its end there is none.
-pub fn read_from(words: &[u32], at: usize, types: &mut [u32], members: &mut [u32]) -> Section
-    ensures { (result ≡ section_at words.now at types.old members.old) × (types.new ≡ types_at words.now at types.old members.old) × (members.new ≡ members_at words.now at types.old members.old) }
+pub fn read_from(
+    words: &[u32],
+    at: usize,
+    types: &mut [u32],
+    members: &mut [u32],
+) -> Result<Records, Fault>
+    ensures { (section_answer_of result ≡ section_at words.now at types.old members.old) × (types.new ≡ types_at words.now at types.old members.old) × (members.new ≡ members_at words.now at types.old members.old) }
 {
     let n = words.len();
     if at <= n {
@@ -64,15 +59,15 @@ pub fn read_from(words: &[u32], at: usize, types: &mut [u32], members: &mut [u32
 }
 
 // The module that begins where the reader is.
-pub fn read<'a>(r: Reader<'a>, types: &mut [u32], members: &mut [u32]) -> Section
-    ensures { (result ≡ section_at r.entry.words.now r.entry.at types.old members.old) × (types.new ≡ types_at r.entry.words.now r.entry.at types.old members.old) × (members.new ≡ members_at r.entry.words.now r.entry.at types.old members.old) }
+pub fn read<'a>(r: Reader<'a>, types: &mut [u32], members: &mut [u32]) -> Result<Records, Fault>
+    ensures { (section_answer_of result ≡ section_at r.entry.words.now r.entry.at types.old members.old) × (types.new ≡ types_at r.entry.words.now r.entry.at types.old members.old) × (members.new ≡ members_at r.entry.words.now r.entry.at types.old members.old) }
 {
     read_from(r.words, r.at, types, members)
 }
 
 // A module's words, with plain parameters. Nothing is asked of the caller.
-pub fn read_module(words: &[u32], types: &mut [u32], members: &mut [u32]) -> Section
-    ensures { (result ≡ section_of (read_into words.now types.old members.old)) × (types.new ≡ types_after (read_into words.now types.old members.old) types.old) × (members.new ≡ members_after (read_into words.now types.old members.old) members.old) }
+pub fn read_module(words: &[u32], types: &mut [u32], members: &mut [u32]) -> Result<Records, Fault>
+    ensures { (section_answer_of result ≡ section_of (read_into words.now types.old members.old)) × (types.new ≡ types_after (read_into words.now types.old members.old) types.old) × (members.new ≡ members_after (read_into words.now types.old members.old) members.old) }
 {
     read(new(words), types, members)
 }

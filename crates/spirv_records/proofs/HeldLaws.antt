@@ -21,7 +21,8 @@ use Rattle.spirv_ids.proofs.PlaceLaws.{stands_first, stands_next, number_next}
 use Rattle.spirv_members.specs.Members.{member_rows}
 use Rattle.spirv_members.proofs.NumberLaws.{and_true}
 use Rattle.spirv_members.proofs.AlignmentLaws.{rows_length}
-use Rattle.spirv_types.specs.Types.{State, Typed, type_at}
+use Rattle.spirv_types.specs.declared.Typed.{Typed}
+use Rattle.spirv_types.specs.Types.{State, type_at}
 use Rattle.spirv_instruction.specs.Instruction.{told_by, words_ok, row_count, fits, listed, with_type, type_read, other_read, instruction}
 use Rattle.spirv_instruction.proofs.InstructionLaws.{count_some}
 use Rattle.spirv_read.specs.Read.{read_from, none, read_module}

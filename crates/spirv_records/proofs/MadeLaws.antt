@@ -14,7 +14,8 @@ use Rattle.proc_alignment.specs.Alignment.{power_of_two, most}
 use Rattle.spirv_words.specs.Module.{opcode, word, word_count, is_read, type_bool, type_int, type_float, type_vector, type_matrix, type_array, type_runtime_array, type_struct}
 use Rattle.spirv_members.specs.Members.{is_type_read, is_other, number_of, member_count_at, member_rows, members_unsupported, members_sound}
 use Rattle.spirv_members.proofs.NumberLaws.{and_true}
-use Rattle.spirv_types.specs.Types.{State, Typed, typed, words_of, is_fresh, width_ok, sign_kind, parts_ok, base_sort, base_word, stride_at, stride_of, length_of, length_sort, span_of, bool_type, int_type, float_type, vector_type, matrix_type, array_type, runtime_array_type, struct_type, type_by, type_at}
+use Rattle.spirv_types.specs.declared.Typed.{Typed}
+use Rattle.spirv_types.specs.Types.{State, typed, words_of, is_fresh, width_ok, sign_kind, parts_ok, base_sort, base_word, stride_at, stride_of, length_of, length_sort, span_of, bool_type, int_type, float_type, vector_type, matrix_type, array_type, runtime_array_type, struct_type, type_by, type_at}
 use Rattle.spirv_instruction.proofs.BoundLaws.{judged_ok}
 use Rattle.spirv_records.specs.TypesRead.{scalar_width}
 

@@ -10,8 +10,8 @@ use lib.Dec.{eqb, leb, ltb}
 use Rattle.ir_records.specs.Result.{Result, err, ok, pick, require, and_then}
 use Rattle.ir_records.specs.Record.{Decoded, member_type, member_offset, member_location, member_source}
 use Rattle.ir_records.specs.Table.{result_at, outcome_at, also, first_refusal}
-use Rattle.ir_records.specs.declared.Outcome.{Outcome}
-use Rattle.ir_records.specs.declared.Outcome.TheVariants.{Accepted, Refused}
+use Rattle.ir_records.specs.Outcome.{Outcome}
+use Rattle.ir_records.specs.Outcome.{Accepted, Refused}
 use Rattle.ir_records.specs.declared.Leaf.{Leaf}
 use Rattle.ir_records.specs.declared.Leaf.TheVariants.{Scalar, Vector, Matrix, CooperativeMatrix, Atomic, RayQuery}
 use Rattle.ir_records.specs.declared.NonData.{NonData}

@@ -21,7 +21,7 @@ use Rattle.valid_arena.specs.Arena.{common_at, judge_outcome, arena_outcome, are
 use Rattle.spirv_ids.specs.Ids.{type_number}
 use Rattle.spirv_types.specs.Types.{State}
 use Rattle.spirv_instruction.specs.Instruction.{types_room, members_room}
-use Rattle.spirv_read.specs.declared.Section.TheVariants.{Read, Refused as NotRead}
+use Rattle.spirv_read.specs.Section.{Read, Refused as NotRead}
 use Rattle.spirv_read.specs.Read.{read_module, read_into, section_of}
 use Rattle.spirv_records.specs.Records.{InOrder, LaidOut, types_cut, members_cut, RecordsInOrder}
 use Rattle.spirv_records.proofs.HeldLaws.{Held, read_held}

@@ -4,11 +4,11 @@
 use Rattle.std.specs.Prelude.{◌≡◌, List, [], ◌∷◌, ℕ, ◌*◌, ◌≤◌, T, length, take}
 use Rattle.ir_records.specs.Record.{type_words, member_words}
 use Rattle.ir_records.specs.Fields.{row_words, capabilities_known}
-use Rattle.ir_records.specs.declared.Outcome.{Outcome}
-use Rattle.ir_records.specs.declared.Outcome.TheVariants.{Accepted, Refused}
+use Rattle.ir_records.specs.Outcome.{Outcome}
+use Rattle.ir_records.specs.Outcome.{Accepted, Refused}
 use Rattle.proc_layouter.specs.Layouter.{layout_answer}
 use Rattle.valid_arena.specs.Arena.{arena_answer}
-use Rattle.spirv_read.specs.declared.Section.TheVariants.{Read}
+use Rattle.spirv_read.specs.Section.{Read}
 use Rattle.spirv_read.specs.Read.{read_into, section_of, types_after, members_after}
 use Rattle.spirv_records.specs.TypesRead.{Among}
 

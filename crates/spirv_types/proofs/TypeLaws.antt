@@ -9,7 +9,7 @@ use native.Mathlib.Decide.{dec_le}
 use lib.Dec.{eqb, leb}
 use lib.ListN.{length}
 use borrow.Author.Tests.{eqb-true}
-use Rattle.ir_records.specs.Result.{err, ok, require}
+use Rattle.ir_records.specs.Result.{ok, require}
 use Rattle.ir_records.specs.declared.Words.{Words}
 use Rattle.ir_records.specs.Record.{member_count, inner_of, struct_kind}
 use Rattle.ir_records.specs.Serving.{record_words}
@@ -19,6 +19,8 @@ use Rattle.proc_type_alignment.specs.TypeAlignment.{alignment_of}
 use Rattle.spirv_words.specs.Module.{header_words, before, first}
 use Rattle.spirv_words.specs.Decorations.{is_integer}
 use Rattle.spirv_words.proofs.SearchLaws.{found_below}
+use Rattle.spirv_ids.specs.declared.Sort.{Sort}
+use Rattle.spirv_ids.specs.declared.Sort.TheVariants.{Unknown, OtherType, TypeRead, ConstantAt}
 use Rattle.spirv_ids.specs.Ids.{integer_before, type_number}
 use Rattle.spirv_members.specs.Members.{member_count_at, members_unsupported, members_sound, struct_alignment, last_end}
 use Rattle.spirv_members.specs.Serving.{largest_alignment}
@@ -26,7 +28,11 @@ use Rattle.spirv_members.specs.Serving.{Bounded}
 use Rattle.spirv_members.proofs.MemberLaws.{scalar-width, vector_bounds}
 use Rattle.spirv_members.proofs.NumberLaws.{and_true}
 use Rattle.spirv_members.proofs.AlignmentLaws.{largest_is}
-use Rattle.spirv_types.specs.Types.{State, width_ok, words_of, struct_type}
+use Rattle.std.specs.Prelude as std
+use Rattle.ir_records.specs.declared.Fault.{Fault}
+use Rattle.ir_records.specs.declared.Fault.TheVariants.{ModuleType, ModuleOrder}
+use Rattle.spirv_types.specs.Types.{State, width_ok, words_of, length_of, struct_type}
+use Rattle.spirv_types.specs.Serving.{made_result, checked}
 
 true_false : true ≡ false → ⊥
 true_false e = let z : ◌≡◌ {A = ℕ} 0 1 = cc in absurd (omega arith)
@@ -61,16 +67,39 @@ module _ (ts : List ℕ) (b : Bounded ts) (k : ℕ) (r : Words) (is : r ≡ reco
       let kind = eqb-true r.kind 1 (and_true x _ e).1 in
       rw (ap (λ (w : Words). w.c) is) (vector_bounds ts k b (sym (ap (λ (w : Words). w.kind) is) ∙ kind)).1
 
+-- what is no constant has no length
+pub other_length : (ws : List ℕ) (sort : Sort) → ((at : ℕ) → sort ≡ ConstantAt at → ⊥) → length_of ws sort ≡ 0
+unfolding length_of
+other_length ws Unknown h = refl
+other_length ws OtherType h = refl
+other_length ws (TypeRead number) h = refl
+other_length ws (ConstantAt at) h = absurd (h at refl)
+
+-- ---- 29 before 30
+err_ok : (fault : Fault) → ◌≡◌ {A = std.Result (Unit {0}) Fault} (std.Err fault) (std.Ok tt) → ⊥
+err_ok fault e = let z : ◌≡◌ {A = ℕ} 0 1 = cc in absurd (omega arith)
+
+err_same : (f g : Fault) → ◌≡◌ {A = std.Result (Unit {0}) Fault} (std.Err f) (std.Err g) → f ≡ g
+err_same f g e = cc
+
+pub checked_ok : (u s : Bool) → ◌≡◌ {A = std.Result (Unit {0}) Fault} (std.Ok tt) (checked u s) → (u ≡ false) × (s ≡ true)
+checked_ok true s e = absurd (err_ok ModuleType (sym e))
+checked_ok false true e = (refl, refl)
+checked_ok false false e = absurd (err_ok ModuleOrder (sym e))
+
 -- ---- a struct, by what is known of its members
 module _ (ws : List ℕ) (s : State) (at : ℕ) (fresh : Bool) where
-  pub struct_unsupported : members_unsupported ws s.types at (member_count_at ws at) ≡ true → struct_type ws s at fresh ≡ err 29 0 0
+  pub struct_refused : (fault : Fault)
+      → ◌≡◌ {A = std.Result (Unit {0}) Fault} (std.Err fault) (checked (members_unsupported ws s.types at (member_count_at ws at)) (fresh && members_sound ws at (member_count_at ws at)))
+      → made_result (std.Err fault) ≡ struct_type ws s at fresh
   unfolding struct_type
-  struct_unsupported e = rw e
-
-  pub struct_unsound : members_unsupported ws s.types at (member_count_at ws at) ≡ false
-      → (fresh && members_sound ws at (member_count_at ws at)) ≡ false → struct_type ws s at fresh ≡ err 30 0 0
-  unfolding struct_type
-  struct_unsound u e = rw (u, e)
+  struct_refused fault e = by (members_unsupported ws s.types at (member_count_at ws at)) (fresh && members_sound ws at (member_count_at ws at)) refl refl
+    where
+      by : (u t : Bool) → members_unsupported ws s.types at (member_count_at ws at) ≡ u → (fresh && members_sound ws at (member_count_at ws at)) ≡ t
+          → made_result (std.Err fault) ≡ struct_type ws s at fresh
+      by true t f g = rw (err_same fault ModuleType (rw f at e), f) refl
+      by false true f g = absurd (err_ok fault (rw (f, g) at e))
+      by false false f g = rw (err_same fault ModuleOrder (rw (f, g) at e), f, g) refl
 
   pub struct_spanned : length s.alignments ≡ type_number ws at → members_unsupported ws s.types at (member_count_at ws at) ≡ false
       → (fresh && members_sound ws at (member_count_at ws at)) ≡ true → (a end : ℕ)

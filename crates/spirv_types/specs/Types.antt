@@ -1,6 +1,6 @@
 -- 02, E5: the record of one type that is read, and its refusals 29 and 30 (Khronos SPIR-V specification, 'Type-Declaration Instructions').
 -- Assumes nothing.
-use Rattle.std.specs.Prelude.{Bool, true, false, not, ◌&&◌, ◌||◌, List, [], ℕ, ◌*◌, ◌/◌, eqb, leb, ltb, length}
+use Rattle.std.specs.Prelude.{Bool, false, not, ◌&&◌, ◌||◌, List, [], ℕ, ◌*◌, ◌/◌, eqb, leb, ltb, length}
 use Rattle.ir_records.specs.Result.{Result, ok, pick, require, value_or}
 use Rattle.ir_records.specs.declared.Words.{Words}
 use Rattle.ir_records.specs.Record.{type_word, member_count, inner_in, scalar_kind, vector_kind, matrix_kind, array_kind, struct_kind}
@@ -8,6 +8,7 @@ use Rattle.proc_alignment.specs.Alignment.{round_up, most}
 use Rattle.proc_type_alignment.specs.TypeAlignment.{alignment_of}
 use Rattle.spirv_words.specs.Module.{word_count, opcode, word, type_bool, type_int, type_float, type_vector, type_matrix, type_array, type_runtime_array, before, first, only}
 use Rattle.spirv_words.specs.Decorations.{is_stride_of, is_misplaced}
+use Rattle.spirv_types.specs.declared.Typed.{Typed}
 use Rattle.spirv_ids.specs.declared.Sort.{Sort}
 use Rattle.spirv_ids.specs.declared.Sort.TheVariants.{Unknown, OtherType, TypeRead, ConstantAt}
 use Rattle.spirv_ids.specs.Ids.{integer_before, giver, sort}
@@ -18,11 +19,6 @@ pub record State : Type 0 where
   pub types : List ℕ
   pub members : List ℕ
   pub alignments : List ℕ
-
--- a type's record and its layout alignment
-pub record Typed : Type 0 where
-  pub words : Words
-  pub alignment : ℕ
 
 -- 29 before 30
 abbrev pub judged : (unsupported sound : Bool) → Typed → Result Typed

@@ -1,17 +1,19 @@
 -- Searches through the instructions between two places: a bound that is large enough makes no difference, one step of a search, and the
 -- instructions before a place split at one of them.
 -- Assumes nothing.
-use mathlib.Core.Path.{◌≡◌, refl, ap}
-use mathlib.Core.Bool.{Bool, true, false, ◌&&◌}
+use mathlib.Core.Path.{◌≡◌, refl, sym, ap, ◌∙◌}
+use mathlib.Core.Bool.{Bool, true, false, not, ◌&&◌}
 use mathlib.Core.List.{List, [], ◌∷◌}
 use mathlib.Core.Logic.{◌⊎◌, inl, inr}
 use Prim.Native.Nat.{ℕ, zero, suc, ◌+◌, ◌-◌, ◌≤◌, ◌<◌}
 use native.Mathlib.Omega.{arith}
 use native.Mathlib.Decide.{dec_le}
 use lib.Dec.{eqb, ltb}
-use borrow.Author.Tests.{lt-ltb, le-ltb, ltb-true}
+use borrow.Author.Tests.{lt-ltb, le-ltb, ltb-true, ne_eqb, eqb-true, eqb-false}
 use Rattle.ir_records.specs.Result.{pick}
-use Rattle.spirv_words.specs.Module.{word_count, header_words, starts, between, before, first, only}
+use Rattle.std.specs.Prelude.{None, Some}
+use Rattle.std.specs.Option.{is_some, unwrap_or}
+use Rattle.spirv_words.specs.Module.{word_count, header_words, starts, between, before, first, find, found, only}
 
 and_true : (a b : Bool) → (a && b) ≡ true → (a ≡ true) × (b ≡ true)
 and_true true b e = (refl, e)
@@ -19,6 +21,57 @@ and_true false b e = (e, cc)
 
 one_more : (n k : ℕ) → k < n → n - k ≡ suc (n - (k + 1))
 one_more n k h = omega arith
+
+true_false : true ≡ false → ⊥
+true_false e = let z : ◌≡◌ {A = ℕ} 0 1 = cc in absurd (omega arith)
+
+some_none : (q : ℕ) → Some q ≡ None → ⊥
+some_none q e = let z : ◌≡◌ {A = ℕ} 0 1 = cc in absurd (omega arith)
+
+some_inj : (m n : ℕ) → Some m ≡ Some n → m ≡ n
+some_inj m n e = cc
+
+pub found_none : (n : ℕ) → None ≡ found n → n ≡ 0
+found_none n e = by (eqb n 0) refl
+  where
+    by : (b : Bool) → eqb n 0 ≡ b → n ≡ 0
+    by true t = eqb-true n 0 t
+    by false t = absurd (some_none n (sym (rw t at e)))
+
+pub found_some : (n q : ℕ) → Some q ≡ found n → (n ≡ q) × (0 < q)
+found_some n q e = by (eqb n 0) refl
+  where
+    by : (b : Bool) → eqb n 0 ≡ b → (n ≡ q) × (0 < q)
+    by true t = absurd (some_none q (rw t at e))
+    by false t =
+        let is : n ≡ q = sym (some_inj q n (rw t at e)) in
+        (is, omega (arith, eqb-false n 0 t, is))
+
+pub found_here : (n : ℕ) → 0 < n → found n ≡ Some n
+found_here n h = rw (ne_eqb n 0 (λ e. omega (arith, h, e)))
+
+pub found_or : (n : ℕ) → unwrap_or (found n) 0 ≡ n
+found_or n = by (eqb n 0) refl
+  where
+    by : (b : Bool) → eqb n 0 ≡ b → unwrap_or (found n) 0 ≡ n
+    by true t = rw t (sym (eqb-true n 0 t))
+    by false t = rw t refl
+
+pub found_not : (n : ℕ) (r : Bool) → is_some (found n) ≡ not r → r ≡ eqb n 0
+found_not n r e = by r (eqb n 0) refl e
+  where
+    by : (r b : Bool) → eqb n 0 ≡ b → is_some (found n) ≡ not r → r ≡ eqb n 0
+    by true true t e = sym t
+    by false false t e = sym t
+    by true false t e = absurd (true_false (rw t at e))
+    by false true t e = absurd (true_false (sym (rw t at e)))
+
+pub found_is : (n : ℕ) → is_some (found n) ≡ ltb 0 n
+found_is n = by (eqb n 0) refl
+  where
+    by : (b : Bool) → eqb n 0 ≡ b → is_some (found n) ≡ ltb 0 n
+    by true t = rw (eqb-true n 0 t) refl
+    by false t = let more : 0 < n = omega (arith, eqb-false n 0 t) in rw (t, lt-ltb 0 n more) refl
 
 module _ (ws : List ℕ) (end : ℕ) where
   -- two bounds that are large enough
@@ -78,6 +131,48 @@ module _ (ws : List ℕ) (end : ℕ) where
     unfolding first
     search_stuck e = rw (between_stuck p e)
 
+    -- the same as an option
+    pub find_on : p < end → 0 < word_count ws p → test p ≡ false
+        → find test (between ws p end) ≡ find test (between ws (p + word_count ws p) end)
+    unfolding find
+    find_on h k e = rw (between_next p h k, e)
+
+    pub find_here : p < end → 0 < word_count ws p → test p ≡ true → find test (between ws p end) ≡ Some p
+    unfolding find
+    find_here h k e = rw (between_next p h k, e)
+
+    pub find_end : end ≤ p → find test (between ws p end) ≡ None
+    unfolding find
+    find_end h = rw (between_end p h)
+
+    pub find_stuck : word_count ws p ≡ 0 → find test (between ws p end) ≡ None
+    unfolding find
+    find_stuck e = rw (between_stuck p e)
+
+  -- after the first word of the words, 0 is no place
+  pub find_found : (test : ℕ → Bool) (l p : ℕ) → 0 < p → find test (starts ws l p end) ≡ found (first test (starts ws l p end))
+  unfolding starts first find
+  find_found test zero p h = refl
+  find_found test (suc l) p h = by (ltb p end && ltb 0 (word_count ws p)) refl (find_found test l (p + word_count ws p) (omega (arith, h)))
+    where
+      by : (b : Bool) → (ltb p end && ltb 0 (word_count ws p)) ≡ b
+          → find test (starts ws l (p + word_count ws p) end) ≡ found (first test (starts ws l (p + word_count ws p) end))
+          → find test (starts ws (suc l) p end) ≡ found (first test (starts ws (suc l) p end))
+      by false k rest = rw k
+      by true k rest = hit (test p) refl
+        where
+          hit : (t : Bool) → test p ≡ t → find test (starts ws (suc l) p end) ≡ found (first test (starts ws (suc l) p end))
+          hit true t = simp (k, t, ne_eqb p 0 (λ e. omega (arith, h, e)))
+          hit false t = rw (k, t) rest
+
+  -- so what is found, or not, is so of the number
+  module _ (test : ℕ → Bool) (p : ℕ) (h : 0 < p) where
+    pub find_none : None ≡ find test (between ws p end) → first test (between ws p end) ≡ 0
+    find_none e = found_none _ (e ∙ find_found test (end - p) p h)
+
+    pub find_some : (q : ℕ) → Some q ≡ find test (between ws p end) → (first test (between ws p end) ≡ q) × (0 < q)
+    find_some q e = found_some _ q (e ∙ find_found test (end - p) p h)
+
   -- the only one that passes, by two searches: from p on, and behind what the first finds
   module _ (test : ℕ → Bool) where
     pub only_none : (l p : ℕ) → first test (starts ws l p end) ≡ 0 → 0 < p → only test (starts ws l p end) ≡ 0
@@ -117,6 +212,31 @@ module _ (ws : List ℕ) (end : ℕ) where
                 rw (k, t, starts_any l (end - (p + word_count ws p)) (p + word_count ws p) (omega (arith, f, w)) (omega arith))
                 (ap (λ (x : ℕ). pick (eqb (first test (between ws (x + word_count ws x) end)) 0) x 0) (rw (k, t) at e))
             hit w false t = rw (k, t) (rest w (rw (k, t) at e))
+
+    -- by two searches, as options
+    pub only_missing : None ≡ find test (before ws end) → only test (before ws end) ≡ 0
+    only_missing e = only_none (end - header_words) header_words (find_none test header_words (omega arith) e) (omega arith)
+
+    pub only_one : (q : ℕ) → Some q ≡ find test (before ws end)
+        → found (only test (before ws end)) ≡ pick (is_some (find test (between ws (q + word_count ws q) end))) None (Some q)
+    only_one q e = by (eqb (first test (between ws (q + word_count ws q) end)) 0) refl
+      where
+        f : (first test (before ws end) ≡ q) × (0 < q)
+        f = find_some test header_words (omega arith) q e
+
+        next : find test (between ws (q + word_count ws q) end) ≡ found (first test (between ws (q + word_count ws q) end))
+        next = find_found test (end - (q + word_count ws q)) (q + word_count ws q) (omega (arith, f.1))
+
+        some : eqb q 0 ≡ false
+        some = ne_eqb q 0 (λ z. omega (arith, f.1, z))
+
+        whole : only test (before ws end) ≡ pick (eqb (first test (between ws (q + word_count ws q) end)) 0) q 0
+        whole = only_found (end - header_words) header_words q (omega arith) f.0 f.1
+
+        by : (b : Bool) → eqb (first test (between ws (q + word_count ws q) end)) 0 ≡ b
+            → found (only test (before ws end)) ≡ pick (is_some (find test (between ws (q + word_count ws q) end))) None (Some q)
+        by true t = rw (whole, next, t, some) refl
+        by false t = rw (whole, next, t) refl
 
     -- what is found stands before the end, from p on, and passes
     pub found_below : (l p : ℕ) → 0 < first test (starts ws l p end)

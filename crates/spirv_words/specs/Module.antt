@@ -1,6 +1,6 @@
 -- Words and instructions of a SPIR-V module (Khronos SPIR-V specification, 'Physical Layout of a SPIR-V Module and Instruction').
 -- Assumes nothing.
-use Rattle.std.specs.Prelude.{Bool, ◌&&◌, ◌||◌, List, [], ◌∷◌, ℕ, zero, suc, ◌+◌, ◌-◌, ◌/◌, ◌%◌, eqb, leb, ltb, length, get_or}
+use Rattle.std.specs.Prelude.{Bool, ◌&&◌, ◌||◌, List, [], ◌∷◌, Option, Some, None, ℕ, zero, suc, ◌+◌, ◌-◌, ◌/◌, ◌%◌, eqb, leb, ltb, length, get_or}
 use Rattle.ir_records.specs.Result.{pick}
 
 -- ---- the header: five words, the magic number first
@@ -89,6 +89,15 @@ before ws at = between ws header_words at
 unfoldable pub first : (ℕ → Bool) → List ℕ → ℕ
 first test [] = 0
 first test (at ∷ ats) = pick (test at) at (first test ats)
+
+-- the same as an option, at any place
+unfoldable pub find : (ℕ → Bool) → List ℕ → Option ℕ
+find test [] = None
+find test (at ∷ ats) = pick (test at) (Some at) (find test ats)
+
+-- a place of which 0 says that there is none
+abbrev pub found : ℕ → Option ℕ
+found at = pick (eqb at 0) None (Some at)
 
 -- the only one that passes; 0 for none and for several
 unfoldable pub only : (ℕ → Bool) → List ℕ → ℕ

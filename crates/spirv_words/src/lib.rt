@@ -2,7 +2,7 @@
 #![tactic(auto)]
 
 ghost use Rattle.std.specs.Prelude.{◌≡◌, ◌+◌, ◌/◌, ◌≤◌, ◌<◌, length};
-ghost use Rattle.spirv_words.specs.Module.{word_count, opcode, word, between, before, first, only};
+ghost use Rattle.spirv_words.specs.Module.{word_count, opcode, word, between, before, find, only, found};
 ghost use Rattle.spirv_words.specs.Decorations.{passes};
 
 // Words of the header; the first instruction stands after them.
@@ -13,6 +13,10 @@ pub const TYPE_VOID: u32 = 19;
 pub const TYPE_BOOL: u32 = 20;
 
 pub const TYPE_INT: u32 = 21;
+
+pub const TYPE_FLOAT: u32 = 22;
+
+pub const TYPE_VECTOR: u32 = 23;
 
 pub const TYPE_MATRIX: u32 = 24;
 
@@ -116,38 +120,35 @@ pub fn is_wanted(words: &[u32], at: usize, wanted: Wanted) -> bool
     }
 }
 
-// The first wanted instruction from `from` on and before `end`; 0 for none.
-pub fn first_between(words: &[u32], from: usize, end: usize, wanted: Wanted) -> usize
+// The first wanted instruction from `from` on and before `end`.
+pub fn first_between(words: &[u32], from: usize, end: usize, wanted: Wanted) -> Option<usize>
     requires { end ≤ length words.now }
-    ensures { result ≡ first (passes words.now wanted) (between words.now from end) }
+    ensures { result ≡ find (passes words.now wanted) (between words.now from end) }
 {
     let mut p = from;
+    // Kept: each step is the word count of an instruction; no range has such steps.
     while p < end {
         let count = word_count(words, p);
         if count == 0 {
-            return 0;
+            return None;
         }
         if is_wanted(words, p, wanted) {
-            return p;
+            return Some(p);
         }
         p += count;
     }
-    0
+    None
 }
 
-// The only wanted instruction before `at`; 0 for none and for several.
-pub fn only_before(words: &[u32], at: usize, wanted: Wanted) -> usize
+// The only wanted instruction before `at`; none where there are several.
+pub fn only_before(words: &[u32], at: usize, wanted: Wanted) -> Option<usize>
     requires { at ≤ length words.now }
-    ensures { result ≡ only (passes words.now wanted) (before words.now at) }
+    ensures { result ≡ found (only (passes words.now wanted) (before words.now at)) }
 {
-    let found = first_between(words, HEADER_WORDS, at, wanted);
-    if found == 0 {
-        return 0;
+    let place = first_between(words, HEADER_WORDS, at, wanted)?;
+    let next = place + word_count(words, place);
+    if first_between(words, next, at, wanted).is_some() {
+        return None;
     }
-    let count = word_count(words, found);
-    let next = found + count;
-    if first_between(words, next, at, wanted) == 0 {
-        return found;
-    }
-    0
+    Some(place)
 }

@@ -14,7 +14,7 @@ use Rattle.ir_records.specs.Result.{ok}
 use Rattle.ir_records.specs.Record.{Decoded, member_type}
 use Rattle.ir_records.specs.Serving.{InnerBounds}
 use Rattle.ir_records.specs.Table.{table, result_at, first_refusal}
-use Rattle.ir_records.specs.declared.Outcome.TheVariants.{Accepted}
+use Rattle.ir_records.specs.Outcome.{Accepted}
 use Rattle.ir_records.specs.declared.Leaf.{Leaf}
 use Rattle.ir_records.specs.declared.Leaf.TheVariants.{Scalar, Vector, Matrix, CooperativeMatrix, Atomic, RayQuery}
 use Rattle.ir_records.specs.declared.NonData.{NonData}

@@ -12,8 +12,8 @@ use Rattle.ir_records.specs.Result.{ok, pick}
 use Rattle.ir_records.specs.Record.{decoded, type_count, type_word, inner_of, type_inner, struct_members, member_type, scalar_kind, vector_kind, matrix_kind, cooperative_matrix_kind, atomic_kind, array_kind, struct_kind, ray_query_kind}
 use Rattle.ir_records.specs.Fields.{row_words, tables_fit, capabilities_known, record_at}
 use Rattle.ir_records.specs.Table.{first_refusal}
-use Rattle.ir_records.specs.declared.Outcome.{Outcome}
-use Rattle.ir_records.specs.declared.Outcome.TheVariants.{Accepted, Refused}
+use Rattle.ir_records.specs.Outcome.{Outcome}
+use Rattle.ir_records.specs.Outcome.{Accepted, Refused}
 use Rattle.ir_records.specs.declared.NonData.TheVariants.{Pointer, BindingArray}
 use Rattle.ir_records.specs.declared.TypeInner.{TypeInner}
 use Rattle.ir_records.specs.declared.TypeInner.TheVariants.{Array, RuntimeArray, Struct, Other}

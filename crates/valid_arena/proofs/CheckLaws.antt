@@ -11,8 +11,8 @@ use Rattle.ir_records.specs.Result.{pick}
 use Rattle.ir_records.specs.Record.{type_count, decoded}
 use Rattle.ir_records.specs.Fields.{row_words, tables_fit, capabilities_known, record_at}
 use Rattle.ir_records.specs.Table.{outcome_at, also, first_refusal}
-use Rattle.ir_records.specs.declared.Outcome.{Outcome}
-use Rattle.ir_records.specs.declared.Outcome.TheVariants.{Accepted, Refused}
+use Rattle.ir_records.specs.Outcome.{Outcome}
+use Rattle.ir_records.specs.Outcome.{Accepted, Refused}
 use Rattle.ir_records.proofs.TableLaws.{also_accepted, outcome_accepted, flat_length}
 use Rattle.ir_records.proofs.RecordLaws.{Fitting, tables_fitting}
 use Rattle.ir_rows.specs.Rows.{cleared}

@@ -10,7 +10,7 @@ use Rattle.ir_records.specs.Result.{Result, err, ok, and_then}
 use Rattle.ir_records.specs.Record.{decoded, type_inner, struct_members}
 use Rattle.ir_records.specs.Fields.{row_words, record_at}
 use Rattle.ir_records.specs.Table.{table, result_at, outcome_at, first_refusal, flat}
-use Rattle.ir_records.specs.declared.Outcome.TheVariants.{Accepted}
+use Rattle.ir_records.specs.Outcome.{Accepted}
 use Rattle.ir_records.proofs.ResultLaws.{and_then_ok}
 use Rattle.ir_records.proofs.RecordLaws.{record_bounds}
 use Rattle.ir_records.proofs.TableLaws.{table_value, table_above, value_ok, flat_length, flat_word, all_ok, accepted_all}
@@ -25,14 +25,15 @@ use Rattle.proc_layouter.specs.Serving.{record_then_layout}
 use Rattle.proc_layouter.proofs.LayoutLaws.{record_laid}
 use Rattle.valid_type_info.specs.declared.Row.{Row}
 use Rattle.valid_type_info.specs.TypeInfo.{words_of, rows_in, empty_row}
-use Rattle.valid_types.specs.declared.Judged.{Judged}
-use Rattle.valid_types.specs.declared.Judged.TheVariants.{Made}
+use Rattle.std.specs.Prelude as std
+use Rattle.ir_records.specs.Refusal.{judged}
+use Rattle.ir_records.specs.declared.TypeRefusal.{TypeRefusal}
 use Rattle.valid_types.specs.ValidateType.{judge}
 use Rattle.valid_types.specs.Serving.{Settled}
 use Rattle.valid_types.specs.Serving.{record_row}
 use Rattle.valid_types.proofs.TypeRowLaws.{and_then_same}
 use Rattle.valid_arena.specs.Arena.{judge_step, judged_at, row, row_at}
-use Rattle.valid_arena.specs.Serving.{laid_then_judged, judged_outcome}
+use Rattle.valid_arena.specs.Serving.{laid_then_judged}
 use Rattle.valid_arena.proofs.CommonLaws.{refused_common}
 use Rattle.valid_arena.proofs.AcceptedLaws.{AcceptedTypes, row_size, row_alignment}
 
@@ -42,12 +43,12 @@ unfolding words_of
 row_length r = refl
 
 -- what an answer says of the judgement that it settles, and of the words
-module _ (r : Judged) (at : ℕ) (before after : List ℕ) where
-  pub settled_made : (o : Result Row) → Settled r at before after o → r ≡ Made → (made : Row) × (o ≡ ok made) × (after ≡ with_row before at (words_of made))
+module _ (r : std.Result (Unit {0}) TypeRefusal) (at : ℕ) (before after : List ℕ) where
+  pub settled_made : (o : Result Row) → Settled r at before after o → judged r ≡ ok tt → (made : Row) × (o ≡ ok made) × (after ≡ with_row before at (words_of made))
   settled_made (ok made) s e = (made, refl, s.1)
   settled_made (err n m d) s e = let f = s.0 in let z : ◌≡◌ {A = ℕ} 0 1 = cc in absurd (omega arith)
 
-  pub settled_outcome : (i : ℕ) (o : Result Row) → Settled r at before after o → judged_outcome i r ≡ outcome_at i o
+  pub settled_outcome : (i : ℕ) (o : Result Row) → Settled r at before after o → outcome_at i (judged r) ≡ outcome_at i o
   settled_outcome i (ok made) s = rw s.0 refl
   settled_outcome i (err n m d) s = rw s.0 refl
 
@@ -138,7 +139,7 @@ module _ (least c : ℕ) (ts ms : List ℕ) where
             (λ x. record { size = row_past n k 0 (omega arith) x; alignment = row_past n k 1 (omega arith) x })
 
     -- ---- type n, from these rows
-    module _ (rows rows' : List ℕ) (r : Judged) (so_far : take (n * row_words) rows ≡ flat (row_at least c ts ms) n)
+    module _ (rows rows' : List ℕ) (r : std.Result (Unit {0}) TypeRefusal) (so_far : take (n * row_words) rows ≡ flat (row_at least c ts ms) n)
         (one : Settled r (n * row_words) rows rows' (record_row least c ts ms (take (n * row_words) rows) n)) where
       -- numbers 2 to 7 and then the row, from the words, are what the definition has
       as_defined : record_row least c ts ms (take (n * row_words) rows) n ≡ laid_then_judged least c ts ms n
@@ -158,17 +159,17 @@ module _ (least c : ℕ) (ts ms : List ℕ) where
       settled : Settled r (n * row_words) rows rows' (laid_then_judged least c ts ms n)
       settled = subst (λ (o : Result Row). Settled r (n * row_words) rows rows' o) as_defined one
 
-      pub outcome-at : judged_outcome n r ≡ outcome_at n (laid_then_judged least c ts ms n)
+      pub outcome-at : outcome_at n (judged r) ≡ outcome_at n (laid_then_judged least c ts ms n)
       outcome-at = settled_outcome r (n * row_words) rows rows' n (laid_then_judged least c ts ms n) settled
 
       module _ (room : n * row_words + row_words ≤ length rows) where
         pub rest_kept : (m : ℕ) → n < m → drop (m * row_words) rows' ≡ drop (m * row_words) rows
         rest_kept m h = settled_rest r (n * row_words) rows rows' (m * row_words) (omega arith) room (laid_then_judged least c ts ms n) settled
 
-        pub row_written : r ≡ Made → take ((n + 1) * row_words) rows' ≡ flat (row_at least c ts ms) (n + 1)
+        pub row_written : judged r ≡ ok tt → take ((n + 1) * row_words) rows' ≡ flat (row_at least c ts ms) (n + 1)
         row_written e =
             let made = settled_made r (n * row_words) rows rows' (laid_then_judged least c ts ms n) settled e in
-            let judged = (and_then_ok (record_then_layout ts ms n) (λ _. judged_at least c (decoded ts ms) n) made.0 made.1).2 in
-            let is_row = value_ok empty_row (judge_step least c (decoded ts ms)) n made.0 judged in
+            let one = (and_then_ok (record_then_layout ts ms n) (λ _. judged_at least c (decoded ts ms) n) made.0 made.1).2 in
+            let is_row = value_ok empty_row (judge_step least c (decoded ts ms)) n made.0 one in
             let written = made.2 ∙ ap (λ (x : Row). with_row rows (n * row_words) (words_of x)) (sym is_row) in
             rw written (flat_more row_words rows (row_at least c ts ms) n so_far (whole n) room)

@@ -10,8 +10,8 @@ use Rattle.ir_records.specs.Result.{pick}
 use Rattle.ir_records.specs.Record.{type_count, decoded}
 use Rattle.ir_records.specs.Fields.{row_words}
 use Rattle.ir_records.specs.Table.{flat}
-use Rattle.ir_records.specs.declared.Outcome.{Outcome}
-use Rattle.ir_records.specs.declared.Outcome.TheVariants.{Accepted, Refused}
+use Rattle.ir_records.specs.Outcome.{Outcome}
+use Rattle.ir_records.specs.Outcome.{Accepted, Refused}
 use Rattle.ir_records.proofs.TableLaws.{flat_length, flat_word}
 use Rattle.ir_rows.specs.Rows.{row_word}
 use Rattle.proc_layouter.specs.Layouter.{rows_after}

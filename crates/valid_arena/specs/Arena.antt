@@ -7,8 +7,8 @@ use Rattle.ir_records.specs.Result.{Result, pick}
 use Rattle.ir_records.specs.Record.{Decoded, decoded, type_count}
 use Rattle.ir_records.specs.Fields.{row_words, tables_fit, capabilities_known}
 use Rattle.ir_records.specs.Table.{result_at, value_at, also, first_refusal, flat}
-use Rattle.ir_records.specs.declared.Outcome.{Outcome}
-use Rattle.ir_records.specs.declared.Outcome.TheVariants.{Refused}
+use Rattle.ir_records.specs.Outcome.{Outcome}
+use Rattle.ir_records.specs.Outcome.{Refused}
 use Rattle.proc_layouter.specs.Layouter.{layout, layout_outcome, rows_after}
 use Rattle.valid_type_info.specs.declared.Row.{Row}
 use Rattle.valid_type_info.specs.declared.UniformRule.{UniformRule}

@@ -3,13 +3,10 @@
 use Rattle.std.specs.Prelude.{List, ℕ}
 use Rattle.ir_records.specs.Result.{Result, and_then}
 use Rattle.ir_records.specs.Record.{decoded}
-use Rattle.ir_records.specs.declared.Outcome.{Outcome}
-use Rattle.ir_records.specs.declared.Outcome.TheVariants.{Accepted, Refused}
+use Rattle.ir_records.specs.Outcome.{Outcome}
+use Rattle.ir_records.specs.Outcome.{Accepted, Refused}
 use Rattle.proc_layouter.specs.Serving.{record_then_layout}
 use Rattle.valid_type_info.specs.declared.Row.{Row}
-use Rattle.valid_types.specs.declared.Judged.{Judged}
-use Rattle.valid_types.specs.declared.Judged.TheVariants as judged
-use Rattle.valid_types.specs.declared.Judged.TheVariants.{Made}
 use Rattle.valid_arena.specs.Arena.{judged_at}
 
 -- ---- two calls, the second where the first accepts: the words after both
@@ -20,8 +17,3 @@ after_both (Refused number ty member detail) second first = first
 -- numbers 2 to 7 of type i and then its row, in the order of one type
 abbrev pub laid_then_judged : (least c : ℕ) (ts ms : List ℕ) → ℕ → Result Row
 laid_then_judged least c ts ms i = and_then (record_then_layout ts ms i) (λ _. judged_at least c (decoded ts ms) i)
-
--- the answer for one type as the arena's
-abbrev pub judged_outcome : ℕ → Judged → Outcome
-judged_outcome i Made = Accepted
-judged_outcome i (judged.Refused number member detail) = Refused number i member detail

@@ -4,7 +4,7 @@ use Rattle.std.specs.Prelude.{◌≡◌, ◌⊎◌, List, ℕ, ◌<◌}
 use Rattle.ir_records.specs.Record.{Decoded, decoded, type_count, member_type}
 use Rattle.ir_records.specs.Fields.{row_words}
 use Rattle.ir_records.specs.Table.{first_refusal}
-use Rattle.ir_records.specs.declared.Outcome.TheVariants.{Accepted}
+use Rattle.ir_records.specs.Outcome.{Accepted}
 use Rattle.ir_records.specs.declared.TypeInner.TheVariants.{RuntimeArray, Struct}
 use Rattle.ir_rows.specs.Rows.{row_word}
 use Rattle.valid_type_info.specs.declared.UniformRule.{UniformRule}

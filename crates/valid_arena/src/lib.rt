@@ -2,20 +2,20 @@
 // and then judges.
 #![tactic(auto)]
 
+ghost use Rattle.ir_records.specs.Refusal.{outcome_of};
 ghost use Rattle.std.specs.Prelude.{◌≡◌, true, ◌*◌, ◌≤◌, length, take, drop};
 ghost use Rattle.ir_records.specs.Record.{type_count};
 ghost use Rattle.ir_records.specs.Fields.{tables_fit};
 ghost use Rattle.ir_records.specs.Table.{also, first_refusal, flat};
-ghost use Rattle.ir_records.specs.declared.Outcome.TheVariants.{Accepted};
+ghost use Rattle.ir_records.specs.Outcome.{Accepted};
 ghost use Rattle.ir_rows.specs.Rows.{cleared};
 ghost use Rattle.proc_layouter.specs.Layouter.{layout_outcome, rows_after};
 ghost use Rattle.valid_type_info.specs.Verdict.{least_for};
 ghost use Rattle.valid_arena.specs.Arena.{row_at, arena_outcome, arena_rows, arena_answer, arena_words};
 ghost use Rattle.valid_arena.specs.Serving.{laid_then_judged};
 
-use ir_records::Outcome;
+use ir_records::{Fault, Refusal};
 use valid_type_info::UniformRule;
-use valid_types::Judged;
 
 // Numbers 2 to 7 and then the row, type by type, over n types, up to the first refusal. Each row is made from those that this loop has written.
 fn judge_all(
@@ -25,56 +25,37 @@ fn judge_all(
     members: &[u32],
     rows: &mut [u32],
     n: u32,
-) -> Outcome
+) -> Result<(), Refusal>
     requires n_in_bounds { n * 14 ≤ length rows.old }
     requires n_in_bounds_2 { n * 6 ≤ length types.now }
-    ensures value { result ≡ first_refusal (laid_then_judged (least_for rule) capabilities types.now members.now) n }
-    ensures rows_after { result ≡ Accepted → take (n * 14) rows.new ≡ flat (row_at (least_for rule) capabilities types.now members.now) n }
+    ensures value { outcome_of result ≡ first_refusal (laid_then_judged (least_for rule) capabilities types.now members.now) n }
+    ensures rows_after { outcome_of result ≡ Accepted → take (n * 14) rows.new ≡ flat (row_at (least_for rule) capabilities types.now members.now) n }
     ensures rows_unchanged { drop (n * 14) rows.new ≡ drop (n * 14) rows.old }
 {
-    let mut i: u32 = 0;
-    while i < n {
-        match valid_structs::record_row(capabilities, rule, types, members, rows, i) {
-            Judged::Made => {}
-            Judged::Refused {
-                number,
-                member,
-                detail,
-            } => {
-                return Outcome::Refused {
-                    number,
-                    ty: i,
-                    member,
-                    detail,
-                };
-            }
-        }
-        i += 1;
+    for i in 0..n {
+        let judged = valid_structs::record_row(capabilities, rule, types, members, rows, i);
+        ir_records::at_type(judged, i)?;
     }
-    Outcome::Accepted
+    Ok(())
 }
 
 // Where type by type a refusal was found: 2 to 7 of any type come before it. The rows are zeroed.
-fn refused(types: &[u32], members: &[u32], rows: &mut [u32], n: u32, found: Outcome) -> Outcome
+fn refused(
+    types: &[u32],
+    members: &[u32],
+    rows: &mut [u32],
+    n: u32,
+    found: Result<(), Refusal>,
+) -> Result<(), Refusal>
     requires n_value { n ≡ type_count types.now }
     requires rows_value { tables_fit (length types.now) (length members.now) (length rows.old) ≡ true }
-    ensures value { result ≡ also (layout_outcome types.now members.now) found }
+    ensures value { outcome_of result ≡ also (layout_outcome types.now members.now) (outcome_of found) }
     ensures rows_after { rows.new ≡ cleared rows.old (n * 14) }
 {
-    let before = proc_layouter::layout(types, members, rows);
-    match before {
-        Outcome::Accepted => {
-            let words = (n as usize) * ir_records::ROW_WORDS;
-            ir_rows::clear(rows, words);
-            found
-        }
-        Outcome::Refused {
-            number: _,
-            ty: _,
-            member: _,
-            detail: _,
-        } => before,
-    }
+    proc_layouter::layout(types, members, rows)?;
+    let words = (n as usize) * ir_records::ROW_WORDS;
+    ir_rows::clear(rows, words);
+    found
 }
 
 // Judging, once tables and capabilities are in order.
@@ -85,22 +66,17 @@ fn judge_tables(
     members: &[u32],
     rows: &mut [u32],
     n: u32,
-) -> Outcome
+) -> Result<(), Refusal>
     requires n_value { n ≡ type_count types.now }
     requires rows_value { tables_fit (length types.now) (length members.now) (length rows.old) ≡ true }
-    ensures value { result ≡ arena_outcome capabilities types.now members.now }
-    ensures rows_after { rows.new ≡ rows_after result (arena_rows rule capabilities types.now members.now n) n rows.old }
+    ensures value { outcome_of result ≡ arena_outcome capabilities types.now members.now }
+    ensures rows_after { rows.new ≡ rows_after (outcome_of result) (arena_rows rule capabilities types.now members.now n) n rows.old }
 {
     let found = judge_all(capabilities, rule, types, members, rows, n);
-    match found {
-        Outcome::Accepted => found,
-        Outcome::Refused {
-            number: _,
-            ty: _,
-            member: _,
-            detail: _,
-        } => refused(types, members, rows, n, found),
+    if found.is_err() {
+        return refused(types, members, rows, n, found);
     }
+    found
 }
 
 // Judging: the answer, and the rows of all types in the lent words, whatever these hold: none of them is read before it is written. Nothing is
@@ -111,22 +87,18 @@ pub fn judge(
     capabilities: u32,
     rule: UniformRule,
     rows: &mut [u32],
-) -> Outcome
-    ensures value { result ≡ arena_answer capabilities types.now members.now rows.old }
+) -> Result<(), Refusal>
+    ensures value { outcome_of result ≡ arena_answer capabilities types.now members.now rows.old }
     ensures rows_after { rows.new ≡ arena_words rule capabilities types.now members.now rows.old }
 {
-    if ir_records::capabilities_known(capabilities) {
-        if ir_records::tables_fit(types.len(), members.len(), rows.len()) {
-            let n = (types.len() / ir_records::TYPE_WORDS) as u32;
-            return judge_tables(capabilities, rule, types, members, rows, n);
-        }
+    if !ir_records::capabilities_known(capabilities) {
+        return Err(Refusal::of(Fault::TableLength));
     }
-    Outcome::Refused {
-        number: 1,
-        ty: 0,
-        member: 0,
-        detail: 0,
+    if !ir_records::tables_fit(types.len(), members.len(), rows.len()) {
+        return Err(Refusal::of(Fault::TableLength));
     }
+    let n = (types.len() / ir_records::TYPE_WORDS) as u32;
+    judge_tables(capabilities, rule, types, members, rows, n)
 }
 
 // The arena check: the capability word is tested, the arena laid out, and what that left judged. Nothing is asked of the caller.
@@ -136,26 +108,13 @@ pub fn check(
     capabilities: u32,
     rule: UniformRule,
     rows: &mut [u32],
-) -> Outcome
-    ensures value { result ≡ arena_answer capabilities types.now members.now rows.old }
+) -> Result<(), Refusal>
+    ensures value { outcome_of result ≡ arena_answer capabilities types.now members.now rows.old }
     ensures rows_after { rows.new ≡ arena_words rule capabilities types.now members.now rows.old }
 {
     if !ir_records::capabilities_known(capabilities) {
-        return Outcome::Refused {
-            number: 1,
-            ty: 0,
-            member: 0,
-            detail: 0,
-        };
+        return Err(Refusal::of(Fault::TableLength));
     }
-    let laid = proc_layouter::layout(types, members, rows);
-    match laid {
-        Outcome::Accepted => judge(types, members, capabilities, rule, rows),
-        Outcome::Refused {
-            number: _,
-            ty: _,
-            member: _,
-            detail: _,
-        } => laid,
-    }
+    proc_layouter::layout(types, members, rows)?;
+    judge(types, members, capabilities, rule, rows)
 }

@@ -1,6 +1,8 @@
 -- Laws of blend sources: members without one are judged as before; what is accepted with them is accepted without; the rule after the
 -- last member leaves every flag but IO_SHAREABLE.
 -- Assumes nothing.
+use Rattle.std.proofs.Common.{Option, Some, None}
+use Rattle.std.specs.Option.{is_some}
 use mathlib.Core.Path.{◌≡◌, refl, sym, ◌∙◌, ap}
 use mathlib.Core.Bool.{Bool, true, false, not, ◌&&◌}
 use mathlib.Core.Logic.{◌⊎◌, inl, inr}
@@ -24,7 +26,7 @@ use Rattle.valid_type_info.specs.Verdict.{previous_of, distance_ok}
 use Rattle.valid_member_bounds.specs.declared.Bounds.{Bounds}
 use Rattle.valid_member_bounds.specs.MemberBounds.{is_array, is_member_data, is_apart, is_member_sized, member_bounds, bounds_after}
 use Rattle.valid_blend.specs.Blend.{source_at, source_rules, source_result, sources_after, blended_after, other_location, same_type, pair_of, pair_result, struct_blend}
-use Rattle.valid_blend.specs.Serving.{sources_before, blended_flags}
+use Rattle.valid_blend.specs.Serving.{sources_before, blended_flags, plus_one}
 
 -- each of the first j members passes the rules of its blend source
 abbrev pub Pass : (dual : Bool) (members : List ℕ) → ℕ → Type 0
@@ -85,10 +87,10 @@ module _ (dual : Bool) (members : List ℕ) (j : ℕ) (so_far : sources_after du
   source_passes e = rw (add-one j, so_far) e
 
   -- a refusal stays
-  pub source_stops : {number detail : ℕ} → source_result dual members j ≡ err number 0 detail → (n : ℕ) → j < n → sources_after dual members n ≡ err number 0 detail
+  pub source_stops : {number member detail : ℕ} → source_result dual members j ≡ err number member detail → (n : ℕ) → j < n → sources_after dual members n ≡ err number member detail
   unfolding sources_after
-  source_stops {number} {detail} e n h =
-      le_ind (λ (m : ℕ). sources_after dual members m ≡ err number 0 detail) (rw so_far e) (λ m k p. rw p refl) n h
+  source_stops {number} {member} {detail} e n h =
+      le_ind (λ (m : ℕ). sources_after dual members m ≡ err number member detail) (rw so_far e) (λ m k p. rw p refl) n h
 
 pub before_within : (number member : ℕ) → sources_before number member ≤ suc member
 before_within number member = go (eqb number 17)
@@ -396,3 +398,19 @@ module _ (inner : ℕ → TypeInner) (flags : ℕ → ℕ) (members : List ℕ) 
       → struct_blend inner flags members count left ≡ pair_of inner flags members (other_location members count) left (first - 1) (second - 1)
   unfolding struct_blend
   both_there first second p q h l = ap (λ (x : ℕ). result x (source_at members 2 count)) (p ∙ one_less first h) ∙ ap (result (suc (first - 1))) (q ∙ one_less second l)
+
+-- whether a member has this blend source, as `source_at` tells it
+pub source_met : (found : Option ℕ) → is_some found ≡ true → eqb (plus_one found) 0 ≡ false
+source_met (Some j) e = ne_eqb (suc j) 0 (λ h. omega arith)
+source_met None e = cc
+
+pub source_unmet : (found : Option ℕ) → is_some found ≡ false → eqb (plus_one found) 0 ≡ true
+source_unmet (Some j) e = cc
+source_unmet None e = refl
+
+-- after the last member, by the members that have the sources
+pub blend_by : (inner : ℕ → TypeInner) (flags : ℕ → ℕ) (members : List ℕ) (count left : ℕ) (first second : Option ℕ)
+    → plus_one first ≡ source_at members 1 count → plus_one second ≡ source_at members 2 count
+    → struct_blend inner flags members count left ≡ pair_result inner flags members (other_location members count) left (plus_one first) (plus_one second)
+unfolding struct_blend
+blend_by inner flags members count left first second p q = rw (← p, ← q) refl

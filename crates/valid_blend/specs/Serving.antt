@@ -1,12 +1,8 @@
 -- Serves the contracts of functions inside the library: it adds nothing to what the other files say, and a reader may skip it.
 -- Assumes nothing.
-use Rattle.std.specs.Prelude.{Bool, List, ℕ, suc, eqb}
+use Rattle.std.specs.Prelude.{Bool, List, ℕ, suc, eqb, Option, Some, None}
 use Rattle.ir_records.specs.Result.{Result, err, ok, pick, and_then}
 use Rattle.ir_records.specs.declared.TypeInner.{TypeInner}
-use Rattle.valid_blend.specs.declared.Source.{Source}
-use Rattle.valid_blend.specs.declared.Source.TheVariants as source
-use Rattle.valid_blend.specs.declared.Blend.{Blend}
-use Rattle.valid_blend.specs.declared.Blend.TheVariants as blend
 use Rattle.valid_blend.specs.Blend.{sources_after, struct_blend}
 
 -- all rules of blend sources
@@ -17,10 +13,7 @@ blended_flags dual inner flags members count left = and_then (sources_after dual
 abbrev pub sources_before : (number member : ℕ) → ℕ
 sources_before number member = pick (eqb number 17) member (suc member)
 
-abbrev pub source_answer : Source → Result (Unit {0})
-source_answer source.Fine = ok tt
-source_answer (source.Refused number detail) = err number 0 detail
-
-abbrev pub blend_answer : Blend → Result ℕ
-blend_answer (blend.Flags f) = ok f
-blend_answer (blend.Refused number detail) = err number 0 detail
+-- a member's number as `source_at` has it
+abbrev pub plus_one : Option ℕ → ℕ
+plus_one (Some j) = suc j
+plus_one None = 0

@@ -1,43 +1,29 @@
 // The blend sources of a struct, of validate_type in naga's valid/type.rs.
 #![tactic(auto)]
 
+ghost use Rattle.ir_records.specs.declared.Fault.TheVariants.{InvalidBlendSrc};
 ghost use Rattle.std.specs.Prelude.{◌≡◌, false, ℕ, ◌+◌, ◌*◌, ◌≤◌, ◌<◌, length};
 ghost use Rattle.ir_records.specs.Record.{member_words, member_count, type_inner, member_type, Sourceless};
 ghost use Rattle.valid_flags.specs.Flags.{bit};
 ghost use Rattle.valid_width.specs.Width.{dual_source_blending};
 ghost use Rattle.valid_type_info.specs.TypeInfo.{rows_in, row_flags};
 ghost use Rattle.valid_blend.specs.Blend.{source_at, source_result, sources_after, other_location, leaf_words, inner_words, same_words, same_type, pair_of, struct_blend};
-ghost use Rattle.valid_blend.specs.Serving.{sources_before, blended_flags, source_answer, blend_answer};
+ghost use Rattle.ir_records.specs.Refusal.{judged, number_of, type_refusal};
+ghost use Rattle.valid_blend.specs.Serving.{sources_before, blended_flags, plus_one};
 
-use ir_records::{Leaf, TypeInner, Words};
+use ir_records::{Fault, Leaf, TypeInner, TypeRefusal, Words};
 
-#[derive(Clone, Copy)]
-pub enum Source {
-    Fine,
-    Refused { number: u32, detail: u32 },
-}
-
-// The flags of the struct, or its refusal.
-#[derive(Clone, Copy)]
-pub enum Blend {
-    Flags(u32),
-    Refused { number: u32, detail: u32 },
-}
-
-// The number plus one of the last of the first n members whose blend source is stored as this word; 0 for none.
-pub fn source_at(part: &[u32], word: u32, n: u32) -> u32
+// The last of the first n members whose blend source is stored as this word.
+pub fn source_at(part: &[u32], word: u32, n: u32) -> Option<u32>
     requires { n * member_words ≤ length part.now }
-    ensures { result ≡ source_at part.now word n }
+    ensures { plus_one result ≡ source_at part.now word n }
 {
-    let mut j = n;
-    while j > 0 {
-        let before = j - 1;
-        if ir_records::own_source(part, before as usize) == word {
-            return j;
+    for j in (0..n).rev() {
+        if ir_records::own_source(part, j as usize) == word {
+            return Some(j);
         }
-        j = before;
     }
-    0
+    None
 }
 
 // Whether one of the first n members has a location and no blend source.
@@ -45,67 +31,57 @@ fn other_location(part: &[u32], n: u32) -> bool
     requires { n * member_words ≤ length part.now }
     ensures { result ≡ other_location part.now n }
 {
-    let mut j = n;
-    while j > 0 {
-        let before = j - 1;
-        let source = ir_records::own_source(part, before as usize);
-        let location = ir_records::own_location(part, before as usize);
+    for j in (0..n).rev() {
+        let source = ir_records::own_source(part, j as usize);
+        let location = ir_records::own_location(part, j as usize);
         if (source == 0) & (0 < location) {
             return true;
         }
-        j = before;
     }
     false
 }
 
+// Number 34 with this detail.
+pub fn invalid(detail: u32) -> TypeRefusal
+    ensures { result ≡ type_refusal InvalidBlendSrc 0 detail }
+{
+    TypeRefusal::with_detail(Fault::InvalidBlendSrc, detail)
+}
+
 // Number 8, and 34 with detail 1 and 2, of member j.
-fn source_of(dual: bool, part: &[u32], j: u32) -> Source
+fn source_of(dual: bool, part: &[u32], j: u32) -> Result<(), TypeRefusal>
     requires { j * member_words + member_words ≤ length part.now }
-    ensures { source_answer result ≡ source_result dual part.now j }
+    ensures { judged result ≡ source_result dual part.now j }
 {
     let word = ir_records::own_source(part, j as usize);
     let location = ir_records::own_location(part, j as usize);
     if word == 0 {
-        return Source::Fine;
+        return Ok(());
     }
     if !dual {
-        return Source::Refused {
-            number: 8,
-            detail: valid_width::DUAL_SOURCE_BLENDING,
-        };
+        return Err(TypeRefusal::with_detail(
+            Fault::MissingCapability,
+            valid_width::DUAL_SOURCE_BLENDING,
+        ));
     }
     if !((location == 1) & (word <= 2)) {
-        return Source::Refused {
-            number: 34,
-            detail: 1,
-        };
+        return Err(invalid(1));
     }
-    if source_at(part, word, j) != 0 {
-        return Source::Refused {
-            number: 34,
-            detail: 2,
-        };
+    if source_at(part, word, j).is_some() {
+        return Err(invalid(2));
     }
-    Source::Fine
+    Ok(())
 }
 
 // The same of the first n members, one after the other.
-pub fn sources_of(dual: bool, part: &[u32], n: u32) -> Source
+pub fn sources_of(dual: bool, part: &[u32], n: u32) -> Result<(), TypeRefusal>
     requires { n * member_words ≤ length part.now }
-    ensures { source_answer result ≡ sources_after dual part.now n }
+    ensures { judged result ≡ sources_after dual part.now n }
 {
-    let mut j: u32 = 0;
-    while j < n {
-        match source_of(dual, part, j) {
-            Source::Fine => {
-                j += 1;
-            }
-            Source::Refused { number, detail } => {
-                return Source::Refused { number, detail };
-            }
-        }
+    for j in 0..n {
+        source_of(dual, part, j)?;
     }
-    Source::Fine
+    Ok(())
 }
 
 fn six(kind: u32, a: u32, b: u32, c: u32, d: u32, e: u32) -> Words
@@ -153,13 +129,7 @@ fn inner_words(inner: TypeInner) -> Words
 fn same_words(v: Words, w: Words) -> bool
     ensures { result ≡ same_words v w }
 {
-    (v.kind == w.kind)
-        & (v.a == w.a)
-        & (v.b == w.b)
-        & (v.c == w.c)
-        & (v.d == w.d)
-        & (v.e == w.e)
-        & !(v.kind == 8)
+    (v == w) & (v.kind != ir_records::STRUCT_KIND)
 }
 
 // Whether two records say the same type, and no struct.
@@ -180,62 +150,50 @@ pub fn pair_of(
     flags: u32,
     a: u32,
     b: u32,
-) -> Blend
+) -> Result<u32, TypeRefusal>
     requires { count * member_words ≤ length part.now }
-    ensures { (before : ℕ → ℕ) → before (member_type part.now a) ≡ own → blend_answer result ≡ pair_of (type_inner types.now) before part.now (other_location part.now count) flags a b }
+    ensures { (before : ℕ → ℕ) → before (member_type part.now a) ≡ own → judged result ≡ pair_of (type_inner types.now) before part.now (other_location part.now count) flags a b }
 {
     if other_location(part, count) {
-        return Blend::Refused {
-            number: 34,
-            detail: 3,
-        };
+        return Err(invalid(3));
     }
     let s = ir_records::member_type(part, a);
     let t = ir_records::member_type(part, b);
     if !same_type(types, s, t) {
-        return Blend::Refused {
-            number: 34,
-            detail: 4,
-        };
+        return Err(invalid(4));
     }
     if !valid_flags::is_io_shareable(own) {
-        return Blend::Refused {
-            number: 34,
-            detail: 5,
-        };
+        return Err(invalid(5));
     }
-    Blend::Flags(flags | valid_flags::IO_SHAREABLE)
+    Ok(flags | valid_flags::IO_SHAREABLE)
 }
 
 // After the last member: number 34 with detail 3 to 6, or the flags.
-fn struct_blend(types: &[u32], rows: &[u32], i: u32, part: &[u32], count: u32, flags: u32) -> Blend
+fn struct_blend(
+    types: &[u32],
+    rows: &[u32],
+    i: u32,
+    part: &[u32],
+    count: u32,
+    flags: u32,
+) -> Result<u32, TypeRefusal>
     requires rows_len { length rows.now ≡ i * 14 }
     requires part_len { length part.now ≡ count * member_words }
     requires by_index { (j : ℕ) → j < count → member_type part.now j < i }
-    ensures { blend_answer result ≡ struct_blend (type_inner types.now) (row_flags (rows_in rows.now)) part.now count flags }
+    ensures { judged result ≡ struct_blend (type_inner types.now) (row_flags (rows_in rows.now)) part.now count flags }
 {
     let first = source_at(part, 1, count);
     let second = source_at(part, 2, count);
-    if first == 0 {
-        if second == 0 {
-            return Blend::Flags(flags);
+    match (first, second) {
+        (None, None) => Ok(flags),
+        (Some(a), Some(b)) => {
+            let s = ir_records::member_type(part, a);
+            let own = ir_rows::own_word(rows, s, ir_rows::FLAGS);
+            pair_of(types, own, part, count, flags, a, b)
         }
-        return Blend::Refused {
-            number: 34,
-            detail: 6,
-        };
+        (None, Some(_)) => Err(invalid(6)),
+        (Some(_), None) => Err(invalid(6)),
     }
-    if second == 0 {
-        return Blend::Refused {
-            number: 34,
-            detail: 6,
-        };
-    }
-    let a = first - 1;
-    let b = second - 1;
-    let s = ir_records::member_type(part, a);
-    let own = ir_rows::own_word(rows, s, ir_rows::FLAGS);
-    pair_of(types, own, part, count, flags, a, b)
 }
 
 // All rules of blend sources, of a struct whose members leave these flags. sourced: a member may have one.
@@ -248,42 +206,39 @@ pub fn blended_flags(
     part: &[u32],
     count: u32,
     flags: u32,
-) -> Blend
+) -> Result<u32, TypeRefusal>
     requires rows_len { length rows.now ≡ i * 14 }
     requires part_len { length part.now ≡ count * member_words }
     requires by_index { (j : ℕ) → j < count → member_type part.now j < i }
     requires sourceless { sourced ≡ false → Sourceless part.now (member_count part.now) }
-    ensures { blend_answer result ≡ blended_flags (bit capabilities dual_source_blending) (type_inner types.now) (row_flags (rows_in rows.now)) part.now count flags }
+    ensures { judged result ≡ blended_flags (bit capabilities dual_source_blending) (type_inner types.now) (row_flags (rows_in rows.now)) part.now count flags }
 {
     if !sourced {
-        return Blend::Flags(flags);
+        return Ok(flags);
     }
     let dual = valid_flags::capable(capabilities, valid_width::DUAL_SOURCE_BLENDING);
-    match sources_of(dual, part, count) {
-        Source::Fine => struct_blend(types, rows, i, part, count, flags),
-        Source::Refused { number, detail } => Blend::Refused { number, detail },
-    }
+    sources_of(dual, part, count)?;
+    struct_blend(types, rows, i, part, count, flags)
 }
 
-// The refusal of a blend source that comes before this number of a member.
+// The refusal of a blend source that comes before this refusal of a member.
 pub fn source_before(
     sourced: bool,
     capabilities: u32,
     part: &[u32],
-    number: u32,
-    member: u32,
-) -> Source
-    requires member_words_in_bounds { member * member_words + member_words ≤ length part.now }
-    requires member_bound { member < 4294967295 }
+    refusal: TypeRefusal,
+) -> Result<(), TypeRefusal>
+    requires member_words_in_bounds { refusal.member * member_words + member_words ≤ length part.now }
+    requires member_bound { refusal.member < 4294967295 }
     requires sourceless { sourced ≡ false → Sourceless part.now (member_count part.now) }
-    ensures { source_answer result ≡ sources_after (bit capabilities dual_source_blending) part.now (sources_before number member) }
+    ensures { judged result ≡ sources_after (bit capabilities dual_source_blending) part.now (sources_before (number_of refusal.fault) refusal.member) }
 {
     if !sourced {
-        return Source::Fine;
+        return Ok(());
     }
     let dual = valid_flags::capable(capabilities, valid_width::DUAL_SOURCE_BLENDING);
-    if number == 17 {
-        return sources_of(dual, part, member);
+    if refusal.fault == Fault::InvalidData {
+        return sources_of(dual, part, refusal.member);
     }
-    sources_of(dual, part, member + 1)
+    sources_of(dual, part, refusal.member + 1)
 }

@@ -18,9 +18,9 @@ use Rattle.valid_type_info.specs.Verdict.{min_uniform, previous_of}
 use Rattle.valid_member_bounds.specs.MemberBounds.{bounds_after}
 use Rattle.valid_member_rules.specs.MemberRules.{uniform_after, storage_after, immediates_after}
 use Rattle.valid_types.specs.ValidateType.{flags_of, uniform_of, storage_of, immediates_of, row_of}
-use Rattle.immediates_ranges.specs.declared.Slots.{Slots}
+use Rattle.immediates_ranges.specs.Slots.{Slots}
 use Rattle.immediates_walk.specs.Walk.{members_slots, slots_of, no_slots, slots_at}
-use Rattle.place_steps.specs.declared.Step.{Step}
+use Rattle.place_steps.specs.Step.{Step}
 use Rattle.place_steps.specs.Steps.{step_of}
 use Rattle.place_descent.specs.Place.{walk, leaf_in, place_of}
 use Rattle.valid_blend_laws.specs.SameRows.{SameRows}

@@ -6,8 +6,8 @@ use Rattle.ir_records.specs.Result.{Result, ok, pick, require, and_then}
 use Rattle.ir_records.specs.Record.{Decoded, decoded, type_words, type_count, member_count, member_type, member_offset, struct_members, Sourceless}
 use Rattle.ir_records.specs.Fields.{most_types, most_members, row_words, fields_at}
 use Rattle.ir_records.specs.Table.{result_at, value_at, also, first_refusal, flat}
-use Rattle.ir_records.specs.declared.Outcome.{Outcome}
-use Rattle.ir_records.specs.declared.Outcome.TheVariants.{Refused}
+use Rattle.ir_records.specs.Outcome.{Outcome}
+use Rattle.ir_records.specs.Outcome.{Refused}
 use Rattle.ir_records.specs.declared.TypeInner.{TypeInner}
 use Rattle.ir_records.specs.declared.TypeInner.TheVariants.{Plain, Array, RuntimeArray, Struct, Other}
 use Rattle.proc_type_alignment.specs.declared.TypeLayout.{TypeLayout}

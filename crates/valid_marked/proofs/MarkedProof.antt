@@ -8,8 +8,8 @@ use lib.Dec.{T, eqb, eqb→eq}
 use Rattle.ir_records.specs.Record.{inner_of, type_inner, struct_members}
 use Rattle.ir_records.specs.Fields.{tables_fit, fields_ok, record_at, located_to}
 use Rattle.ir_records.specs.Table.{result_at, value_at}
-use Rattle.ir_records.specs.declared.Outcome.{Outcome}
-use Rattle.ir_records.specs.declared.Outcome.TheVariants.{Accepted, Refused}
+use Rattle.ir_records.specs.Outcome.{Outcome}
+use Rattle.ir_records.specs.Outcome.{Accepted, Refused}
 use Rattle.ir_records.proofs.ResultLaws.{and_left, and_right}
 use Rattle.proc_type_methods.specs.TypeMethods.{try_size}
 use Rattle.proc_type_alignment.specs.TypeAlignment.{members_alignment, alignment_of}
@@ -25,9 +25,9 @@ use Rattle.valid_blend.specs.Blend.{source_at, source_result, blended_after, oth
 use Rattle.valid_member_rules.specs.MemberRules.{uniform_after, storage_after, immediates_after}
 use Rattle.valid_types.specs.ValidateType.{non_data_flags, flags_of, uniform_of, storage_of, immediates_of, row_of, judge, judge_common}
 use Rattle.valid_arena.specs.Arena.{judge_outcome, arena_outcome, arena_answer, arena_rows, arena_words}
-use Rattle.immediates_ranges.specs.declared.SlotsAnswer.{SlotsAnswer}
-use Rattle.immediates_ranges.specs.declared.SlotsAnswer.TheVariants as slots
-use Rattle.immediates_ranges.specs.declared.SlotsAnswer.TheVariants.{Slots}
+use Rattle.immediates_ranges.specs.Answer.{SlotsAnswer}
+use Rattle.immediates_ranges.specs.Answer as slots
+use Rattle.immediates_ranges.specs.Answer.{Slots}
 use Rattle.immediates_ranges.specs.Slots.{covers, covers_all, mask_of, range_slots, part_answer}
 use Rattle.immediates_walk.specs.Walk.{members_slots, slots_of}
 use Rattle.immediates_slots.specs.Immediates.{slots_answer}

@@ -3,14 +3,14 @@
 use Rattle.std.specs.Prelude.{◌≡◌, Bool, true, false, ◌&&◌, List, [], ◌∷◌, ◌++◌, ℕ, suc, ◌+◌, ◌*◌, eqb, length, take, drop, replicate}
 use Rattle.ir_records.specs.Record.{type_count}
 use Rattle.ir_records.specs.Fields.{row_words}
-use Rattle.ir_records.specs.declared.Outcome.{Outcome}
-use Rattle.ir_records.specs.declared.Outcome.TheVariants.{Accepted, Refused}
+use Rattle.ir_records.specs.Outcome.{Outcome}
+use Rattle.ir_records.specs.Outcome.{Accepted, Refused}
 use Rattle.valid_type_info.specs.declared.UniformRule.{UniformRule}
 use Rattle.valid_type_info.specs.declared.UniformRule.TheVariants.{Older, Newer}
 use Rattle.valid_arena.specs.Arena.{arena_answer, arena_words}
-use Rattle.immediates_ranges.specs.declared.SlotsAnswer.{SlotsAnswer}
-use Rattle.immediates_ranges.specs.declared.SlotsAnswer.TheVariants as slots
-use Rattle.immediates_ranges.specs.declared.SlotsAnswer.TheVariants.{Slots}
+use Rattle.immediates_ranges.specs.Answer.{SlotsAnswer}
+use Rattle.immediates_ranges.specs.Answer as slots
+use Rattle.immediates_ranges.specs.Answer.{Slots}
 use Rattle.immediates_ranges.specs.Slots.{range_slots, part_answer}
 use Rattle.immediates_slots.specs.Immediates.{slots_answer}
 

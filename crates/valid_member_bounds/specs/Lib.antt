@@ -1,2 +1,1 @@
 pub mod MemberBounds
-pub mod Serving

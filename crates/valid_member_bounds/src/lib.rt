@@ -5,21 +5,16 @@ ghost use Rattle.std.specs.Prelude.{◌≡◌};
 ghost use Rattle.ir_records.specs.Record.{type_inner};
 ghost use Rattle.valid_type_info.specs.Serving.{is_within};
 ghost use Rattle.valid_member_bounds.specs.MemberBounds.{is_array, is_member_data, is_apart, is_member_sized, member_flags, bounds_by};
-ghost use Rattle.valid_member_bounds.specs.Serving.{bounded_result};
+ghost use Rattle.ir_records.specs.Refusal.{judged};
 
+use ir_records::{Fault, TypeRefusal};
 use valid_type_info::Distance;
 
 // The running end and the flags after some members.
-#[derive(Clone, Copy)]
+#[derive(Clone, Copy, Debug, PartialEq, Eq)]
 pub struct Bounds {
     pub end: u32,
     pub flags: u32,
-}
-
-#[derive(Clone, Copy)]
-pub enum Bounded {
-    Within(Bounds),
-    Refused(u32),
 }
 
 // Whether type t is an array; its kind tells.
@@ -82,32 +77,32 @@ pub fn member_bounds(
     size: u32,
     flags: u32,
     so_far: Bounds,
-) -> Bounded
-    ensures { bounded_result j result ≡ bounds_by count span within array offset j size flags so_far }
+) -> Result<Bounds, TypeRefusal>
+    ensures { judged result ≡ bounds_by count span within array offset j size flags so_far }
 {
     let end = so_far.end;
     if !is_member_data(flags) {
-        return Bounded::Refused(17);
+        return Err(TypeRefusal::of_member(Fault::InvalidData, j));
     }
     if !is_apart(end, offset) {
-        return Bounded::Refused(18);
+        return Err(TypeRefusal::of_member(Fault::MemberOverlap, j));
     }
     let sum = (offset as u64) + (size as u64);
     if proc_alignment::MOST < sum {
-        return Bounded::Refused(21);
+        return Err(TypeRefusal::of_member(Fault::StructSum, j));
     }
     let next = sum as u32;
     if span < next {
-        return Bounded::Refused(19);
+        return Err(TypeRefusal::of_member(Fault::MemberOutOfBounds, j));
     }
     if !within {
-        return Bounded::Refused(21);
+        return Err(TypeRefusal::of_member(Fault::StructSum, j));
     }
     if !is_member_sized(flags, array, j, count) {
-        return Bounded::Refused(20);
+        return Err(TypeRefusal::of_member(Fault::InvalidDynamicArray, j));
     }
     let joined = valid_flags::both(so_far.flags, flags);
-    Bounded::Within(Bounds {
+    Ok(Bounds {
         end: next,
         flags: member_flags(end, offset, joined),
     })

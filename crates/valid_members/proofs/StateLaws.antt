@@ -27,10 +27,10 @@ use Rattle.valid_member_bounds.specs.MemberBounds.{is_array, member_bounds, boun
 use Rattle.valid_member_rules.specs.MemberRules.{uniform_after, storage_after, immediates_after, member_immediates}
 use Rattle.valid_members_plain.specs.declared.PlainState.{PlainState}
 use Rattle.valid_members_plain.specs.Serving.{least_of, plain_bounds, PlainAfter}
-use Rattle.valid_members.specs.declared.Members.{Members}
-use Rattle.valid_members.specs.declared.Members.TheVariants as members
-use Rattle.valid_members.specs.declared.Members.TheVariants.{Taken}
-use Rattle.valid_members.specs.Serving.{state_after, member_step, members_result, is_clean, Told}
+use Rattle.std.specs.Prelude as std
+use Rattle.ir_records.specs.Refusal.{judged}
+use Rattle.ir_records.specs.declared.TypeRefusal.{TypeRefusal}
+use Rattle.valid_members.specs.Serving.{state_after, member_step, is_clean, Told}
 
 module _ (least : ℕ) (inner : ℕ → TypeInner) (rows : ℕ → Row) (i count span : ℕ) (part : List ℕ) where
   -- one member more
@@ -155,12 +155,12 @@ module _ (least : ℕ) (inner : ℕ → TypeInner) (rows : ℕ → Row) (i count
   plain_state s u immediates p = rw (p.0, p.1, p.2, p.3) refl
 
 -- the state after all members, or the refusal, tells its parts
-pub told : (least : ℕ) (inner : ℕ → TypeInner) (rows : ℕ → Row) (i count span : ℕ) (part : List ℕ) (m : Members)
-    → members_result m ≡ state_after least inner rows i count span part count → Told least inner rows i count span part m
-told least inner rows i count span part (Taken s) e =
+pub told : (least : ℕ) (inner : ℕ → TypeInner) (rows : ℕ → Row) (i count span : ℕ) (part : List ℕ) (m : std.Result State TypeRefusal)
+    → judged m ≡ state_after least inner rows i count span part count → Told least inner rows i count span part m
+told least inner rows i count span part (std.Ok s) e =
     let p = state_parts least inner rows i count span part count s (sym e) in
     (p.bounds, p.uniform, p.storage, p.immediates)
-told least inner rows i count span part (members.Refused number member) e = state_error least inner rows i count span part count (sym e)
+told least inner rows i count span part (std.Err r) e = state_error least inner rows i count span part count (sym e)
 
 -- ---- a verdict that is Ok with its alignment alone
 abbrev verdict : (code ty index value bound : ℕ) → Verdict

@@ -2,8 +2,11 @@
 -- 01, 'The result row': a struct, member by member. What the code carries from member to member, by the rules of one member
 -- (valid_member_rules: MemberRules), and what it answers. `rows` are the rows of the types before type i.
 -- Assumes nothing.
-use Rattle.std.specs.Prelude.{Bool, true, false, ◌&&◌, List, ◌≡◌, ℕ, ◌≤◌, eqb}
+use Rattle.std.specs.Prelude as std
+use Rattle.std.specs.Prelude.{Option, Some, None, Bool, true, false, ◌&&◌, List, ◌≡◌, ℕ, ◌≤◌, eqb}
 use Rattle.ir_records.specs.Result.{Result, err, ok, and_then}
+use Rattle.ir_records.specs.Refusal.{number_of}
+use Rattle.ir_records.specs.declared.TypeRefusal.{TypeRefusal}
 use Rattle.ir_records.specs.declared.TypeInner.{TypeInner}
 use Rattle.valid_flags.specs.Flags.{is_sized_data}
 use Rattle.valid_type_info.specs.declared.Previous.{Previous}
@@ -15,17 +18,8 @@ use Rattle.valid_type_info.specs.Verdict.{least_for, ok_verdict, is_ok, previous
 use Rattle.valid_member_bounds.specs.MemberBounds.{bounds_by, bounds_after}
 use Rattle.valid_member_rules.specs.MemberRules.{member_uniform, member_storage, member_immediates, uniform_after, storage_after, immediates_after}
 use Rattle.valid_members.specs.declared.State.{State}
-use Rattle.valid_members.specs.declared.Stepped.{Stepped}
-use Rattle.valid_members.specs.declared.Stepped.TheVariants as stepped
-use Rattle.valid_members.specs.declared.Stepped.TheVariants.{Took}
-use Rattle.valid_members.specs.declared.Ordered.{Ordered}
-use Rattle.valid_members.specs.declared.Ordered.TheVariants as ordered
-use Rattle.valid_members.specs.declared.Ordered.TheVariants.{Other}
 use Rattle.valid_members.specs.declared.Way.{Way}
 use Rattle.valid_members.specs.declared.Way.TheVariants as way
-use Rattle.valid_members.specs.declared.Members.{Members}
-use Rattle.valid_members.specs.declared.Members.TheVariants as members
-use Rattle.valid_members.specs.declared.Members.TheVariants.{Taken}
 
 -- after j members
 unfoldable pub state_after : (least : ℕ) (inner : ℕ → TypeInner) (rows : ℕ → Row) (i count span : ℕ) (members : List ℕ) → ℕ → Result State
@@ -51,14 +45,6 @@ member_step least i count span j t offset array next r s =
       previous = next;
     }))
 
-abbrev pub stepped_result : (j : ℕ) → Stepped → Result State
-stepped_result j (Took s) = ok s
-stepped_result j (stepped.Refused number) = err number j 0
-
-abbrev pub members_result : Members → Result State
-members_result (Taken s) = ok s
-members_result (members.Refused number member) = err number member 0
-
 -- a member that breaks no rule of bounds and needs no distance: it begins at the running end or past it and ends within the span
 pub record InOrder (flags running offset end span : ℕ) (previous : Previous) : Type 0 where
   pub sized_data : is_sized_data flags ≡ true
@@ -68,18 +54,18 @@ pub record InOrder (flags running offset end span : ℕ) (previous : Previous) :
   pub enough : (rule : UniformRule) (i j : ℕ) (v : Verdict) → distance_verdict (least_for rule) i j offset previous v ≡ v
 
 -- what is taken as a member in order is the member's step; nothing is said of a member that is passed on
-abbrev pub ordered_step : Ordered → Result State → Type 0
-ordered_step (ordered.Took s) step = step ≡ ok s
-ordered_step Other step = Unit {0}
+abbrev pub ordered_step : Option State → Result State → Type 0
+ordered_step (Some s) step = step ≡ ok s
+ordered_step None step = Unit {0}
 
 -- what the code answers of all members: the parts of the state after them, but for the member right before, or the refusal
-abbrev pub Told : (least : ℕ) (inner : ℕ → TypeInner) (rows : ℕ → Row) (i count span : ℕ) (part : List ℕ) → Members → Type 0
-Told least inner rows i count span part (Taken s) =
+abbrev pub Told : (least : ℕ) (inner : ℕ → TypeInner) (rows : ℕ → Row) (i count span : ℕ) (part : List ℕ) → std.Result State TypeRefusal → Type 0
+Told least inner rows i count span part (std.Ok s) =
     (bounds_after inner (row_sizes rows) (row_flags rows) count span part count ≡ ok s.bounds)
     × (uniform_after least inner rows i part count ≡ s.uniform)
     × (storage_after rows i part count ≡ s.storage)
     × (immediates_after rows part count ≡ s.immediates)
-Told least inner rows i count span part (members.Refused number member) = bounds_after inner (row_sizes rows) (row_flags rows) count span part count ≡ err number member 0
+Told least inner rows i count span part (std.Err r) = bounds_after inner (row_sizes rows) (row_flags rows) count span part count ≡ err (number_of r.fault) r.member r.detail
 
 -- a verdict that is Ok, with its alignment and nothing else
 abbrev pub is_clean : Verdict → Bool

@@ -9,9 +9,11 @@ ghost use Rattle.valid_type_info.specs.TypeInfo.{rows_in, verdict_in};
 ghost use Rattle.valid_type_info.specs.Verdict.{least_for, ok_verdict, is_ok, share_verdict, member_verdict, struct_at, previous_of};
 ghost use Rattle.valid_members_plain.specs.Serving.{least_of};
 ghost use Rattle.valid_member_bounds.specs.MemberBounds.{is_array};
-ghost use Rattle.valid_members.specs.Serving.{member_step, state_after, stepped_result, members_result, InOrder, ordered_step, is_clean, WayFits};
+ghost use Rattle.ir_records.specs.Refusal.{judged};
+ghost use Rattle.valid_members.specs.Serving.{member_step, state_after, InOrder, ordered_step, is_clean, WayFits};
 
-use valid_member_bounds::{Bounded, Bounds};
+use ir_records::TypeRefusal;
+use valid_member_bounds::Bounds;
 use valid_members_plain::PlainState;
 use valid_type_info::{Previous, Row, UniformRule, Verdict};
 
@@ -23,19 +25,6 @@ pub struct State {
     pub storage: Verdict,
     pub immediates: u32,
     pub previous: Previous,
-}
-
-#[derive(Clone, Copy)]
-pub enum Stepped {
-    Took(State),
-    Refused(u32),
-}
-
-// The step of a member in order, or a member for `member`.
-#[derive(Clone, Copy)]
-pub enum Ordered {
-    Took(State),
-    Other,
 }
 
 // How many members have been taken, and what is known after them.
@@ -53,12 +42,6 @@ pub enum Way {
     Storage,
 }
 
-#[derive(Clone, Copy)]
-pub enum Members {
-    Taken(State),
-    Refused { number: u32, member: u32 },
-}
-
 // One member of type t, in 01's order.
 fn member(
     rule: UniformRule,
@@ -72,8 +55,8 @@ fn member(
     next: Previous,
     row: Row,
     state: State,
-) -> Stepped
-    ensures { stepped_result j result ≡ member_step (least_for rule) i count span j t offset array next row state }
+) -> Result<State, TypeRefusal>
+    ensures { judged result ≡ member_step (least_for rule) i count span j t offset array next row state }
 {
     let so_far = state.bounds;
     let previous = state.previous;
@@ -81,7 +64,7 @@ fn member(
     let storage_so_far = state.storage;
     let immediates_so_far = state.immediates;
     let d = valid_type_info::distance_to(previous, offset);
-    match valid_member_bounds::member_bounds(
+    let bounds = valid_member_bounds::member_bounds(
         count,
         span,
         valid_member_bounds::is_within(d),
@@ -91,31 +74,18 @@ fn member(
         row.size,
         row.flags,
         so_far,
-    ) {
-        Bounded::Within(bounds) => {
-            let least = valid_type_info::least_for(rule);
-            let uniform = valid_member_rules::uniform_of(
-                least,
-                d,
-                i,
-                j,
-                t,
-                offset,
-                row,
-                uniform_so_far,
-            );
-            let storage = valid_member_rules::storage_of(i, j, t, offset, row, storage_so_far);
-            let immediates = valid_member_rules::immediates_of(row.immediates, immediates_so_far);
-            Stepped::Took(State {
-                bounds,
-                uniform,
-                storage,
-                immediates,
-                previous: next,
-            })
-        }
-        Bounded::Refused(number) => Stepped::Refused(number),
-    }
+    )?;
+    let least = valid_type_info::least_for(rule);
+    let uniform = valid_member_rules::uniform_of(least, d, i, j, t, offset, row, uniform_so_far);
+    let storage = valid_member_rules::storage_of(i, j, t, offset, row, storage_so_far);
+    let immediates = valid_member_rules::immediates_of(row.immediates, immediates_so_far);
+    Ok(State {
+        bounds,
+        uniform,
+        storage,
+        immediates,
+        previous: next,
+    })
 }
 
 // After the first `taken` members: the storage verdict is Ok, with this alignment.
@@ -214,7 +184,7 @@ fn ordered_member(
     t: u32,
     offset: u32,
     state: State,
-) -> Ordered
+) -> Option<State>
     requires t_lt_i { t < i }
     requires rows_len { length rows.now ≡ i * 14 }
     ensures { (rule : rule.UniformRule) (count : ℕ) → ordered_step result (member_step (least_for rule) i count span j t offset (is_array (type_inner types.now t)) (struct_at (type_inner types.now t) offset) (rows_in rows.now t) state) }
@@ -227,14 +197,14 @@ fn ordered_member(
     let own = ir_rows::own_word(rows, t, ir_rows::IMMEDIATES);
     let sum = valid_member_rules::end_of(offset, ir_rows::own_word(rows, t, ir_rows::SIZE));
     if !is_in_order(flags, so_far.end, offset, sum, span, previous) {
-        return Ordered::Other;
+        return None;
     }
     let bounds = Bounds {
         end: sum as u32,
         flags: valid_flags::both(so_far.flags, flags),
     };
     let shareable = valid_flags::is_host_shareable(flags);
-    Ordered::Took(State {
+    Some(State {
         bounds,
         uniform: verdict_after(rows, t, ir_rows::UNIFORM, shareable, i, j, offset, uniform),
         storage: verdict_after(rows, t, ir_rows::STORAGE, shareable, i, j, offset, storage),
@@ -263,21 +233,22 @@ fn ordered_members(
     ensures taken_value { (rule : rule.UniformRule) → state_after (least_for rule) (type_inner types.now) (rows_in rows.now) i count span part.now taken ≡ ok before → state_after (least_for rule) (type_inner types.now) (rows_in rows.now) i count span part.now result.taken ≡ ok result.state }
 {
     let mut state = before;
-    let mut j: u32 = taken;
-    while j < count {
+    for j in taken..count {
         let t = ir_records::own_type(part, j as usize);
         let offset = ir_records::own_offset(part, j as usize);
         match ordered_member(types, rows, i, span, j, t, offset, state) {
-            Ordered::Took(next) => {
+            Some(next) => {
                 state = next;
             }
-            Ordered::Other => {
+            None => {
                 return Reached { taken: j, state };
             }
         }
-        j += 1;
     }
-    Reached { taken: j, state }
+    Reached {
+        taken: count,
+        state,
+    }
 }
 
 // Where member j may begin that overlaps none before it and keeps the distance; end: the end of the member before it.
@@ -477,10 +448,10 @@ fn step(
     span: u32,
     j: u32,
     state: State,
-) -> Stepped
+) -> Result<State, TypeRefusal>
     requires rows_len { length rows.now ≡ i * 14 }
     requires j_value { state_after (least_for rule) (type_inner types.now) (rows_in rows.now) i count span part.now j ≡ ok state }
-    ensures { stepped_result j result ≡ state_after (least_for rule) (type_inner types.now) (rows_in rows.now) i count span part.now (j + 1) }
+    ensures { judged result ≡ state_after (least_for rule) (type_inner types.now) (rows_in rows.now) i count span part.now (j + 1) }
 {
     let ty = ir_records::member_type(part, j);
     let offset = ir_records::member_offset(part, j);
@@ -502,33 +473,27 @@ pub fn members_of(
     span: u32,
     taken: u32,
     before: State,
-) -> Members
+) -> Result<State, TypeRefusal>
     requires rows_len { length rows.now ≡ i * 14 }
     requires i_in_bounds { i * 6 ≤ length types.now }
     requires part_len { length part.now ≡ count * member_words }
     requires by_index { (j : ℕ) → j < count → member_type part.now j < i }
     requires taken_le_count { taken ≤ count }
     requires taken_value { state_after (least_for rule) (type_inner types.now) (rows_in rows.now) i count span part.now taken ≡ ok before }
-    ensures { members_result result ≡ state_after (least_for rule) (type_inner types.now) (rows_in rows.now) i count span part.now count }
+    ensures { judged result ≡ state_after (least_for rule) (type_inner types.now) (rows_in rows.now) i count span part.now count }
 {
     let mut state = before;
     let mut j: u32 = taken;
+    // Kept: j goes on by as many members as were taken together, which no range does.
     while j < count {
         let reached = together(types, rows, i, part, count, span, j, state);
         let at = reached.taken;
         let there = reached.state;
         if at == count {
-            return Members::Taken(there);
+            return Ok(there);
         }
-        match step(rule, types, rows, i, part, count, span, at, there) {
-            Stepped::Took(after) => {
-                state = after;
-            }
-            Stepped::Refused(number) => {
-                return Members::Refused { number, member: at };
-            }
-        }
+        state = step(rule, types, rows, i, part, count, span, at, there)?;
         j = at + 1;
     }
-    Members::Taken(state)
+    Ok(state)
 }

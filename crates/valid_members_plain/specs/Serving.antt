@@ -2,7 +2,7 @@
 -- 01, 'The result row': members of a struct one after the other, as long as none breaks a rule, by the rules of one member (valid_member_rules:
 -- MemberRules). `rows` are the rows of the types before type i.
 -- Assumes nothing.
-use Rattle.std.specs.Prelude.{Bool, ◌&&◌, List, ◌≡◌, ℕ, ◌+◌, max, eqb}
+use Rattle.std.specs.Prelude.{Option, Some, None, Bool, ◌&&◌, List, ◌≡◌, ℕ, ◌+◌, max, eqb}
 use Rattle.ir_records.specs.Result.{ok}
 use Rattle.ir_records.specs.declared.TypeInner.{TypeInner}
 use Rattle.proc_alignment.specs.Alignment.{is_mask, is_aligned, round_up}
@@ -16,8 +16,6 @@ use Rattle.valid_member_bounds.specs.declared.Bounds.{Bounds}
 use Rattle.valid_member_bounds.specs.MemberBounds.{member_bounds, bounds_after}
 use Rattle.valid_member_rules.specs.MemberRules.{member_uniform, member_storage, uniform_after, storage_after, immediates_after}
 use Rattle.valid_members_plain.specs.declared.PlainState.{PlainState}
-use Rattle.valid_members_plain.specs.declared.Plain.{Plain}
-use Rattle.valid_members_plain.specs.declared.Plain.TheVariants.{Took, Other}
 
 -- where a member may begin that overlaps none before it and keeps the distance from a struct right before it
 abbrev pub least_of : (end : ℕ) → Previous → ℕ
@@ -42,24 +40,24 @@ plain_bounds s = record { end = s.end; flags = s.flags }
 
 -- what is taken as a plain member is the member's step, by each rule; nothing is said of a member that is passed on.
 -- this: what the record of its type says
-abbrev pub Stepped : (least : ℕ) (this : TypeInner) (r : Row) (i count span j t offset : ℕ) → Previous → PlainState → Plain → Type 0
-Stepped least this r i count span j t offset before s (Took next) =
+abbrev pub Stepped : (least : ℕ) (this : TypeInner) (r : Row) (i count span j t offset : ℕ) → Previous → PlainState → Option PlainState → Type 0
+Stepped least this r i count span j t offset before s (Some next) =
     (member_bounds count span before this offset j r.size r.flags (plain_bounds s) ≡ ok (plain_bounds next))
     × (member_uniform least i j t offset before r (ok_verdict s.uniform) ≡ ok_verdict next.uniform)
     × (member_storage i j t offset r (ok_verdict s.storage) ≡ ok_verdict next.storage)
     × (r.immediates ≡ 0)
     × (least_of next.end (struct_at this offset) ≡ next.least)
-Stepped least this r i count span j t offset before s Other = Unit {0}
+Stepped least this r i count span j t offset before s None = Unit {0}
 
 -- the same where the uniform verdict u has failed and stays
-abbrev pub StorageStepped : (least : ℕ) (u : Verdict) (this : TypeInner) (r : Row) (i count span j t offset : ℕ) → Previous → PlainState → Plain → Type 0
-StorageStepped least u this r i count span j t offset before s (Took next) =
+abbrev pub StorageStepped : (least : ℕ) (u : Verdict) (this : TypeInner) (r : Row) (i count span j t offset : ℕ) → Previous → PlainState → Option PlainState → Type 0
+StorageStepped least u this r i count span j t offset before s (Some next) =
     (member_bounds count span before this offset j r.size r.flags (plain_bounds s) ≡ ok (plain_bounds next))
     × (member_uniform least i j t offset before r u ≡ u)
     × (member_storage i j t offset r (ok_verdict s.storage) ≡ ok_verdict next.storage)
     × (r.immediates ≡ 0)
     × (least_of next.end (struct_at this offset) ≡ next.least)
-StorageStepped least u this r i count span j t offset before s Other = Unit {0}
+StorageStepped least u this r i count span j t offset before s None = Unit {0}
 
 -- what is known after j members: the uniform verdict u, the immediates word, the rest in s
 abbrev pub PlainAfter : (least : ℕ) (inner : ℕ → TypeInner) (rows : ℕ → Row) (i count span : ℕ) (members : List ℕ) (j : ℕ) (u : Verdict) (immediates : ℕ) → PlainState → Type 0

@@ -28,12 +28,6 @@ pub struct PlainState {
     pub least: u64,
 }
 
-#[derive(Clone, Copy)]
-pub enum Plain {
-    Took(PlainState),
-    Other,
-}
-
 // How many members have been taken, and what is known after them.
 #[derive(Clone, Copy)]
 pub struct Reached {
@@ -83,7 +77,7 @@ fn plain_member(
     t: u32,
     offset: u32,
     state: PlainState,
-) -> Plain
+) -> Option<PlainState>
     requires t_in_bounds { t * 14 + 14 ≤ length rows.now }
     requires t_in_bounds_2 { t * 6 + 6 ≤ length types.now }
     ensures { (rule : rule.UniformRule) (count j : ℕ) (before : previous.Previous) → least_of state.end before ≡ state.least → Stepped (least_for rule) (type_inner types.now t) (rows_in rows.now t) i count span j t offset before state result }
@@ -91,28 +85,26 @@ fn plain_member(
     let flags = ir_rows::own_word(rows, t, ir_rows::FLAGS);
     let end = valid_member_rules::end_of(offset, ir_rows::own_word(rows, t, ir_rows::SIZE));
     if !valid_member_rules::is_plain(flags) {
-        return Plain::Other;
+        return None;
     }
     if (offset as u64) < state.least {
-        return Plain::Other;
+        return None;
     }
     if (span as u64) < end {
-        return Plain::Other;
+        return None;
     }
     if !keeps_verdicts(rows, t, offset) {
-        return Plain::Other;
+        return None;
     }
-    Plain::Took(PlainState {
+    Some(PlainState {
         end: end as u32,
         flags: valid_flags::both(state.flags, flags),
-        uniform: proc_alignment::larger(
-            state.uniform,
-            ir_rows::own_word(rows, t, ir_rows::UNIFORM_ALIGNMENT),
-        ),
-        storage: proc_alignment::larger(
-            state.storage,
-            ir_rows::own_word(rows, t, ir_rows::STORAGE_ALIGNMENT),
-        ),
+        uniform: state
+            .uniform
+            .max(ir_rows::own_word(rows, t, ir_rows::UNIFORM_ALIGNMENT)),
+        storage: state
+            .storage
+            .max(ir_rows::own_word(rows, t, ir_rows::STORAGE_ALIGNMENT)),
         least: least_after(types, t, offset, end),
     })
 }
@@ -142,7 +134,7 @@ fn storage_member(
     t: u32,
     offset: u32,
     state: PlainState,
-) -> Plain
+) -> Option<PlainState>
     requires t_in_bounds { t * 14 + 14 ≤ length rows.now }
     requires t_in_bounds_2 { t * 6 + 6 ≤ length types.now }
     ensures { (rule : rule.UniformRule) (u : verdict.Verdict) (count j : ℕ) (before : previous.Previous) → is_ok u ≡ false → least_of state.end before ≡ state.least → StorageStepped (least_for rule) u (type_inner types.now t) (rows_in rows.now t) i count span j t offset before state result }
@@ -150,25 +142,24 @@ fn storage_member(
     let flags = ir_rows::own_word(rows, t, ir_rows::FLAGS);
     let end = valid_member_rules::end_of(offset, ir_rows::own_word(rows, t, ir_rows::SIZE));
     if !valid_member_rules::is_plain(flags) {
-        return Plain::Other;
+        return None;
     }
     if (offset as u64) < state.least {
-        return Plain::Other;
+        return None;
     }
     if (span as u64) < end {
-        return Plain::Other;
+        return None;
     }
     if !keeps_storage(rows, t, offset) {
-        return Plain::Other;
+        return None;
     }
-    Plain::Took(PlainState {
+    Some(PlainState {
         end: end as u32,
         flags: valid_flags::both(state.flags, flags),
         uniform: state.uniform,
-        storage: proc_alignment::larger(
-            state.storage,
-            ir_rows::own_word(rows, t, ir_rows::STORAGE_ALIGNMENT),
-        ),
+        storage: state
+            .storage
+            .max(ir_rows::own_word(rows, t, ir_rows::STORAGE_ALIGNMENT)),
         least: least_after(types, t, offset, end),
     })
 }
@@ -208,23 +199,20 @@ pub fn plain_members(
     ensures plain_after { (rule : rule.UniformRule) (immediates : ℕ) → PlainAfter (least_for rule) (type_inner types.now) (rows_in rows.now) i count span part.now taken (ok_verdict before.uniform) immediates before → PlainAfter (least_for rule) (type_inner types.now) (rows_in rows.now) i count span part.now result.taken (ok_verdict result.state.uniform) immediates result.state }
 {
     let mut state = before;
-    let last = count as usize;
-    let mut j: usize = taken as usize;
-    while j < last {
+    for j in taken as usize..count as usize {
         let t = ir_records::own_type(part, j);
         let offset = ir_records::own_offset(part, j);
         match plain_member(types, rows, i, span, t, offset, state) {
-            Plain::Took(next) => {
+            Some(next) => {
                 state = next;
             }
-            Plain::Other => {
+            None => {
                 return Reached {
                     taken: j as u32,
                     state,
                 };
             }
         }
-        j += 1;
     }
     Reached {
         taken: count,
@@ -253,23 +241,20 @@ pub fn storage_members(
     ensures plain_after { (rule : rule.UniformRule) (u : verdict.Verdict) (immediates : ℕ) → is_ok u ≡ false → PlainAfter (least_for rule) (type_inner types.now) (rows_in rows.now) i count span part.now taken u immediates before → PlainAfter (least_for rule) (type_inner types.now) (rows_in rows.now) i count span part.now result.taken u immediates result.state }
 {
     let mut state = before;
-    let last = count as usize;
-    let mut j: usize = taken as usize;
-    while j < last {
+    for j in taken as usize..count as usize {
         let t = ir_records::own_type(part, j);
         let offset = ir_records::own_offset(part, j);
         match storage_member(types, rows, i, span, t, offset, state) {
-            Plain::Took(next) => {
+            Some(next) => {
                 state = next;
             }
-            Plain::Other => {
+            None => {
                 return Reached {
                     taken: j as u32,
                     state,
                 };
             }
         }
-        j += 1;
     }
     Reached {
         taken: count,

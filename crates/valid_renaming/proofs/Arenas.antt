@@ -10,7 +10,7 @@ use lib.ListN.{get_or}
 use Rattle.ir_records.specs.Record.{Decoded, decoded, inner_of, type_inner, struct_members}
 use Rattle.ir_records.specs.Fields.{tables_fit, fields_ok, located_to, record_at}
 use Rattle.ir_records.specs.Table.{result_at, value_at}
-use Rattle.ir_records.specs.declared.Outcome.TheVariants.{Accepted}
+use Rattle.ir_records.specs.Outcome.{Accepted}
 use Rattle.ir_records.specs.declared.TypeInner.TheVariants.{Struct}
 use Rattle.proc_type_methods.specs.TypeMethods.{try_size}
 use Rattle.proc_type_alignment.specs.TypeAlignment.{members_alignment, alignment_of}
@@ -27,11 +27,11 @@ use Rattle.valid_member_rules.specs.MemberRules.{uniform_after, storage_after, i
 use Rattle.valid_types.specs.ValidateType.{non_data_flags, flags_of, uniform_of, storage_of, immediates_of, row_of, judge, judge_common}
 use Rattle.valid_arena.specs.Arena.{row, judge_outcome, arena_outcome, arena}
 use Rattle.valid_arena.proofs.ArenaLaws.{accepted_types}
-use Rattle.immediates_ranges.specs.declared.Slots.TheVariants.{Mask}
+use Rattle.immediates_ranges.specs.Slots.{Mask}
 use Rattle.immediates_ranges.specs.Slots.{covers, covers_all, mask_of, range_slots}
 use Rattle.immediates_walk.specs.Walk.{members_slots, slots_of, slots_at}
 use Rattle.place_steps.specs.Steps.{step_of}
-use Rattle.place_descent.specs.declared.Place.TheVariants.{At}
+use Rattle.place_descent.specs.Place.{At}
 use Rattle.place_descent.specs.Place.{place_of}
 use Rattle.valid_renaming.specs.Renaming.{Reaches, renamed_inner, MemberAgrees, Agree, RecordsAgree, ReachedAgree, renamed_row}
 use Rattle.valid_renaming.proofs.ReachLaws.{reaches_earlier}

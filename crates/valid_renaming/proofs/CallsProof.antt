@@ -5,14 +5,14 @@ use mathlib.Core.List.{List}
 use Prim.Native.Nat.{ℕ, ◌<◌}
 use borrow.Author.Tests.{lt-ltb}
 use Rattle.ir_records.specs.Record.{decoded, type_count}
-use Rattle.ir_records.specs.declared.Outcome.TheVariants.{Accepted}
+use Rattle.ir_records.specs.Outcome.{Accepted}
 use Rattle.valid_arena.specs.Arena.{arena_answer}
 use Rattle.valid_arena.proofs.WordLaws.{row_left}
 use Rattle.immediates_ranges.specs.Slots.{part_answer}
 use Rattle.immediates_walk.specs.Walk.{slots_at}
 use Rattle.immediates_slots.specs.Immediates.{slots_answer}
-use Rattle.place_descent.specs.declared.Place.{Place}
-use Rattle.place_descent.specs.declared.Place.TheVariants.{At, NoPlace}
+use Rattle.place_descent.specs.Place.{Place}
+use Rattle.place_descent.specs.Place.{At, NoPlace}
 use Rattle.place_descent.specs.Place.{place_of}
 use Rattle.place_lookup.specs.Place.{place_answer, lookup_answer}
 use Rattle.place_lookup.proofs.LookupLaws.{answer_accepted}

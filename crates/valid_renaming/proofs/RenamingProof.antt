@@ -6,7 +6,7 @@ use Prim.Native.Nat.{ℕ, ◌<◌}
 use native.Mathlib.Omega.{arith}
 use lib.Bits.{bit_or}
 use Rattle.ir_records.specs.Record.{decoded, type_count, type_inner}
-use Rattle.ir_records.specs.declared.Outcome.TheVariants.{Accepted}
+use Rattle.ir_records.specs.Outcome.{Accepted}
 use Rattle.ir_records.specs.declared.NonData.TheVariants.{Pointer, BindingArray}
 use Rattle.ir_records.specs.declared.TypeInner.TheVariants.{Other}
 use Rattle.valid_flags.proofs.BitLaws.{bit_or_left, bit_or_right}

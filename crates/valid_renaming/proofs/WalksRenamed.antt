@@ -16,15 +16,15 @@ use Rattle.ir_records.proofs.ResultLaws.{true_T}
 use Rattle.proc_type_methods.specs.TypeMethods.{leaf_column_step}
 use Rattle.valid_type_info.specs.Verdict.{min_storage}
 use Rattle.valid_arena.proofs.AcceptedLaws.{AcceptedTypes, member_earlier}
-use Rattle.immediates_ranges.specs.declared.Slots.{Slots}
+use Rattle.immediates_ranges.specs.Slots.{Slots}
 use Rattle.immediates_ranges.specs.Slots.{range_slots}
 use Rattle.immediates_walk.specs.Walk.{members_slots, slots_of, no_slots, slots_step, slots_at}
 use Rattle.immediates_walk.proofs.WalkLaws.{earlier_slots, slots_by_record}
-use Rattle.place_steps.specs.declared.Step.{Step}
-use Rattle.place_steps.specs.declared.Step.TheVariants.{To, Column, NoStep}
+use Rattle.place_steps.specs.Step.{Step}
+use Rattle.place_steps.specs.Step.{To, Column, NoStep}
 use Rattle.place_steps.specs.Columns.{column_count}
 use Rattle.place_steps.specs.Steps.{is_leaf, step_of}
-use Rattle.place_descent.specs.declared.Place.TheVariants.{At, NoPlace}
+use Rattle.place_descent.specs.Place.{At, NoPlace}
 use Rattle.place_descent.specs.Place.{ended, step_in, place_in}
 use Rattle.place_descent.proofs.WalkLaws.{plain_step, array_step, runtime_array_step, struct_step, other_step}
 use Rattle.valid_renaming.specs.Renaming.{Reaches, itself, element, runtime_element, member, renamed_inner, renamed_place}

@@ -1,13 +1,13 @@
 -- E13 said of the calls: of the rows that `check` leaves, and of what `immediate_slots` and `lookup` answer, with whatever rows lent.
 -- Assumes nothing.
 use Rattle.std.specs.Prelude.{◌≡◌, List, ℕ}
-use Rattle.ir_records.specs.declared.Outcome.TheVariants.{Accepted}
+use Rattle.ir_records.specs.Outcome.{Accepted}
 use Rattle.valid_type_info.specs.declared.UniformRule.{UniformRule}
 use Rattle.valid_type_info.specs.TypeInfo.{rows_in}
 use Rattle.valid_arena.specs.Arena.{arena_answer, arena_words}
 use Rattle.immediates_slots.specs.Immediates.{slots_answer}
-use Rattle.place_lookup.specs.declared.PlaceAnswer.{PlaceAnswer}
-use Rattle.place_lookup.specs.declared.PlaceAnswer.TheVariants.{Found, Refused}
+use Rattle.place_lookup.specs.Answer.{PlaceAnswer}
+use Rattle.place_lookup.specs.Answer.{Found, Refused}
 use Rattle.place_lookup.specs.Place.{lookup_answer}
 use Rattle.valid_renaming.specs.Renaming.{ReachedAgree, renamed_row}
 

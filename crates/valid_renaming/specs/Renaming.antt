@@ -3,7 +3,7 @@
 use Rattle.std.specs.Prelude.{◌≡◌, List, ℕ, ◌<◌}
 use Rattle.ir_records.specs.Result.{pick}
 use Rattle.ir_records.specs.Record.{Decoded, decoded, type_count, member_type, member_offset, member_location, member_source}
-use Rattle.ir_records.specs.declared.Outcome.TheVariants.{Accepted}
+use Rattle.ir_records.specs.Outcome.{Accepted}
 use Rattle.ir_records.specs.declared.NonData.{NonData}
 use Rattle.ir_records.specs.declared.NonData.TheVariants.{Pointer, ValuePointer, Image, Sampler, AccelerationStructure, BindingArray}
 use Rattle.ir_records.specs.declared.TypeInner.{TypeInner}
@@ -14,8 +14,8 @@ use Rattle.valid_type_info.specs.declared.UniformRule.{UniformRule}
 use Rattle.valid_type_info.specs.Verdict.{least_for, is_ok}
 use Rattle.valid_arena.specs.Arena.{arena, row}
 use Rattle.immediates_walk.specs.Walk.{slots_at}
-use Rattle.place_descent.specs.declared.Place.{Place}
-use Rattle.place_descent.specs.declared.Place.TheVariants.{At, NoPlace}
+use Rattle.place_descent.specs.Place.{Place}
+use Rattle.place_descent.specs.Place.{At, NoPlace}
 use Rattle.place_descent.specs.Place.{place_of}
 
 -- ---- reached, here through pointer and binding-array bases too: the type itself, or got to by array bases, member types and these bases

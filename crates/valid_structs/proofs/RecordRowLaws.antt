@@ -33,11 +33,11 @@ module _ (least c m n : ℕ) (inner : ℕ → TypeInner) (words : List ℕ) (i f
   unfolding inner_of layout_of try_size alignment_of
   struct_row_is alignment a = rw (fit, a) refl
 
-  pub struct_row_refused : (located : Bool) {number member : ℕ} → require located 2 0 0 (members_alignment (layouts_in words) i members count) ≡ err number member 0
-      → require located 2 0 0 (words_row least c m n inner words i struct_kind first count span d e members) ≡ err number member 0
+  pub struct_row_refused : (located : Bool) {number member detail : ℕ} → require located 2 0 0 (members_alignment (layouts_in words) i members count) ≡ err number member detail
+      → require located 2 0 0 (words_row least c m n inner words i struct_kind first count span d e members) ≡ err number member detail
   unfolding inner_of layout_of try_size alignment_of
   struct_row_refused true a = rw (fit, a) refl
-  struct_row_refused false {number} {member} a = let t : (2 ≡ number) × (0 ≡ member) = (cc, cc) in rw (← t.0, ← t.1) refl
+  struct_row_refused false {number} {member} {detail} a = let t : (2 ≡ number) × (0 ≡ member) × (0 ≡ detail) = (cc, cc, cc) in rw (← t.0, ← t.1, ← t.2) refl
 
 -- ---- record i, by the words that were read of it
 module _ (least c : ℕ) (ts ms words : List ℕ) (i : ℕ) (w : Words) (read : w ≡ record_words ts i) where

@@ -13,12 +13,10 @@ ghost use Rattle.valid_types.specs.ValidateType.{judge};
 ghost use Rattle.valid_types.specs.Serving.{Settled};
 ghost use Rattle.valid_types.specs.Serving.{words_row, record_row};
 
-use proc_type_alignment::Located;
-use valid_blend::{Blend, Source};
+use ir_records::{Fault, TypeRefusal};
 use valid_member_bounds::Bounds;
-use valid_members::{Members, State};
+use valid_members::State;
 use valid_type_info::{Previous, UniformRule};
-use valid_types::Judged;
 
 // All members of struct i, by the rules that do not read blend sources. Where none breaks a rule, no member comes next, and the struct right before it
 // is not looked for.
@@ -30,7 +28,7 @@ fn members_of(
     part: &[u32],
     count: u32,
     span: u32,
-) -> Members
+) -> Result<State, TypeRefusal>
     requires rows_len { length rows.now ≡ i * 14 }
     requires i_in_bounds { i * 6 ≤ length types.now }
     requires part_len { length part.now ≡ count * member_words }
@@ -46,7 +44,7 @@ fn members_of(
             end: plain.end,
             flags: plain.flags,
         };
-        return Members::Taken(State {
+        return Ok(State {
             bounds,
             uniform: valid_type_info::ok_verdict(plain.uniform),
             storage: valid_type_info::ok_verdict(plain.storage),
@@ -80,7 +78,7 @@ fn members_row(
     count: u32,
     span: u32,
     alignment: u32,
-) -> Judged
+) -> Result<(), TypeRefusal>
     requires i_in_bounds { i * 14 + 14 ≤ length rows.old }
     requires i_in_bounds_2 { i * 6 ≤ length types.now }
     requires part_len { length part.now ≡ count * member_words }
@@ -89,17 +87,13 @@ fn members_row(
     ensures { Settled result (i * 14) rows.old rows.new (judge (least_for rule) capabilities (type_inner types.now) (rows_in (take (i * 14) rows.old)) i (record { size = span; alignment = alignment }) (Struct count span) part.now) }
 {
     if count == 0 {
-        return Judged::Refused {
-            number: 16,
-            member: 0,
-            detail: 0,
-        };
+        return Err(TypeRefusal::of(Fault::EmptyStruct));
     }
     let at = (i as usize) * ir_records::ROW_WORDS;
     match members_of(rule, types, &rows[..at], i, part, count, span) {
-        Members::Taken(state) => {
+        Ok(state) => {
             let bounds = state.bounds;
-            match valid_blend::blended_flags(
+            let flags = valid_blend::blended_flags(
                 sourced,
                 capabilities,
                 types,
@@ -108,45 +102,24 @@ fn members_row(
                 part,
                 count,
                 bounds.flags,
-            ) {
-                Blend::Flags(flags) => {
-                    let uniform = valid_type_info::span_verdict(i, span, alignment, state.uniform);
-                    let storage = valid_type_info::span_verdict(i, span, alignment, state.storage);
-                    valid_type_rows::put(
-                        rows,
-                        i,
-                        span,
-                        alignment,
-                        flags,
-                        uniform,
-                        storage,
-                        state.immediates,
-                    );
-                    Judged::Made
-                }
-                Blend::Refused { number, detail } => Judged::Refused {
-                    number,
-                    member: 0,
-                    detail,
-                },
-            }
+            )?;
+            let uniform = valid_type_info::span_verdict(i, span, alignment, state.uniform);
+            let storage = valid_type_info::span_verdict(i, span, alignment, state.storage);
+            valid_type_rows::put(
+                rows,
+                i,
+                span,
+                alignment,
+                flags,
+                uniform,
+                storage,
+                state.immediates,
+            );
+            Ok(())
         }
-        Members::Refused { number, member } => {
-            match valid_blend::source_before(sourced, capabilities, part, number, member) {
-                Source::Fine => Judged::Refused {
-                    number,
-                    member,
-                    detail: 0,
-                },
-                Source::Refused {
-                    number: first,
-                    detail,
-                } => Judged::Refused {
-                    number: first,
-                    member: 0,
-                    detail,
-                },
-            }
+        Err(refusal) => {
+            valid_blend::source_before(sourced, capabilities, part, refusal)?;
+            Err(refusal)
         }
     }
 }
@@ -164,39 +137,29 @@ fn struct_row(
     span: u32,
     d: u32,
     e: u32,
-) -> Judged
+) -> Result<(), TypeRefusal>
     requires i_in_bounds { i * 14 + 14 ≤ length rows.old }
     requires i_in_bounds_2 { i * 6 ≤ length types.now }
     ensures { (n : ℕ) → Settled result (i * 14) rows.old rows.new (require (sources_located (take (count * member_words) (drop (first * member_words) members.now))) 2 0 0 (words_row (least_for rule) capabilities (member_count members.now) n (type_inner types.now) (take (i * 14) rows.old) i struct_kind first count span d e (take (count * member_words) (drop (first * member_words) members.now)))) }
 {
     let at = (i as usize) * ir_records::ROW_WORDS;
     if !ir_fields::struct_fields(members.len() / ir_records::MEMBER_WORDS, first, count, d, e) {
-        return Judged::Refused {
-            number: 2,
-            member: 0,
-            detail: 0,
-        };
+        return Err(TypeRefusal::of(Fault::FieldOutside));
     }
     let part = ir_records::member_part(members, first, count);
-    match proc_type_alignment::members_alignment(&rows[..at], i, part, count) {
-        Located::To { alignment, sourced } => members_row(
-            capabilities,
-            rule,
-            sourced,
-            types,
-            part,
-            rows,
-            i,
-            count,
-            span,
-            alignment,
-        ),
-        Located::Refused { number, member } => Judged::Refused {
-            number,
-            member,
-            detail: 0,
-        },
-    }
+    let located = proc_type_alignment::members_alignment(&rows[..at], i, part, count)?;
+    members_row(
+        capabilities,
+        rule,
+        located.sourced,
+        types,
+        part,
+        rows,
+        i,
+        count,
+        span,
+        located.alignment,
+    )
 }
 
 // Numbers 2 to 7 of type i, and then its row, from the rows of the types before it. It is written where there is one.
@@ -207,7 +170,7 @@ pub fn record_row(
     members: &[u32],
     rows: &mut [u32],
     i: u32,
-) -> Judged
+) -> Result<(), TypeRefusal>
     requires i_in_bounds { i * 14 + 14 ≤ length rows.old }
     requires i_in_bounds_2 { i * 6 + 6 ≤ length types.now }
     ensures { Settled result (i * 14) rows.old rows.new (record_row (least_for rule) capabilities types.now members.now (take (i * 14) rows.old) i) }

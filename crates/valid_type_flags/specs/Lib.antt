@@ -1,2 +1,1 @@
 pub mod TypeFlags
-pub mod Serving

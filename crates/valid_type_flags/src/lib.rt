@@ -6,22 +6,10 @@ ghost use Rattle.ir_records.specs.Result.{err, ok};
 ghost use Rattle.ir_records.specs.Record.{atomic_kind, value_pointer_kind, sampler_kind, type_inner};
 ghost use Rattle.valid_flags.specs.Flags.{starting_flags, pointer_flags};
 ghost use Rattle.valid_width.specs.Width.{check_width, atomic_width};
-ghost use Rattle.valid_width.specs.Serving.{width_result};
+ghost use Rattle.ir_records.specs.Refusal.{judged};
 ghost use Rattle.valid_type_flags.specs.TypeFlags.{with_width, cooperative_flags, vertex_flags, matrix_flags, ray_query_flags, is_flat, cube_allowed, is_external_form, external_allowed, image_flags, is_struct, is_external_image, pointer_to, acceleration_flags, is_binding_base, binding_array_of};
-ghost use Rattle.valid_type_flags.specs.Serving.{flagged_result};
 
-use valid_width::Width;
-
-// The flags of a type, or its refusal.
-#[derive(Clone, Copy)]
-pub enum Flagged {
-    Flags(u32),
-    Refused {
-        number: u32,
-        member: u32,
-        detail: u32,
-    },
-}
+use ir_records::{Fault, TypeRefusal};
 
 const STORAGE_SPACE: u32 = 4;
 
@@ -33,70 +21,50 @@ const CUBE: u32 = 3;
 
 const EXTERNAL: u32 = 2;
 
-fn refused(number: u32) -> Flagged
-    ensures { flagged_result result ≡ err number 0 0 }
-{
-    Flagged::Refused {
-        number,
-        member: 0,
-        detail: 0,
-    }
-}
-
 // Number 8, with the capability's bit.
-fn missing(bit: u32) -> Flagged
-    ensures { flagged_result result ≡ err 8 0 bit }
+fn missing(bit: u32) -> Result<u32, TypeRefusal>
+    ensures { judged result ≡ err 8 0 bit }
 {
-    Flagged::Refused {
-        number: 8,
-        member: 0,
-        detail: bit,
-    }
+    Err(TypeRefusal::with_detail(Fault::MissingCapability, bit))
 }
 
 // The flags, where the width is allowed.
-pub fn with_width(width: Width, flags: u32) -> Flagged
-    ensures { flagged_result result ≡ with_width (width_result width) flags }
+pub fn with_width(width: Result<(), TypeRefusal>, flags: u32) -> Result<u32, TypeRefusal>
+    ensures { judged result ≡ with_width (judged width) flags }
 {
-    match width {
-        Width::Allowed => Flagged::Flags(flags),
-        Width::Refused { number, detail } => Flagged::Refused {
-            number,
-            member: 0,
-            detail,
-        },
-    }
+    width?;
+    Ok(flags)
 }
 
-pub fn cooperative_flags(capabilities: u32, kind: u32, width: u32) -> Flagged
-    ensures { flagged_result result ≡ cooperative_flags capabilities kind width }
+pub fn cooperative_flags(capabilities: u32, kind: u32, width: u32) -> Result<u32, TypeRefusal>
+    ensures { judged result ≡ cooperative_flags capabilities kind width }
 {
     if !valid_flags::capable(capabilities, valid_width::COOPERATIVE_MATRIX) {
         return missing(valid_width::COOPERATIVE_MATRIX);
     }
     if (kind == valid_width::FLOAT) & ((width == 2) | (width == 4)) {
-        return Flagged::Flags(valid_flags::starting_flags(valid_flags::COOPERATIVE_MATRIX_KIND));
+        return Ok(valid_flags::starting_flags(valid_flags::COOPERATIVE_MATRIX_KIND));
     }
-    refused(11)
+    Err(TypeRefusal::of(Fault::MatrixElementNotFloat))
 }
 
 // vertex_return asks for a capability of its own.
-fn vertex_flags(capabilities: u32, vertex_return: u32, flags: u32) -> Flagged
-    ensures { flagged_result result ≡ vertex_flags capabilities vertex_return flags }
+fn vertex_flags(capabilities: u32, vertex_return: u32, flags: u32) -> Result<u32, TypeRefusal>
+    ensures { judged result ≡ vertex_flags capabilities vertex_return flags }
 {
     if (vertex_return == 0)
         | valid_flags::capable(capabilities, valid_width::RAY_HIT_VERTEX_POSITION)
     {
-        return Flagged::Flags(flags);
+        return Ok(flags);
     }
     missing(valid_width::RAY_HIT_VERTEX_POSITION)
 }
 
-pub fn matrix_flags(capabilities: u32, kind: u32, width: u32) -> Flagged
-    ensures { flagged_result result ≡ matrix_flags capabilities kind width }
+pub fn matrix_flags(capabilities: u32, kind: u32, width: u32) -> Result<u32, TypeRefusal>
+    ensures { judged result ≡ matrix_flags capabilities kind width }
 {
     if kind != valid_width::FLOAT {
-        return refused(11);
+        return Err(TypeRefusal::of(Fault::MatrixElementNotFloat));
     }
     with_width(
         valid_width::check_width(capabilities, kind, width),
@@ -104,8 +72,8 @@ pub fn matrix_flags(capabilities: u32, kind: u32, width: u32) -> Flagged
     )
 }
 
-pub fn atomic_flags(capabilities: u32, kind: u32, width: u32) -> Flagged
-    ensures { flagged_result result ≡ with_width (atomic_width capabilities kind width) (starting_flags atomic_kind) }
+pub fn atomic_flags(capabilities: u32, kind: u32, width: u32) -> Result<u32, TypeRefusal>
+    ensures { judged result ≡ with_width (atomic_width capabilities kind width) (starting_flags atomic_kind) }
 {
     with_width(
         valid_width::atomic_width(capabilities, kind, width),
@@ -113,8 +81,8 @@ pub fn atomic_flags(capabilities: u32, kind: u32, width: u32) -> Flagged
     )
 }
 
-pub fn ray_query_flags(capabilities: u32, vertex_return: u32) -> Flagged
-    ensures { flagged_result result ≡ ray_query_flags capabilities vertex_return }
+pub fn ray_query_flags(capabilities: u32, vertex_return: u32) -> Result<u32, TypeRefusal>
+    ensures { judged result ≡ ray_query_flags capabilities vertex_return }
 {
     if valid_flags::capable(capabilities, valid_width::RAY_QUERY) {
         return vertex_flags(
@@ -154,38 +122,43 @@ fn external_allowed(capabilities: u32, class: u32) -> bool
     !(class == EXTERNAL) | capable
 }
 
-pub fn image_flags(capabilities: u32, dim: u32, arrayed: u32, class: u32) -> Flagged
-    ensures { flagged_result result ≡ image_flags capabilities dim arrayed class }
+pub fn image_flags(
+    capabilities: u32,
+    dim: u32,
+    arrayed: u32,
+    class: u32,
+) -> Result<u32, TypeRefusal>
+    ensures { judged result ≡ image_flags capabilities dim arrayed class }
 {
     if !is_flat(dim, arrayed) {
-        return refused(22);
+        return Err(TypeRefusal::of(Fault::UnsupportedImageType));
     }
     if !cube_allowed(capabilities, dim, arrayed) {
         return missing(valid_width::CUBE_ARRAY_TEXTURES);
     }
     if !is_external_form(dim, arrayed, class) {
-        return refused(22);
+        return Err(TypeRefusal::of(Fault::UnsupportedImageType));
     }
     if !external_allowed(capabilities, class) {
         return missing(valid_width::TEXTURE_EXTERNAL);
     }
-    Flagged::Flags(valid_flags::starting_flags(valid_flags::IMAGE_KIND))
+    Ok(valid_flags::starting_flags(valid_flags::IMAGE_KIND))
 }
 
 // A pointer to a base with these flags.
-pub fn pointer_to(base: u32, space: u32) -> Flagged
-    ensures { flagged_result result ≡ pointer_to base space }
+pub fn pointer_to(base: u32, space: u32) -> Result<u32, TypeRefusal>
+    ensures { judged result ≡ pointer_to base space }
 {
     if !valid_flags::is_data(base) {
-        return refused(13);
+        return Err(TypeRefusal::of(Fault::InvalidPointerBase));
     }
     if valid_flags::is_sized(base) | (space == STORAGE_SPACE) {
-        return Flagged::Flags(valid_flags::pointer_flags(
+        return Ok(valid_flags::pointer_flags(
             space,
             valid_flags::starting_flags(valid_flags::POINTER_KIND),
         ));
     }
-    refused(14)
+    Err(TypeRefusal::of(Fault::InvalidPointerToUnsized))
 }
 
 // Whether type t is a struct; its kind tells.
@@ -211,23 +184,23 @@ fn is_binding_base(types: &[u32], t: u32, base: u32) -> bool
 }
 
 // A binding array over type t, which has the flags `base`.
-pub fn binding_array_of(types: &[u32], t: u32, base: u32, form: u32) -> Flagged
-    ensures { flagged_result result ≡ binding_array_of (type_inner types.now t) base form }
+pub fn binding_array_of(types: &[u32], t: u32, base: u32, form: u32) -> Result<u32, TypeRefusal>
+    ensures { judged result ≡ binding_array_of (type_inner types.now t) base form }
 {
     if !is_binding_base(types, t, base) {
-        return refused(23);
+        return Err(TypeRefusal::of(Fault::BindingArrayBaseTypeNotStruct));
     }
     if is_external_image(types, t) {
-        return refused(24);
+        return Err(TypeRefusal::of(Fault::BindingArrayBaseExternalTextures));
     }
     if valid_flags::is_creation_resolved(base) {
-        return Flagged::Flags(valid_flags::binding_array_flags(form, base));
+        return Ok(valid_flags::binding_array_flags(form, base));
     }
-    refused(17)
+    Err(TypeRefusal::of(Fault::InvalidData))
 }
 
-pub fn acceleration_flags(capabilities: u32, vertex_return: u32) -> Flagged
-    ensures { flagged_result result ≡ acceleration_flags capabilities vertex_return }
+pub fn acceleration_flags(capabilities: u32, vertex_return: u32) -> Result<u32, TypeRefusal>
+    ensures { judged result ≡ acceleration_flags capabilities vertex_return }
 {
     if valid_flags::capable(capabilities, valid_width::RAY_TRACING_PIPELINE)
         | valid_flags::capable(capabilities, valid_width::RAY_QUERY)
@@ -241,14 +214,19 @@ pub fn acceleration_flags(capabilities: u32, vertex_return: u32) -> Flagged
     missing(valid_width::RAY_QUERY)
 }
 
-pub fn sampler_flags() -> Flagged
-    ensures { flagged_result result ≡ ok (starting_flags sampler_kind) }
+pub fn sampler_flags() -> Result<u32, TypeRefusal>
+    ensures { judged result ≡ ok (starting_flags sampler_kind) }
 {
-    Flagged::Flags(valid_flags::starting_flags(valid_flags::SAMPLER_KIND))
+    Ok(valid_flags::starting_flags(valid_flags::SAMPLER_KIND))
 }
 
-pub fn value_pointer_flags(capabilities: u32, kind: u32, width: u32, space: u32) -> Flagged
-    ensures { flagged_result result ≡ with_width (check_width capabilities kind width) (pointer_flags space (starting_flags value_pointer_kind)) }
+pub fn value_pointer_flags(
+    capabilities: u32,
+    kind: u32,
+    width: u32,
+    space: u32,
+) -> Result<u32, TypeRefusal>
+    ensures { judged result ≡ with_width (check_width capabilities kind width) (pointer_flags space (starting_flags value_pointer_kind)) }
 {
     with_width(
         valid_width::check_width(capabilities, kind, width),

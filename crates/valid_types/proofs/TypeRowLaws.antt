@@ -1,5 +1,7 @@
 -- Laws of a row that is made with its layout in one choice by the kind.
 -- Assumes nothing.
+use Rattle.std.specs.Prelude as std
+use Rattle.ir_records.specs.declared.TypeRefusal.{TypeRefusal}
 use mathlib.Core.Path.{◌≡◌, refl, sym, ◌∙◌, ap}
 use mathlib.Core.Bool.{false}
 use mathlib.Core.List.{List}
@@ -43,7 +45,7 @@ leaf_alignment_in m n i layouts kind a b c d e members leaf says l w =
     sym (leaf_accepted leaf l.alignment parts.1).1
 
 -- a record with these words, laid out, that is neither array nor struct
-module _ (least c m n : ℕ) (inner : ℕ → TypeInner) (words : List ℕ) (i : ℕ) (members : List ℕ) (kind a b d e f : ℕ) (r : PlainRow) (o : Result TypeLayout)
+module _ (least c m n : ℕ) (inner : ℕ → TypeInner) (words : List ℕ) (i : ℕ) (members : List ℕ) (kind a b d e f : ℕ) (r : std.Result PlainRow TypeRefusal) (o : Result TypeLayout)
     (laid : o ≡ words_layout m n (layouts_in words) i kind a b d e f members) (verdict : ℕ) where
   same_row : (immediates : ℕ) (flags : Result ℕ) → plain_result r ≡ and_then o (λ l. plain_judged l verdict immediates flags)
       → ((l : TypeLayout) → o ≡ ok l → plain_judged l verdict immediates flags ≡ judge least c inner (rows_in words) i l (inner_of kind a b d e f) members)

@@ -1,5 +1,9 @@
 -- Serves the contracts of functions inside the library: it adds nothing to what the other files say, and a reader may skip it.
 -- Assumes nothing.
+use Rattle.std.specs.Prelude as std
+use Rattle.ir_records.specs.Refusal.{judged, number_of}
+use Rattle.ir_records.specs.declared.TypeRefusal.{TypeRefusal}
+use Rattle.valid_types.specs.declared.PlainRow.{PlainRow}
 use Rattle.std.specs.Prelude.{List, ◌≡◌, ℕ, eqb}
 use Rattle.ir_records.specs.Result.{Result, err, ok, pick, require, and_then}
 use Rattle.proc_type_alignment.specs.declared.TypeLayout.{TypeLayout}
@@ -8,11 +12,6 @@ use Rattle.valid_type_info.specs.declared.Row.{Row}
 use Rattle.valid_type_info.specs.Verdict.{min_storage, ok_verdict, array_verdict}
 use Rattle.ir_rows.specs.Serving.{with_row}
 use Rattle.valid_type_info.specs.TypeInfo.{words_of, rows_in}
-use Rattle.valid_types.specs.declared.PlainRow.{PlainRow}
-use Rattle.valid_types.specs.declared.PlainRow.TheVariants as plain
-use Rattle.valid_types.specs.declared.Judged.{Judged}
-use Rattle.valid_types.specs.declared.Judged.TheVariants as judged
-use Rattle.valid_types.specs.declared.Judged.TheVariants.{Made}
 use Rattle.ir_records.specs.Record.{type_inner, struct_members, inner_of}
 use Rattle.ir_records.specs.declared.TypeInner.{TypeInner}
 use Rattle.proc_type_alignment.specs.Serving.{layouts_in}
@@ -35,9 +34,9 @@ plain_row layout alignment immediates flags =
 abbrev pub plain_judged : TypeLayout → (alignment immediates : ℕ) → (flags : Result ℕ) → Result Row
 plain_judged layout alignment immediates flags = and_then flags (λ f. ok (plain_row layout alignment immediates f))
 
-abbrev pub plain_result : PlainRow → Result Row
-plain_result (plain.Made size alignment flags verdict immediates) = ok (plain_row (record { size = size; alignment = alignment }) verdict immediates flags)
-plain_result (plain.Refused number member detail) = err number member detail
+abbrev pub plain_result : std.Result PlainRow TypeRefusal → Result Row
+plain_result (std.Ok p) = ok (plain_row p.layout p.verdict p.immediates p.flags)
+plain_result (std.Err r) = err (number_of r.fault) r.member r.detail
 
 -- the row of an array over a base, with the flags that its form leaves
 abbrev pub array_row : (least i stride : ℕ) → (base : Row) → TypeLayout → (flags : ℕ) → Row
@@ -57,9 +56,9 @@ array_of least form i stride base layout =
     require (is_sized_data base.flags) 15 0 0 (ok (array_row least i stride base layout (pick (eqb form 0) (array_flags base.flags) (runtime_array_flags base.flags))))
 
 -- the code's answer and what it makes of the lent words, by one type's judgement, whose row is to be written from `at` on
-abbrev pub Settled : Judged → (at : ℕ) (before after : List ℕ) → Result Row → Type 0
-Settled r at before after (ok row) = (r ≡ Made) × (after ≡ with_row before at (words_of row))
-Settled r at before after (err number member detail) = (r ≡ judged.Refused number member detail) × (after ≡ before)
+abbrev pub Settled : std.Result (Unit {0}) TypeRefusal → (at : ℕ) (before after : List ℕ) → Result Row → Type 0
+Settled r at before after (ok row) = (judged r ≡ ok tt) × (after ≡ with_row before at (words_of row))
+Settled r at before after (err number member detail) = (judged r ≡ err number member detail) × (after ≡ before)
 
 -- ---- 01, 'The refusal' and 'The result row': numbers 2 to 7 of one type and then its row, both from the rows of the types before it.
 -- of a record with these words, in an arena of n types and m member rows; `words` are the rows of the types before it

@@ -9,93 +9,62 @@ ghost use Rattle.ir_records.specs.declared.TypeInner as inner;
 ghost use Rattle.valid_flags.specs.Flags.{starting_flags, scalar_flags, array_flags, runtime_array_flags};
 ghost use Rattle.valid_width.specs.Width.{check_width};
 ghost use Rattle.proc_type_alignment.specs.declared.TypeLayout as layout;
-ghost use Rattle.proc_type_layout.specs.Serving.{laid_result};
+ghost use Rattle.ir_records.specs.Refusal.{judged};
 ghost use Rattle.valid_type_flags.specs.TypeFlags.{with_width};
-ghost use Rattle.valid_type_flags.specs.Serving.{flagged_result};
 ghost use Rattle.valid_type_info.specs.TypeInfo.{rows_in};
 ghost use Rattle.valid_types.specs.Serving.{plain_judged, plain_result, array_of, Settled};
 ghost use Rattle.valid_types.specs.Serving.{words_row};
 
-use ir_records::Words;
-use proc_type_layout::Laid;
-use valid_type_flags::Flagged;
+use ir_records::{Fault, TypeRefusal, Words};
+use proc_type_alignment::TypeLayout;
 
-// A type that is neither array nor struct: its row, both verdicts Ok with one alignment; or its refusal.
-#[derive(Clone, Copy)]
-pub enum PlainRow {
-    Made {
-        size: u32,
-        alignment: u32,
-        flags: u32,
-        verdict: u32,
-        immediates: u32,
-    },
-    Refused {
-        number: u32,
-        member: u32,
-        detail: u32,
-    },
-}
-
-// A row that has been written, or the refusal of its type.
-#[derive(Clone, Copy)]
-pub enum Judged {
-    Made,
-    Refused {
-        number: u32,
-        member: u32,
-        detail: u32,
-    },
+// The row of a type that is neither array nor struct: both verdicts are Ok with one alignment.
+#[derive(Clone, Copy, Debug, PartialEq, Eq)]
+pub struct PlainRow {
+    pub layout: TypeLayout,
+    pub flags: u32,
+    pub verdict: u32,
+    pub immediates: u32,
 }
 
 // The alignment in a layout.
-fn alignment_in(laid: Laid) -> u32
-    ensures { (l : layout.TypeLayout) → laid_result laid ≡ ok l → result ≡ l.alignment }
+fn alignment_in(laid: Result<TypeLayout, TypeRefusal>) -> u32
+    ensures { (l : layout.TypeLayout) → judged laid ≡ ok l → result ≡ l.alignment }
 {
     match laid {
-        Laid::Layout(l) => l.alignment,
-        Laid::Refused {
-            number: _,
-            member: _,
-        } => 0,
+        Ok(l) => l.alignment,
+        Err(_) => 0,
     }
 }
 
 // The refusal of the layout, then that of the flags; else the row.
-fn joined(laid: Laid, flagged: Flagged, verdict: u32, immediates: u32) -> PlainRow
-    ensures { plain_result result ≡ and_then (laid_result laid) (λ l. plain_judged l verdict immediates (flagged_result flagged)) }
+fn joined(
+    laid: Result<TypeLayout, TypeRefusal>,
+    flagged: Result<u32, TypeRefusal>,
+    verdict: u32,
+    immediates: u32,
+) -> Result<PlainRow, TypeRefusal>
+    ensures { plain_result result ≡ and_then (judged laid) (λ l. plain_judged l verdict immediates (judged flagged)) }
 {
-    match laid {
-        Laid::Layout(l) => match flagged {
-            Flagged::Flags(flags) => PlainRow::Made {
-                size: l.size,
-                alignment: l.alignment,
-                flags,
-                verdict,
-                immediates,
-            },
-            Flagged::Refused {
-                number,
-                member,
-                detail,
-            } => PlainRow::Refused {
-                number,
-                member,
-                detail,
-            },
-        },
-        Laid::Refused { number, member } => PlainRow::Refused {
-            number,
-            member,
-            detail: 0,
-        },
-    }
+    let layout = laid?;
+    let flags = flagged?;
+    Ok(PlainRow {
+        layout,
+        flags,
+        verdict,
+        immediates,
+    })
 }
 
 // The flags of a scalar or a vector.
-pub fn numeric_flags(capabilities: u32, kind: usize, scalar_kind: u32, width: u32) -> Flagged
+pub fn numeric_flags(
+    capabilities: u32,
+    kind: usize,
+    scalar_kind: u32,
+    width: u32,
+) -> Result<u32, TypeRefusal>
     requires { kind < 14 }
-    ensures { flagged_result result ≡ with_width (check_width capabilities scalar_kind width) (scalar_flags scalar_kind (starting_flags kind)) }
+    ensures { judged result ≡ with_width (check_width capabilities scalar_kind width) (scalar_flags scalar_kind (starting_flags kind)) }
 {
     valid_type_flags::with_width(
         valid_width::check_width(capabilities, scalar_kind, width),
@@ -104,7 +73,14 @@ pub fn numeric_flags(capabilities: u32, kind: usize, scalar_kind: u32, width: u3
 }
 
 // By its kind, a record whose five other words are a to e.
-fn scalar_row(capabilities: u32, a: u32, b: u32, c: u32, d: u32, e: u32) -> PlainRow
+fn scalar_row(
+    capabilities: u32,
+    a: u32,
+    b: u32,
+    c: u32,
+    d: u32,
+    e: u32,
+) -> Result<PlainRow, TypeRefusal>
     ensures { (least m n i : ℕ) (inner : ℕ → inner.TypeInner) (words members : List ℕ) → plain_result result ≡ words_row least capabilities m n inner words i scalar_kind a b c d e members }
 {
     let laid = proc_type_layout::scalar_layout(a, b, c, d, e);
@@ -112,7 +88,14 @@ fn scalar_row(capabilities: u32, a: u32, b: u32, c: u32, d: u32, e: u32) -> Plai
     joined(laid, flagged, b, valid_width::immediates_word(a, b))
 }
 
-fn vector_row(capabilities: u32, a: u32, b: u32, c: u32, d: u32, e: u32) -> PlainRow
+fn vector_row(
+    capabilities: u32,
+    a: u32,
+    b: u32,
+    c: u32,
+    d: u32,
+    e: u32,
+) -> Result<PlainRow, TypeRefusal>
     ensures { (least m n i : ℕ) (inner : ℕ → inner.TypeInner) (words members : List ℕ) → plain_result result ≡ words_row least capabilities m n inner words i vector_kind a b c d e members }
 {
     let laid = proc_type_layout::vector_layout(a, b, c, d, e);
@@ -125,7 +108,14 @@ fn vector_row(capabilities: u32, a: u32, b: u32, c: u32, d: u32, e: u32) -> Plai
     )
 }
 
-fn matrix_row(capabilities: u32, a: u32, b: u32, c: u32, d: u32, e: u32) -> PlainRow
+fn matrix_row(
+    capabilities: u32,
+    a: u32,
+    b: u32,
+    c: u32,
+    d: u32,
+    e: u32,
+) -> Result<PlainRow, TypeRefusal>
     ensures { (least m n i : ℕ) (inner : ℕ → inner.TypeInner) (words members : List ℕ) → plain_result result ≡ words_row least capabilities m n inner words i matrix_kind a b c d e members }
 {
     let laid = proc_type_layout::matrix_layout(a, b, c, d, e);
@@ -138,7 +128,14 @@ fn matrix_row(capabilities: u32, a: u32, b: u32, c: u32, d: u32, e: u32) -> Plai
     )
 }
 
-fn cooperative_row(capabilities: u32, a: u32, b: u32, c: u32, d: u32, e: u32) -> PlainRow
+fn cooperative_row(
+    capabilities: u32,
+    a: u32,
+    b: u32,
+    c: u32,
+    d: u32,
+    e: u32,
+) -> Result<PlainRow, TypeRefusal>
     ensures { (least m n i : ℕ) (inner : ℕ → inner.TypeInner) (words members : List ℕ) → plain_result result ≡ words_row least capabilities m n inner words i cooperative_matrix_kind a b c d e members }
 {
     let laid = proc_type_layout::cooperative_layout(a, b, c, d, e);
@@ -146,7 +143,14 @@ fn cooperative_row(capabilities: u32, a: u32, b: u32, c: u32, d: u32, e: u32) ->
     joined(laid, flagged, d, 0)
 }
 
-fn atomic_row(capabilities: u32, a: u32, b: u32, c: u32, d: u32, e: u32) -> PlainRow
+fn atomic_row(
+    capabilities: u32,
+    a: u32,
+    b: u32,
+    c: u32,
+    d: u32,
+    e: u32,
+) -> Result<PlainRow, TypeRefusal>
     ensures { (least m n i : ℕ) (inner : ℕ → inner.TypeInner) (words members : List ℕ) → plain_result result ≡ words_row least capabilities m n inner words i atomic_kind a b c d e members }
 {
     let laid = proc_type_layout::scalar_layout(a, b, c, d, e);
@@ -154,7 +158,15 @@ fn atomic_row(capabilities: u32, a: u32, b: u32, c: u32, d: u32, e: u32) -> Plai
     joined(laid, flagged, b, 0)
 }
 
-fn pointer_row(types: &[u32], rows: &[u32], a: u32, b: u32, c: u32, d: u32, e: u32) -> PlainRow
+fn pointer_row(
+    types: &[u32],
+    rows: &[u32],
+    a: u32,
+    b: u32,
+    c: u32,
+    d: u32,
+    e: u32,
+) -> Result<PlainRow, TypeRefusal>
     ensures { (least k m i : ℕ) (members : List ℕ) → plain_result result ≡ words_row least k m (type_count types.now) (type_inner types.now) rows.now i pointer_kind a b c d e members }
 {
     let within = (a as usize) < types.len() / ir_records::TYPE_WORDS;
@@ -163,7 +175,14 @@ fn pointer_row(types: &[u32], rows: &[u32], a: u32, b: u32, c: u32, d: u32, e: u
     joined(laid, flagged, 1, 0)
 }
 
-fn value_pointer_row(capabilities: u32, a: u32, b: u32, c: u32, d: u32, e: u32) -> PlainRow
+fn value_pointer_row(
+    capabilities: u32,
+    a: u32,
+    b: u32,
+    c: u32,
+    d: u32,
+    e: u32,
+) -> Result<PlainRow, TypeRefusal>
     ensures { (least m n i : ℕ) (inner : ℕ → inner.TypeInner) (words members : List ℕ) → plain_result result ≡ words_row least capabilities m n inner words i value_pointer_kind a b c d e members }
 {
     let laid = proc_type_layout::handle_layout(ir_fields::value_pointer_fields(a, b, c, d, e), 4);
@@ -171,7 +190,14 @@ fn value_pointer_row(capabilities: u32, a: u32, b: u32, c: u32, d: u32, e: u32) 
     joined(laid, flagged, 1, 0)
 }
 
-fn image_row(capabilities: u32, a: u32, b: u32, c: u32, d: u32, e: u32) -> PlainRow
+fn image_row(
+    capabilities: u32,
+    a: u32,
+    b: u32,
+    c: u32,
+    d: u32,
+    e: u32,
+) -> Result<PlainRow, TypeRefusal>
     ensures { (least m n i : ℕ) (inner : ℕ → inner.TypeInner) (words members : List ℕ) → plain_result result ≡ words_row least capabilities m n inner words i image_kind a b c d e members }
 {
     let laid = proc_type_layout::handle_layout(ir_fields::image_fields(a, b, c, d, e), 0);
@@ -179,14 +205,21 @@ fn image_row(capabilities: u32, a: u32, b: u32, c: u32, d: u32, e: u32) -> Plain
     joined(laid, flagged, 1, 0)
 }
 
-fn sampler_row(a: u32, b: u32, c: u32, d: u32, e: u32) -> PlainRow
+fn sampler_row(a: u32, b: u32, c: u32, d: u32, e: u32) -> Result<PlainRow, TypeRefusal>
     ensures { (least k m n i : ℕ) (inner : ℕ → inner.TypeInner) (words members : List ℕ) → plain_result result ≡ words_row least k m n inner words i sampler_kind a b c d e members }
 {
     let laid = proc_type_layout::handle_layout(ir_fields::sampler_fields(a, b, c, d, e), 0);
     joined(laid, valid_type_flags::sampler_flags(), 1, 0)
 }
 
-fn acceleration_row(capabilities: u32, a: u32, b: u32, c: u32, d: u32, e: u32) -> PlainRow
+fn acceleration_row(
+    capabilities: u32,
+    a: u32,
+    b: u32,
+    c: u32,
+    d: u32,
+    e: u32,
+) -> Result<PlainRow, TypeRefusal>
     ensures { (least m n i : ℕ) (inner : ℕ → inner.TypeInner) (words members : List ℕ) → plain_result result ≡ words_row least capabilities m n inner words i acceleration_structure_kind a b c d e members }
 {
     let laid = proc_type_layout::handle_layout(ir_fields::acceleration_fields(a, b, c, d, e), 0);
@@ -194,7 +227,14 @@ fn acceleration_row(capabilities: u32, a: u32, b: u32, c: u32, d: u32, e: u32) -
     joined(laid, flagged, 1, 0)
 }
 
-fn ray_query_row(capabilities: u32, a: u32, b: u32, c: u32, d: u32, e: u32) -> PlainRow
+fn ray_query_row(
+    capabilities: u32,
+    a: u32,
+    b: u32,
+    c: u32,
+    d: u32,
+    e: u32,
+) -> Result<PlainRow, TypeRefusal>
     ensures { (least m n i : ℕ) (inner : ℕ → inner.TypeInner) (words members : List ℕ) → plain_result result ≡ words_row least capabilities m n inner words i ray_query_kind a b c d e members }
 {
     let laid = proc_type_layout::handle_layout(ir_fields::acceleration_fields(a, b, c, d, e), 0);
@@ -210,7 +250,7 @@ fn binding_array_row(
     c: u32,
     d: u32,
     e: u32,
-) -> PlainRow
+) -> Result<PlainRow, TypeRefusal>
     ensures { (least k m i : ℕ) (members : List ℕ) → plain_result result ≡ words_row least k m (type_count types.now) (type_inner types.now) rows.now i binding_array_kind a b c d e members }
 {
     let within = (a as usize) < types.len() / ir_records::TYPE_WORDS;
@@ -224,7 +264,12 @@ fn binding_array_row(
 }
 
 // A type whose record has the words w and is neither array nor struct.
-fn judge_plain(capabilities: u32, types: &[u32], rows: &[u32], w: Words) -> PlainRow
+fn judge_plain(
+    capabilities: u32,
+    types: &[u32],
+    rows: &[u32],
+    w: Words,
+) -> Result<PlainRow, TypeRefusal>
     requires fact { w.kind ≡ array_kind → ⊥ }
     requires fact_2 { w.kind ≡ struct_kind → ⊥ }
     ensures { (least m i : ℕ) (members : List ℕ) → plain_result result ≡ words_row least capabilities m (type_count types.now) (type_inner types.now) rows.now i w.kind w.a w.b w.c w.d w.e members }
@@ -248,44 +293,37 @@ fn judge_plain(capabilities: u32, types: &[u32], rows: &[u32], w: Words) -> Plai
         11 => acceleration_row(capabilities, a, b, c, d, e),
         12 => ray_query_row(capabilities, a, b, c, d, e),
         13 => binding_array_row(types, rows, a, b, c, d, e),
-        _ => PlainRow::Refused {
-            number: 2,
-            member: 0,
-            detail: 0,
-        },
+        _ => Err(TypeRefusal::of(Fault::FieldOutside)),
     }
 }
 
 // Of type i, which is neither array nor struct: numbers 2 to 7 and then its row, which is written where there is one.
-pub fn plain_row(capabilities: u32, types: &[u32], rows: &mut [u32], i: u32, w: Words) -> Judged
+pub fn plain_row(
+    capabilities: u32,
+    types: &[u32],
+    rows: &mut [u32],
+    i: u32,
+    w: Words,
+) -> Result<(), TypeRefusal>
     requires i_in_bounds { i * 14 + 14 ≤ length rows.old }
     requires fact { w.kind ≡ array_kind → ⊥ }
     requires fact_2 { w.kind ≡ struct_kind → ⊥ }
     ensures { (least m : ℕ) (members : List ℕ) → Settled result (i * 14) rows.old rows.new (words_row least capabilities m (type_count types.now) (type_inner types.now) (take (i * 14) rows.old) i w.kind w.a w.b w.c w.d w.e members) }
 {
     let at = (i as usize) * ir_records::ROW_WORDS;
-    match judge_plain(capabilities, types, &rows[..at], w) {
-        PlainRow::Made {
-            size,
-            alignment,
-            flags,
-            verdict,
-            immediates,
-        } => {
-            let both = valid_type_info::ok_verdict(verdict);
-            valid_type_rows::put(rows, i, size, alignment, flags, both, both, immediates);
-            Judged::Made
-        }
-        PlainRow::Refused {
-            number,
-            member,
-            detail,
-        } => Judged::Refused {
-            number,
-            member,
-            detail,
-        },
-    }
+    let row = judge_plain(capabilities, types, &rows[..at], w)?;
+    let both = valid_type_info::ok_verdict(row.verdict);
+    valid_type_rows::put(
+        rows,
+        i,
+        row.layout.size,
+        row.layout.alignment,
+        row.flags,
+        both,
+        both,
+        row.immediates,
+    );
+    Ok(())
 }
 
 // The flags of an array over a base with these, by its form: 0 for one of a count, else a runtime array.
@@ -308,18 +346,14 @@ fn array_over(
     stride: u32,
     size: u32,
     own: u32,
-) -> Judged
+) -> Result<(), TypeRefusal>
     requires { i * 14 + 14 ≤ length rows.old }
     ensures { Settled result (i * 14) rows.old rows.new (array_of least form i stride (rows_in (take (i * 14) rows.old) base) (record { size = size; alignment = own })) }
 {
     let at = (i as usize) * ir_records::ROW_WORDS;
     let element = valid_type_rows::row_at(&rows[..at], base);
     if !valid_flags::is_sized_data(element.flags) {
-        return Judged::Refused {
-            number: 15,
-            member: 0,
-            detail: 0,
-        };
+        return Err(TypeRefusal::of(Fault::InvalidArrayBaseType));
     }
     let alignment = element.alignment;
     let uniform = valid_type_info::array_verdict(least, i, stride, alignment, element.uniform);
@@ -341,7 +375,7 @@ fn array_over(
         storage,
         element.immediates,
     );
-    Judged::Made
+    Ok(())
 }
 
 // The same of an array.
@@ -354,17 +388,20 @@ pub fn array_row(
     count: u32,
     stride: u32,
     e: u32,
-) -> Judged
+) -> Result<(), TypeRefusal>
     requires { i * 14 + 14 ≤ length rows.old }
     ensures { (c m n : ℕ) (inner : ℕ → inner.TypeInner) (members : List ℕ) → Settled result (i * 14) rows.old rows.new (words_row least c m n inner (take (i * 14) rows.old) i array_kind base form count stride e members) }
 {
     let at = (i as usize) * ir_records::ROW_WORDS;
-    match proc_type_layout::array_record(&rows[..at], i, base, form, count, stride, e) {
-        Laid::Layout(l) => array_over(least, rows, i, base, form, stride, l.size, l.alignment),
-        Laid::Refused { number, member } => Judged::Refused {
-            number,
-            member,
-            detail: 0,
-        },
-    }
+    let layout = proc_type_layout::array_record(&rows[..at], i, base, form, count, stride, e)?;
+    array_over(
+        least,
+        rows,
+        i,
+        base,
+        form,
+        stride,
+        layout.size,
+        layout.alignment,
+    )
 }

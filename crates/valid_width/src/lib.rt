@@ -3,13 +3,9 @@
 
 ghost use Rattle.std.specs.Prelude.{◌≡◌, ◌+◌, ◌≤◌};
 ghost use Rattle.valid_width.specs.Width.{allowed_with, allowed_only, integer_width, integer_atomic, float_width, check_width, atomic_width, immediates_word};
-ghost use Rattle.valid_width.specs.Serving.{width_result};
+ghost use Rattle.ir_records.specs.Refusal.{judged, number_of};
 
-#[derive(Clone, Copy)]
-pub enum Width {
-    Allowed,
-    Refused { number: u32, detail: u32 },
-}
+use ir_records::{Fault, TypeRefusal};
 
 // 01's capability bits.
 pub const FLOAT64: u32 = 0;
@@ -48,32 +44,29 @@ pub const FLOAT: u32 = 2;
 pub const BOOL: u32 = 3;
 
 // Allowed where the capability is there, else number 8 with its bit.
-fn with_capability(capable: bool, bit: u32) -> Width
-    ensures { width_result result ≡ allowed_with capable bit }
+fn with_capability(capable: bool, bit: u32) -> Result<(), TypeRefusal>
+    ensures { judged result ≡ allowed_with capable bit }
 {
     if capable {
-        Width::Allowed
+        Ok(())
     } else {
-        Width::Refused {
-            number: 8,
-            detail: bit,
-        }
+        Err(TypeRefusal::with_detail(Fault::MissingCapability, bit))
     }
 }
 
-// Allowed where the width is the only one left, else the number.
-fn only(right: bool, number: u32) -> Width
-    ensures { width_result result ≡ allowed_only right number }
+// Allowed where the width is the only one left, else refused with this number.
+fn only(right: bool, fault: Fault) -> Result<(), TypeRefusal>
+    ensures { judged result ≡ allowed_only right (number_of fault) }
 {
     if right {
-        Width::Allowed
+        Ok(())
     } else {
-        Width::Refused { number, detail: 0 }
+        Err(TypeRefusal::of(fault))
     }
 }
 
-fn integer_width(capabilities: u32, width: u32) -> Width
-    ensures { width_result result ≡ integer_width capabilities width }
+fn integer_width(capabilities: u32, width: u32) -> Result<(), TypeRefusal>
+    ensures { judged result ≡ integer_width capabilities width }
 {
     if width == 2 {
         return with_capability(
@@ -87,11 +80,11 @@ fn integer_width(capabilities: u32, width: u32) -> Width
             SHADER_INT64,
         );
     }
-    only(width == 4, 9)
+    only(width == 4, Fault::InvalidWidth)
 }
 
-fn float_width(capabilities: u32, width: u32) -> Width
-    ensures { width_result result ≡ float_width capabilities width }
+fn float_width(capabilities: u32, width: u32) -> Result<(), TypeRefusal>
+    ensures { judged result ≡ float_width capabilities width }
 {
     if width == 8 {
         return with_capability(valid_flags::capable(capabilities, FLOAT64), FLOAT64);
@@ -102,11 +95,11 @@ fn float_width(capabilities: u32, width: u32) -> Width
             SHADER_FLOAT16,
         );
     }
-    only(width == 4, 9)
+    only(width == 4, Fault::InvalidWidth)
 }
 
-pub fn check_width(capabilities: u32, kind: u32, width: u32) -> Width
-    ensures { width_result result ≡ check_width capabilities kind width }
+pub fn check_width(capabilities: u32, kind: u32, width: u32) -> Result<(), TypeRefusal>
+    ensures { judged result ≡ check_width capabilities kind width }
 {
     if kind <= UINT {
         return integer_width(capabilities, width);
@@ -115,27 +108,24 @@ pub fn check_width(capabilities: u32, kind: u32, width: u32) -> Width
         return float_width(capabilities, width);
     }
     if kind == BOOL {
-        return only(width == 1, 9);
+        return only(width == 1, Fault::InvalidWidth);
     }
-    Width::Refused {
-        number: 10,
-        detail: 0,
-    }
+    Err(TypeRefusal::of(Fault::AbstractScalar))
 }
 
-fn integer_atomic(capabilities: u32, width: u32) -> Width
-    ensures { width_result result ≡ integer_atomic capabilities width }
+fn integer_atomic(capabilities: u32, width: u32) -> Result<(), TypeRefusal>
+    ensures { judged result ≡ integer_atomic capabilities width }
 {
     if width == 8 {
         let min_max = valid_flags::capable(capabilities, SHADER_INT64_ATOMIC_MIN_MAX);
         let all_ops = valid_flags::capable(capabilities, SHADER_INT64_ATOMIC_ALL_OPS);
         return with_capability(min_max | all_ops, SHADER_INT64_ATOMIC_ALL_OPS);
     }
-    only(width == 4, 12)
+    only(width == 4, Fault::InvalidAtomicWidth)
 }
 
-pub fn atomic_width(capabilities: u32, kind: u32, width: u32) -> Width
-    ensures { width_result result ≡ atomic_width capabilities kind width }
+pub fn atomic_width(capabilities: u32, kind: u32, width: u32) -> Result<(), TypeRefusal>
+    ensures { judged result ≡ atomic_width capabilities kind width }
 {
     if kind <= UINT {
         return integer_atomic(capabilities, width);
@@ -146,10 +136,7 @@ pub fn atomic_width(capabilities: u32, kind: u32, width: u32) -> Width
             SHADER_FLOAT32_ATOMIC,
         );
     }
-    Width::Refused {
-        number: 12,
-        detail: 0,
-    }
+    Err(TypeRefusal::of(Fault::InvalidAtomicWidth))
 }
 
 // 0, or 1 plus the scalar kind for an integer or float of width 2.

@@ -7,7 +7,7 @@ use Prim.Native.Nat.{ℕ, ◌<◌, ◌∣◌}
 use Rattle.ir_records.specs.Record.{Decoded, decoded, type_count}
 use Rattle.ir_records.specs.Fields.{record_at}
 use Rattle.ir_records.specs.Table.{first_refusal}
-use Rattle.ir_records.specs.declared.Outcome.TheVariants.{Accepted}
+use Rattle.ir_records.specs.Outcome.{Accepted}
 use Rattle.ir_records.proofs.TableLaws.{also_accepted}
 use Rattle.proc_layouter.specs.Layouter.{layout_at, layout, layout_outcome}
 use Rattle.w3c_agreement.specs.Wgsl.{WgslType, align_of, size_of, HostShareable, WellFormed, Unaligned}

@@ -8,7 +8,7 @@ use mathlib.Core.List.{List}
 use Prim.Native.Nat.{ℕ, ◌<◌, ◌∣◌}
 use lib.Dec.{T}
 use Rattle.ir_records.specs.Record.{decoded, type_count}
-use Rattle.ir_records.specs.declared.Outcome.TheVariants.{Accepted}
+use Rattle.ir_records.specs.Outcome.{Accepted}
 use Rattle.valid_flags.specs.Flags.{bit, host_shareable_bit}
 use Rattle.valid_type_info.specs.declared.Verdict.{Verdict}
 use Rattle.valid_type_info.specs.declared.UniformRule.{UniformRule}

@@ -8,7 +8,7 @@ use native.Mathlib.Omega.{arith}
 use Rattle.ir_records.specs.Record.{decoded, inner_of, type_inner, struct_members, member_type, member_offset}
 use Rattle.ir_records.specs.Fields.{fields_ok, record_at, located_to}
 use Rattle.ir_records.specs.Table.{result_at, value_at}
-use Rattle.ir_records.specs.declared.Outcome.TheVariants.{Accepted}
+use Rattle.ir_records.specs.Outcome.{Accepted}
 use Rattle.proc_alignment.specs.Alignment.{round_up}
 use Rattle.proc_type_methods.specs.TypeMethods.{try_size}
 use Rattle.proc_type_alignment.specs.TypeAlignment.{members_alignment, alignment_of}

@@ -6,7 +6,7 @@ use native.Mathlib.Omega.{arith}
 use Rattle.ir_records.specs.Record.{inner_of, type_inner, struct_members}
 use Rattle.ir_records.specs.Fields.{tables_fit, fields_ok, record_at, located_to}
 use Rattle.ir_records.specs.Table.{result_at, value_at}
-use Rattle.ir_records.specs.declared.Outcome.{Outcome}
+use Rattle.ir_records.specs.Outcome.{Outcome}
 use Rattle.proc_type_methods.specs.TypeMethods.{try_size}
 use Rattle.proc_type_alignment.specs.TypeAlignment.{members_alignment, alignment_of}
 use Rattle.proc_type_layout.specs.TypeLayout.{layout_of}

@@ -10,7 +10,7 @@ use native.Mathlib.Omega.{arith}
 use lib.Dec.{T}
 use Rattle.ir_records.specs.Result.{pick}
 use Rattle.ir_records.specs.Record.{Decoded, decoded, type_count, member_type}
-use Rattle.ir_records.specs.declared.Outcome.TheVariants.{Accepted}
+use Rattle.ir_records.specs.Outcome.{Accepted}
 use Rattle.ir_records.specs.declared.TypeInner.TheVariants.{RuntimeArray}
 use Rattle.proc_layouter.proofs.LayoutAccepted.{array_layout, runtime_array_layout}
 use Rattle.valid_flags.specs.Flags.{bit, host_shareable_bit}

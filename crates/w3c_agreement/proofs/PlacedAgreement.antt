@@ -14,8 +14,8 @@ use Rattle.ir_records.specs.Result.{pick}
 use Rattle.ir_records.specs.Fields.{row_words, tables_fit, capabilities_known, record_at}
 use Rattle.ir_records.specs.Record.{Decoded, decoded, type_count, member_type}
 use Rattle.ir_records.specs.Table.{first_refusal}
-use Rattle.ir_records.specs.declared.Outcome.{Outcome}
-use Rattle.ir_records.specs.declared.Outcome.TheVariants.{Accepted, Refused}
+use Rattle.ir_records.specs.Outcome.{Outcome}
+use Rattle.ir_records.specs.Outcome.{Accepted, Refused}
 use Rattle.ir_records.proofs.TableLaws.{also_accepted}
 use Rattle.proc_layouter.specs.Layouter.{layout_at, layout_outcome}
 use Rattle.proc_layouter.proofs.LayoutAccepted.{array_layout, runtime_array_layout}

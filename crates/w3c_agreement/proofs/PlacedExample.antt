@@ -9,7 +9,7 @@ use native.Mathlib.Nat.{mod-eq-zero_of_dvd, dvd_of_mod-eq-zero}
 use native.Mathlib.Omega.{arith}
 use lib.Dec.{T}
 use Rattle.ir_records.specs.Record.{Decoded, decoded, member_type, member_offset}
-use Rattle.ir_records.specs.declared.Outcome.TheVariants.{Accepted}
+use Rattle.ir_records.specs.Outcome.{Accepted}
 use Rattle.valid_flags.specs.Flags.{bit, data_bit, host_shareable_bit}
 use Rattle.valid_type_info.specs.declared.Row.{Row}
 use Rattle.valid_type_info.specs.declared.UniformRule.TheVariants.{Older}

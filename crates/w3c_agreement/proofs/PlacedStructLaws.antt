@@ -13,7 +13,7 @@ use lib.Dec.{T, eqb}
 use Rattle.ir_records.specs.Result.{Result, ok, and_then}
 use Rattle.ir_records.specs.Record.{Decoded, member_type, member_offset, matrix_kind, atomic_kind}
 use Rattle.ir_records.specs.Table.{table, first_refusal}
-use Rattle.ir_records.specs.declared.Outcome.TheVariants.{Accepted}
+use Rattle.ir_records.specs.Outcome.{Accepted}
 use Rattle.ir_records.specs.declared.TypeInner.{TypeInner}
 use Rattle.ir_records.specs.declared.TypeInner.TheVariants.{Plain as PlainRecord, Struct}
 use Rattle.ir_records.proofs.ResultLaws.{and_then_ok, ok_inj, and_left, and_right}

@@ -7,7 +7,7 @@ use mathlib.Core.List.{[], ◌∷◌}
 use native.Mathlib.Omega.{arith}
 use lib.Dec.{T}
 use Rattle.ir_records.specs.Record.{decoded}
-use Rattle.ir_records.specs.declared.Outcome.TheVariants.{Accepted}
+use Rattle.ir_records.specs.Outcome.{Accepted}
 use Rattle.ir_records.specs.declared.TypeInner.{TypeInner}
 use Rattle.valid_type_flags.specs.TypeFlags.{is_struct}
 use Rattle.valid_flags.specs.Flags.{bit, host_shareable_bit}

@@ -6,97 +6,84 @@ ghost use Rattle.wgsl_tokens.specs.Tokens.{from};
 ghost use Rattle.wgsl_grammar.specs.Grammar.{expect, skipping, name_of, number_of};
 ghost use Rattle.wgsl_grammar.specs.Serving.{next_read, NameRead, number_read};
 
+use ir_records::Fault;
+use program_words::Span;
 use wgsl_tokens::Lexed;
 
-// A refusal's number; beside it, for a message, a position before the token at which it stands, and what was wrong there.
-// No contract speaks of the last two.
-#[derive(Clone, Copy)]
+/// What is wrong in a text: one for each line that `wgsl_messages` says of it, in their order.
+#[derive(Clone, Copy, Debug, PartialEq, Eq)]
+pub enum Problem {
+    OpenComment,
+    NotAscii,
+    NoComma,
+    NoName,
+    NoNumber,
+    NoDeclaration,
+    NoAttribute,
+    NoScalar,
+    TooDeep,
+    UnknownType,
+    RepeatedType,
+    RepeatedMember,
+    LargeNumber,
+    ZeroCount,
+    LargeArray,
+    Align,
+    Size,
+    LargeStruct,
+    TypesFull,
+    MembersFull,
+}
+
+/// What was wrong at a place: a mark that was expected is not there, or another problem.
+#[derive(Clone, Copy, Debug, PartialEq, Eq)]
+pub enum Why {
+    Mark(u8),
+    Other(Problem),
+}
+
+/// A refusal; beside its fault, for a message, a position before the token at which it stands, and what was wrong there.
+/// No contract speaks of the last two.
+#[derive(Clone, Copy, Debug, PartialEq, Eq)]
 pub struct Refusal {
-    pub number: u32,
+    pub fault: Fault,
     pub at: usize,
-    pub why: u32,
+    pub why: Why,
 }
 
-// Where the text goes on after a mark.
-#[derive(Clone, Copy)]
-pub enum Next {
-    At(usize),
-    Refused(Refusal),
+/// A number, and where the text goes on after it.
+#[derive(Clone, Copy, Debug, PartialEq, Eq)]
+pub struct Number {
+    pub value: u32,
+    pub at: usize,
 }
 
-// The bytes of a name; the text goes on at its end.
-#[derive(Clone, Copy)]
-pub enum NameAt {
-    Name { start: usize, end: usize },
-    Refused(Refusal),
-}
-
-#[derive(Clone, Copy)]
-pub enum NumberAt {
-    Value { value: u32, at: usize },
-    Refused(Refusal),
-}
-
-// What was wrong. A number below 128 is the mark that was expected.
-pub const NAME: u32 = 128;
-
-pub const NUMBER: u32 = 129;
-
-pub const DECLARATION: u32 = 130;
-
-pub const ATTRIBUTE: u32 = 131;
-
-pub const SCALAR: u32 = 132;
-
-pub const TOO_DEEP: u32 = 133;
-
-pub const UNKNOWN_TYPE: u32 = 134;
-
-pub const REPEATED_TYPE: u32 = 135;
-
-pub const REPEATED_MEMBER: u32 = 136;
-
-pub const LARGE_NUMBER: u32 = 137;
-
-pub const ZERO_COUNT: u32 = 138;
-
-pub const LARGE_ARRAY: u32 = 139;
-
-pub const ALIGN: u32 = 140;
-
-pub const SIZE: u32 = 141;
-
-pub const LARGE_STRUCT: u32 = 142;
-
-pub const TYPES_FULL: u32 = 143;
-
-pub const MEMBERS_FULL: u32 = 144;
-
-// The position after a mark that must stand here.
-pub fn expect(s: &[u8], at: usize, byte: u8) -> Next
+// Kept: the text and a position are two parameters, since a function reads at several positions of one text: a struct would be made anew for each.
+/// The position after a mark that must stand here.
+pub fn expect(s: &[u8], at: usize, byte: u8) -> Result<usize, Refusal>
     ensures { expect byte (from s.now at) ≡ next_read s.now result }
 {
     let missing = Refusal {
-        number: 31,
+        fault: Fault::Grammar,
         at,
-        why: byte as u32,
+        why: Why::Mark(byte),
     };
     match wgsl_tokens::next_token(s, at) {
         Lexed::Mark { byte: c, end } => {
             if c == byte {
-                return Next::At(end);
+                return Ok(end);
             }
-            Next::Refused(missing)
+            Err(missing)
         }
-        Lexed::Word { start: _, end: _ } => Next::Refused(missing),
-        Lexed::Number { value: _, end: _ } => Next::Refused(missing),
-        Lexed::Large(_) => Next::Refused(missing),
-        Lexed::Bad => Next::Refused(missing),
-        Lexed::End => Next::Refused(missing),
+        Lexed::Word { start: _, end: _ } => Err(missing),
+        Lexed::Number { value: _, end: _ } => Err(missing),
+        Lexed::Large(_) => Err(missing),
+        Lexed::Bad => Err(missing),
+        Lexed::End => Err(missing),
     }
 }
 
-// The position after a mark, where it stands here.
+/// The position after a mark, where it stands here.
 pub fn skipping(s: &[u8], at: usize, byte: u8) -> usize
     ensures { from s.now result ≡ skipping byte (from s.now at) }
 {
@@ -115,49 +102,49 @@ pub fn skipping(s: &[u8], at: usize, byte: u8) -> usize
     }
 }
 
-// A word that is no keyword.
-pub fn name_at(s: &[u8], at: usize) -> NameAt
+/// A word that is no keyword; the text goes on at its end.
+pub fn name_at(s: &[u8], at: usize) -> Result<Span, Refusal>
     ensures { NameRead s.now at result }
 {
     let missing = Refusal {
-        number: 31,
+        fault: Fault::Grammar,
         at,
-        why: NAME,
+        why: Why::Other(Problem::NoName),
     };
     match wgsl_tokens::next_token(s, at) {
         Lexed::Word { start, end } => {
             if wgsl_names::is_keyword(&s[start..end]) {
-                return NameAt::Refused(missing);
+                return Err(missing);
             }
-            NameAt::Name { start, end }
+            Ok(Span { start, end })
         }
-        Lexed::Number { value: _, end: _ } => NameAt::Refused(missing),
-        Lexed::Large(_) => NameAt::Refused(missing),
-        Lexed::Mark { byte: _, end: _ } => NameAt::Refused(missing),
-        Lexed::Bad => NameAt::Refused(missing),
-        Lexed::End => NameAt::Refused(missing),
+        Lexed::Number { value: _, end: _ } => Err(missing),
+        Lexed::Large(_) => Err(missing),
+        Lexed::Mark { byte: _, end: _ } => Err(missing),
+        Lexed::Bad => Err(missing),
+        Lexed::End => Err(missing),
     }
 }
 
-// A number, at most 4,294,967,295.
-pub fn number_at(s: &[u8], at: usize) -> NumberAt
+/// A number, at most 4,294,967,295.
+pub fn number_at(s: &[u8], at: usize) -> Result<Number, Refusal>
     ensures { number_of (from s.now at) ≡ number_read s.now result }
 {
     let missing = Refusal {
-        number: 31,
+        fault: Fault::Grammar,
         at,
-        why: NUMBER,
+        why: Why::Other(Problem::NoNumber),
     };
     match wgsl_tokens::next_token(s, at) {
-        Lexed::Number { value, end } => NumberAt::Value { value, at: end },
-        Lexed::Large(_) => NumberAt::Refused(Refusal {
-            number: 33,
+        Lexed::Number { value, end } => Ok(Number { value, at: end }),
+        Lexed::Large(_) => Err(Refusal {
+            fault: Fault::Attribute,
             at,
-            why: LARGE_NUMBER,
+            why: Why::Other(Problem::LargeNumber),
         }),
-        Lexed::Word { start: _, end: _ } => NumberAt::Refused(missing),
-        Lexed::Mark { byte: _, end: _ } => NumberAt::Refused(missing),
-        Lexed::Bad => NumberAt::Refused(missing),
-        Lexed::End => NumberAt::Refused(missing),
+        Lexed::Word { start: _, end: _ } => Err(missing),
+        Lexed::Mark { byte: _, end: _ } => Err(missing),
+        Lexed::Bad => Err(missing),
+        Lexed::End => Err(missing),
     }
 }

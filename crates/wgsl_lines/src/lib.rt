@@ -5,8 +5,8 @@ ghost use Rattle.std.specs.Prelude.{List, ℕ};
 ghost use Rattle.program_output.specs.Bytes.{Puts};
 ghost use Rattle.wgsl_lines.specs.Lines.{Answers};
 
+use ir_records::Refusal;
 use program_output::Buffer;
-use wgsl_read::TextAt;
 
 pub fn put_answer(out: &mut Buffer, at: usize, text: &[u8]) -> usize
     ensures { (bytes : List ℕ) × Answers text.now bytes × Puts out.old at bytes out.new result }
@@ -14,13 +14,12 @@ pub fn put_answer(out: &mut Buffer, at: usize, text: &[u8]) -> usize
     let mut types = [0u32; 6144];
     let mut members = [0u32; 16384];
     match wgsl_read::read_at(text, &mut types, &mut members) {
-        TextAt::Records {
-            types: t,
-            members: m,
-        } => program_record_lines::put_records(out, at, &types, t, &members, m),
-        TextAt::Refused(r) => {
-            let end = program_output::put_refusal(out, at, r.number, 0, 0, 0);
-            wgsl_messages::put_message(out, end, text, r)
+        Ok(made) => {
+            program_record_lines::put_records(out, at, &types, made.types, &members, made.members)
+        }
+        Err(refusal) => {
+            let end = program_output::put_refusal(out, at, Refusal::of(refusal.fault));
+            wgsl_messages::put_message(out, end, text, refusal)
         }
     }
 }

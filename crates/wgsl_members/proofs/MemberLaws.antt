@@ -10,6 +10,7 @@ use Rattle.ir_records.specs.Record.{type_words, member_words}
 use Rattle.ir_rows.specs.Rows.{with_part}
 use Rattle.proc_alignment.specs.Alignment.{round_up, most}
 use Rattle.program_words.specs.Words.{part}
+use Rattle.program_words.specs.declared.Span.{Span}
 use Rattle.wgsl_tokens.specs.Tokens.{Token, from}
 use Rattle.wgsl_grammar.specs.Grammar.{refused, read, and_then, demand, expect}
 use Rattle.wgsl_placement.specs.declared.Shape.{Shape}
@@ -21,11 +22,11 @@ use Rattle.wgsl_members.specs.declared.Attributes.{Attributes}
 use Rattle.wgsl_members.specs.declared.Body.{Body}
 
 -- ---- one attribute
-pub attributes_step : (left : ℕ) (a : Attributes) (ts : List Token) → 0 < left
-    → attributes_of left a ts
-    ≡ after_at (expect 64 ts) (read (record { given = a; rest = ts })) (λ ts. and_then (attribute_of a ts) (λ b. attributes_of (left - 1) b.given b.rest))
+pub attributes_step : (turns turn : ℕ) (a : Attributes) (ts : List Token) → turn < turns
+    → attributes_of (turns - turn) a ts
+    ≡ after_at (expect 64 ts) (read (record { given = a; rest = ts })) (λ ts. and_then (attribute_of a ts) (λ b. attributes_of (turns - (turn + 1)) b.given b.rest))
 unfolding attributes_of
-attributes_step left a ts h = let one : left ≡ suc (left - 1) = omega arith in ap (λ (k : ℕ). attributes_of k a ts) one
+attributes_step turns turn a ts h = let one : turns - turn ≡ suc (turns - (turn + 1)) = omega arith in ap (λ (k : ℕ). attributes_of k a ts) one
 
 -- ---- a type that closes with no room
 pub full_number : (b : Bool) → demand {A = Members} b 33 (refused 1) ≡ refused (pick b 1 33)
@@ -33,7 +34,7 @@ full_number true = refl
 full_number false = refl
 
 -- ---- a member in its place
-module _ (s words names members : List ℕ) (b : Body) (a : Attributes) (e : Shape) (types start end at : ℕ) where
+module _ (s words names members : List ℕ) (b : Body) (a : Attributes) (e : Shape) (types : ℕ) (name : Span) (at : ℕ) where
   abbrev pub offset : ℕ
   offset = round_up (align_of_member a e) b.end
 
@@ -50,21 +51,21 @@ module _ (s words names members : List ℕ) (b : Body) (a : Attributes) (e : Sha
       }
 
   pub place_is : b.names * 2 + 2 ≤ length names → b.members * member_words + member_words ≤ length members
-      → members_in s (tables (set (set names (b.names * 2) start) (b.names * 2 + 1) end) words (with_part member_words members (b.members * member_words) (e.number ∷ min offset most ∷ 0 ∷ 0 ∷ []))) placed_body
-      ≡ with_member (members_in s (tables names words members) b) a (name_in s start end) e (records_in type_words words types) (from s at)
+      → members_in s (tables (set (set names (b.names * 2) name.start) (b.names * 2 + 1) name.end) words (with_part member_words members (b.members * member_words) (e.number ∷ min offset most ∷ 0 ∷ 0 ∷ []))) placed_body
+      ≡ with_member (members_in s (tables names words members) b) a (name_in s name.start name.end) e (records_in type_words words types) (from s at)
   unfolding with_member
   place_is named room =
       rw (
-        one_name s names b.names start end named,
+        one_name s names b.names name.start name.end named,
         one_record member_words members (e.number ∷ min offset most ∷ 0 ∷ 0 ∷ []) b.members refl room,
       )
 
 -- ---- a member that is read: its bounds, what is kept, and the reading
-module _ (s : List ℕ) (r : Rooms) (was is : Tables) (b after : Body) (a : Attributes) (e : Shape) (made start end at : ℕ)
+module _ (s : List ℕ) (r : Rooms) (was is : Tables) (b after : Body) (a : Attributes) (e : Shape) (made : ℕ) (name : Span) (at : ℕ)
     (bounds : Bounds r was b) (more : b.types ≤ made) (within : made ≤ r.types) (behind : drop (made * type_words) is.types ≡ drop (made * type_words) was.types)
     (long-types : length is.types ≡ length was.types) (long-names : length is.names ≡ length was.names) (long-members : length is.members ≡ length was.members)
     (room : b.members < r.members)
-    (placed : PlacedIn was.names is.names was.members is.members b a e made start end at after) where
+    (placed : PlacedIn was.names is.names was.members is.members b a e made name at after) where
   pub placed_bounds : Bounds r is after
   placed_bounds =
       let t = bounds.types in
@@ -87,7 +88,7 @@ module _ (s : List ℕ) (r : Rooms) (was is : Tables) (b after : Body) (a : Attr
         members = placed.behind;
       }
 
-  pub placed_read : start ≤ end → end ≤ length s
-      → with_member (members_in s was b) a (part s start end) e (records_in type_words is.types made) (from s at) ≡ members_in s is after
+  pub placed_read : name.start ≤ name.end → name.end ≤ length s
+      → with_member (members_in s was b) a (part s name.start name.end) e (records_in type_words is.types made) (from s at) ≡ members_in s is after
   unfolding with_member
-  placed_read ordered inside = rw (← name_within s start end ordered inside) (sym (placed.is s is.types))
+  placed_read ordered inside = rw (← name_within s name.start name.end ordered inside) (sym (placed.is s is.types))

@@ -1,6 +1,6 @@
 -- 02, E7: a member of a struct in WGSL text: its attributes, its name and its type, and where the standard places it.
 -- Assumes nothing.
-use Rattle.std.specs.Prelude.{Bool, true, false, not, ◌&&◌, ◌||◌, List, [], ◌∷◌, ◌++◌, ℕ, zero, suc, ◌+◌, max, min, eqb, leb, ltb}
+use Rattle.std.specs.Prelude.{Bool, true, false, not, ◌&&◌, List, [], ◌∷◌, ◌++◌, ℕ, zero, suc, ◌+◌, max, min, leb, ltb}
 use Rattle.proc_alignment.specs.Alignment.{is_aligned, is_mask, round_up, most}
 use Rattle.wgsl_tokens.specs.Tokens.{Token}
 use Rattle.wgsl_names.specs.Names.{same, align_word, size_word}

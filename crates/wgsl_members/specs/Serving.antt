@@ -2,24 +2,24 @@
 -- What the functions over positions answer, as the readings of the tokens from there on. The members read so far, by the code's numbers and the words
 -- of its tables.
 -- Assumes nothing.
-use Rattle.std.specs.Prelude.{◌≡◌, List, ℕ, ◌+◌, ◌*◌, ◌≤◌, ◌<◌, length, drop}
+use Rattle.std.specs.Prelude.{◌≡◌, List, ℕ, ◌+◌, ◌*◌, ◌≤◌, ◌<◌, length, drop, Result, Ok, Err}
 use Rattle.ir_records.specs.Record.{type_words, member_words}
+use Rattle.ir_records.specs.Refusal.{number_of}
+use Rattle.program_words.specs.declared.Span.{Span}
 use Rattle.wgsl_tokens.specs.Tokens.{from}
 use Rattle.wgsl_grammar.specs.Grammar.{Reading, refused, read}
+use Rattle.wgsl_grammar.specs.declared.Refusal.{Refusal}
 use Rattle.wgsl_placement.specs.declared.Shape.{Shape}
 use Rattle.wgsl_tables.specs.Tables.{records_in, name_in, names_in}
 use Rattle.wgsl_types.specs.Serving.{Room}
 use Rattle.wgsl_members.specs.Members.{Attributed, Members, Rooms, with_member}
 use Rattle.wgsl_members.specs.declared.Attributes.{Attributes}
 use Rattle.wgsl_members.specs.declared.AttributesAt.{AttributesAt}
-use Rattle.wgsl_members.specs.declared.AttributesAt.TheVariants as attributes
 use Rattle.wgsl_members.specs.declared.Body.{Body}
-use Rattle.wgsl_members.specs.declared.MemberAt.{MemberAt}
-use Rattle.wgsl_members.specs.declared.MemberAt.TheVariants as member
 
-abbrev pub attributes_read : List ℕ → AttributesAt → Reading Attributed
-attributes_read s (attributes.Given a at) = read (record { given = a; rest = from s at })
-attributes_read s (attributes.Refused r) = refused r.number
+abbrev pub attributes_read : List ℕ → Result AttributesAt Refusal → Reading Attributed
+attributes_read s (Ok a) = read (record { given = a.attributes; rest = from s a.at })
+attributes_read s (Err r) = refused (number_of r.fault)
 
 abbrev pub rooms : (types members : ℕ) → Rooms
 rooms types members = record { types = types; members = members }
@@ -62,9 +62,9 @@ pub record Kept (was is : Tables) (before after : Body) : Type 0 where
   pub more-members : before.members ≤ after.members
   pub members : drop (after.members * member_words) is.members ≡ drop (after.members * member_words) was.members
 
-abbrev pub MemberRead : List ℕ → Rooms → (was is : Tables) → (before : Body) → Reading Members → MemberAt → Type 0
-MemberRead s r was is before m (member.Placed after) = (m ≡ read (members_in s is after)) × Bounds r is after × Kept was is before after
-MemberRead s r was is before m (member.Refused x) = m ≡ refused x.number
+abbrev pub MemberRead : List ℕ → Rooms → (was is : Tables) → (before : Body) → Reading Members → Result Body Refusal → Type 0
+MemberRead s r was is before m (Ok after) = (m ≡ read (members_in s is after)) × Bounds r is after × Kept was is before after
+MemberRead s r was is before m (Err x) = m ≡ refused (number_of x.fault)
 
 -- ---- one more member, in the tables of names and of member records
 pub record Placeable (names members : List ℕ) (b : Body) : Type 0 where
@@ -75,8 +75,8 @@ pub record Placeable (names members : List ℕ) (b : Body) : Type 0 where
   pub end : b.end ≤ b.names * 8589934592
 
 -- whatever the text and the type words are
-pub record PlacedIn (names names-now members members-now : List ℕ) (b : Body) (a : Attributes) (e : Shape) (types start end at : ℕ) (r : Body) : Type 0 where
-  pub is : (s words : List ℕ) → members_in s (tables names-now words members-now) r ≡ with_member (members_in s (tables names words members) b) a (name_in s start end) e (records_in type_words words types) (from s at)
+pub record PlacedIn (names names-now members members-now : List ℕ) (b : Body) (a : Attributes) (e : Shape) (types : ℕ) (name : Span) (at : ℕ) (r : Body) : Type 0 where
+  pub is : (s words : List ℕ) → members_in s (tables names-now words members-now) r ≡ with_member (members_in s (tables names words members) b) a (name_in s name.start name.end) e (records_in type_words words types) (from s at)
   pub types_made : r.types ≡ types
   pub members_made : r.members ≡ b.members + 1
   pub named : r.names ≡ b.names + 1

@@ -4,6 +4,7 @@
 ghost use Rattle.std.specs.Prelude.{◌≡◌, ◌&&◌, ltb, ◌*◌, ◌≤◌, min, length};
 ghost use Rattle.proc_alignment.specs.Alignment.{is_mask};
 ghost use Rattle.ir_records.specs.Result.{pick};
+ghost use Rattle.ir_records.specs.Refusal.{number_of};
 ghost use Rattle.program_words.specs.Words.{part};
 ghost use Rattle.wgsl_tokens.specs.Tokens.{from};
 ghost use Rattle.wgsl_grammar.specs.Serving.{number_read};
@@ -11,10 +12,18 @@ ghost use Rattle.wgsl_tables.specs.Tables.{structs_in};
 ghost use Rattle.wgsl_members.specs.Members.{attributes, again, value_of, attribute_named, attribute_of, attributes_of, align_fits, size_fits, attributes_fit, given_or, typed_member, named_member, member_of};
 ghost use Rattle.wgsl_members.specs.Serving.{attributes_read, rooms, tables, members_in, Bounds, MemberRead, Placeable, PlacedIn};
 
-use wgsl_grammar::{NameAt, Next, NumberAt, Refusal};
+use ir_records::Fault;
+use program_words::Span;
+use wgsl_grammar::{Number, Problem, Refusal, Why};
 use wgsl_placement::Shape;
-use wgsl_tables::Found;
-use wgsl_types::Closed;
+use wgsl_types::{Closed, Structs};
+
+/// How many type and member records there may be.
+#[derive(Clone, Copy, Debug, PartialEq, Eq)]
+pub struct Room {
+    pub types: u32,
+    pub members: u32,
+}
 
 // How often an attribute was given.
 #[derive(Clone, Copy)]
@@ -30,10 +39,11 @@ pub struct Attributes {
     pub size: Given,
 }
 
+// The attributes of a member, and where the text goes on after them.
 #[derive(Clone, Copy)]
-pub enum AttributesAt {
-    Given { attributes: Attributes, at: usize },
-    Refused(Refusal),
+pub struct AttributesAt {
+    pub attributes: Attributes,
+    pub at: usize,
 }
 
 // The members of a struct read so far: how many names, the end of the last one, the struct's alignment, whether its footprint is fixed, how many
@@ -49,33 +59,22 @@ pub struct Body {
     pub at: usize,
 }
 
-#[derive(Clone, Copy)]
-pub enum MemberAt {
-    Placed(Body),
-    Refused(Refusal),
-}
-
 const MOST_DEPTH: u32 = 32;
 
 const MOST: u64 = 4294967295;
 
 // `(`, a number, perhaps a comma, `)`.
-fn value_at(s: &[u8], at: usize) -> NumberAt
+fn value_at(s: &[u8], at: usize) -> Result<Number, Refusal>
     ensures { number_read s.now result ≡ value_of (from s.now at) }
 {
-    match wgsl_grammar::expect(s, at, b'(') {
-        Next::Refused(r) => NumberAt::Refused(r),
-        Next::At(first) => match wgsl_grammar::number_at(s, first) {
-            NumberAt::Refused(r) => NumberAt::Refused(r),
-            NumberAt::Value { value, at: next } => {
-                let last = wgsl_grammar::skipping(s, next, b',');
-                match wgsl_grammar::expect(s, last, b')') {
-                    Next::Refused(r) => NumberAt::Refused(r),
-                    Next::At(end) => NumberAt::Value { value, at: end },
-                }
-            }
-        },
-    }
+    let first = wgsl_grammar::expect(s, at, b'(')?;
+    let number = wgsl_grammar::number_at(s, first)?;
+    let last = wgsl_grammar::skipping(s, number.at, b',');
+    let end = wgsl_grammar::expect(s, last, b')')?;
+    Ok(Number {
+        value: number.value,
+        at: end,
+    })
 }
 
 fn again(given: Given, k: u32) -> Given
@@ -96,60 +95,47 @@ fn attribute_named(
     given: Attributes,
     at: usize,
     name: usize,
-) -> AttributesAt
+) -> Result<AttributesAt, Refusal>
     ensures { attributes_read s.now result ≡ attribute_named aligned sized given (from s.now at) }
 {
     let align = given.align;
     let size = given.size;
     if aligned {
-        return match value_at(s, at) {
-            NumberAt::Refused(r) => AttributesAt::Refused(r),
-            NumberAt::Value { value, at: next } => {
-                let more = again(align, value);
-                let attributes = Attributes { align: more, size };
-                AttributesAt::Given {
-                    attributes,
-                    at: next,
-                }
-            }
-        };
+        let number = value_at(s, at)?;
+        let more = again(align, number.value);
+        return Ok(AttributesAt {
+            attributes: Attributes { align: more, size },
+            at: number.at,
+        });
     }
     if sized {
-        return match value_at(s, at) {
-            NumberAt::Refused(r) => AttributesAt::Refused(r),
-            NumberAt::Value { value, at: next } => {
-                let more = again(size, value);
-                let attributes = Attributes { align, size: more };
-                AttributesAt::Given {
-                    attributes,
-                    at: next,
-                }
-            }
-        };
+        let number = value_at(s, at)?;
+        let more = again(size, number.value);
+        return Ok(AttributesAt {
+            attributes: Attributes { align, size: more },
+            at: number.at,
+        });
     }
-    AttributesAt::Refused(Refusal {
-        number: 31,
+    Err(Refusal {
+        fault: Fault::Grammar,
         at: name,
-        why: wgsl_grammar::ATTRIBUTE,
+        why: Why::Other(Problem::NoAttribute),
     })
 }
 
 // An attribute after its `@`.
-fn attribute_at(s: &[u8], given: Attributes, at: usize) -> AttributesAt
+fn attribute_at(s: &[u8], given: Attributes, at: usize) -> Result<AttributesAt, Refusal>
     ensures { attributes_read s.now result ≡ attribute_of given (from s.now at) }
 {
-    match wgsl_grammar::name_at(s, at) {
-        NameAt::Refused(r) => AttributesAt::Refused(r),
-        NameAt::Name { start, end } => {
-            let aligned = wgsl_names::same(&s[start..end], b"align");
-            let sized = wgsl_names::same(&s[start..end], b"size");
-            attribute_named(s, aligned, sized, given, end, at)
-        }
-    }
+    let name = wgsl_grammar::name_at(s, at)?;
+    let w = &s[name.start..name.end];
+    let aligned = wgsl_names::same(w, b"align");
+    let sized = wgsl_names::same(w, b"size");
+    attribute_named(s, aligned, sized, given, name.end, at)
 }
 
 // Any number of attributes.
-fn attributes_at(s: &[u8], at: usize) -> AttributesAt
+fn attributes_at(s: &[u8], at: usize) -> Result<AttributesAt, Refusal>
     ensures { attributes_read s.now result ≡ attributes_of (length s.now) (attributes Given.Absent Given.Absent) (from s.now at) }
 {
     let mut given = Attributes {
@@ -157,34 +143,21 @@ fn attributes_at(s: &[u8], at: usize) -> AttributesAt
         size: Given::Absent,
     };
     let mut next = at;
-    let mut left = s.len();
-    while 0 < left {
-        left -= 1;
-        match wgsl_grammar::expect(s, next, b'@') {
-            Next::Refused(_) => {
-                return AttributesAt::Given {
-                    attributes: given,
-                    at: next,
-                };
-            }
-            Next::At(name) => match attribute_at(s, given, name) {
-                AttributesAt::Refused(r) => {
-                    return AttributesAt::Refused(r);
-                }
-                AttributesAt::Given {
-                    attributes: more,
-                    at: end,
-                } => {
-                    given = more;
-                    next = end;
-                }
-            },
-        }
+    for _turn in 0..s.len() {
+        let Ok(name) = wgsl_grammar::expect(s, next, b'@') else {
+            return Ok(AttributesAt {
+                attributes: given,
+                at: next,
+            });
+        };
+        let more = attribute_at(s, given, name)?;
+        given = more.attributes;
+        next = more.at;
     }
-    AttributesAt::Given {
+    Ok(AttributesAt {
         attributes: given,
         at: next,
-    }
+    })
 }
 
 fn align_fits(given: Given, e: Shape) -> bool
@@ -245,12 +218,11 @@ fn place_member(
     attributes: Attributes,
     shape: Shape,
     types: u32,
-    start: usize,
-    end: usize,
+    name: Span,
     at: usize,
 ) -> Body
     requires { Placeable names.old members.old body }
-    ensures { PlacedIn names.old names.new members.old members.new body attributes shape types start end at result }
+    ensures { PlacedIn names.old names.new members.old members.new body attributes shape types name at result }
 {
     let given_align = attributes.align;
     let given_size = attributes.size;
@@ -259,7 +231,7 @@ fn place_member(
     let before = body.end;
     let offset = wgsl_placement::round_up(align, before);
     wgsl_tables::put_member(members, body.members, shape.number, written(offset));
-    wgsl_tables::put_name(names, body.names, start, end);
+    wgsl_tables::put_name(names, body.names, name);
     Body {
         names: body.names + 1,
         end: offset + (size as u64),
@@ -273,20 +245,20 @@ fn place_member(
 
 // Which of the attributes does not fit.
 fn misfit(attributes: Attributes, shape: Shape, close: usize) -> Refusal
-    ensures { result.number ≡ 33 }
+    ensures { number_of result.fault ≡ 33 }
 {
     let align = attributes.align;
     if align_fits(align, shape) {
         return Refusal {
-            number: 33,
+            fault: Fault::Attribute,
             at: close,
-            why: wgsl_grammar::SIZE,
+            why: Why::Other(Problem::Size),
         };
     }
     Refusal {
-        number: 33,
+        fault: Fault::Attribute,
         at: close,
-        why: wgsl_grammar::ALIGN,
+        why: Why::Other(Problem::Align),
     }
 }
 
@@ -300,13 +272,13 @@ fn attributes_fit(attributes: Attributes, shape: Shape) -> bool
 
 // A type that closes with no room for its record: the attributes are tested first.
 fn full_refusal(attributes: Attributes, shape: Shape, close: usize) -> Refusal
-    ensures { result.number ≡ pick (attributes_fit attributes shape) 1 33 }
+    ensures { number_of result.fault ≡ pick (attributes_fit attributes shape) 1 33 }
 {
     if attributes_fit(attributes, shape) {
         return Refusal {
-            number: 1,
+            fault: Fault::TableLength,
             at: close,
-            why: wgsl_grammar::TYPES_FULL,
+            why: Why::Other(Problem::TypesFull),
         };
     }
     misfit(attributes, shape, close)
@@ -315,29 +287,22 @@ fn full_refusal(attributes: Attributes, shape: Shape, close: usize) -> Refusal
 // A member from its type on.
 fn typed_member(
     s: &[u8],
-    structs: &[usize],
-    shapes: &[u32],
-    n: u32,
+    structs: Structs,
     names: &mut [usize],
     types: &mut [u32],
     members: &mut [u32],
-    room: u32,
-    rows: u32,
+    room: Room,
     body: Body,
     attributes: Attributes,
-    start: usize,
-    end: usize,
+    name: Span,
     at: usize,
-) -> MemberAt
-    requires { (n * 2 ≤ length structs.now) × (n * 4 ≤ length shapes.now) × (start ≤ end) × (end ≤ length s.now) × Bounds (rooms room rows) (tables names.old types.old members.old) body }
-    ensures { MemberRead s.now (rooms room rows) (tables names.old types.old members.old) (tables names.new types.new members.new) body (typed_member (rooms room rows) (structs_in s.now structs.now shapes.now n) (members_in s.now (tables names.old types.old members.old) body) attributes (part s.now start end) (from s.now at)) result }
+) -> Result<Body, Refusal>
+    requires { (structs.count * 2 ≤ length structs.names.now) × (structs.count * 4 ≤ length structs.shapes.now) × (name.start ≤ name.end) × (name.end ≤ length s.now) × Bounds (rooms room.types room.members) (tables names.old types.old members.old) body }
+    ensures { MemberRead s.now (rooms room.types room.members) (tables names.old types.old members.old) (tables names.new types.new members.new) body (typed_member (rooms room.types room.members) (structs_in s.now structs.entry.names.now structs.entry.shapes.now structs.entry.count) (members_in s.now (tables names.old types.old members.old) body) attributes (part s.now name.start name.end) (from s.now at)) result }
 {
-    let closed = wgsl_types::read_type(
-        s, structs, shapes, n, types, room, body.types, at, MOST_DEPTH,
-    );
+    let closed = wgsl_types::read_type(s, structs, types, room.types, body.types, at, MOST_DEPTH)?;
     match closed {
-        Closed::Refused(r) => MemberAt::Refused(r),
-        Closed::Full { shape, close } => MemberAt::Refused(full_refusal(attributes, shape, close)),
+        Closed::Full { shape, close } => Err(full_refusal(attributes, shape, close)),
         Closed::Whole {
             shape,
             made,
@@ -345,18 +310,16 @@ fn typed_member(
             close,
         } => {
             if !attributes_fit(attributes, shape) {
-                return MemberAt::Refused(misfit(attributes, shape, close));
+                return Err(misfit(attributes, shape, close));
             }
-            if rows <= body.members {
-                return MemberAt::Refused(Refusal {
-                    number: 1,
+            if room.members <= body.members {
+                return Err(Refusal {
+                    fault: Fault::TableLength,
                     at: close,
-                    why: wgsl_grammar::MEMBERS_FULL,
+                    why: Why::Other(Problem::MembersFull),
                 });
             }
-            MemberAt::Placed(place_member(
-                names, members, body, attributes, shape, made, start, end, next,
-            ))
+            Ok(place_member(names, members, body, attributes, shape, made, name, next))
         }
     }
 }
@@ -364,38 +327,30 @@ fn typed_member(
 // A member from its name on.
 fn named_member(
     s: &[u8],
-    structs: &[usize],
-    shapes: &[u32],
-    n: u32,
+    structs: Structs,
     names: &mut [usize],
     types: &mut [u32],
     members: &mut [u32],
-    room: u32,
-    rows: u32,
+    room: Room,
     body: Body,
     attributes: Attributes,
     at: usize,
-) -> MemberAt
-    requires { (n * 2 ≤ length structs.now) × (n * 4 ≤ length shapes.now) × Bounds (rooms room rows) (tables names.old types.old members.old) body }
-    ensures { MemberRead s.now (rooms room rows) (tables names.old types.old members.old) (tables names.new types.new members.new) body (named_member (rooms room rows) (structs_in s.now structs.now shapes.now n) (members_in s.now (tables names.old types.old members.old) body) attributes (from s.now at)) result }
+) -> Result<Body, Refusal>
+    requires { (structs.count * 2 ≤ length structs.names.now) × (structs.count * 4 ≤ length structs.shapes.now) × Bounds (rooms room.types room.members) (tables names.old types.old members.old) body }
+    ensures { MemberRead s.now (rooms room.types room.members) (tables names.old types.old members.old) (tables names.new types.new members.new) body (named_member (rooms room.types room.members) (structs_in s.now structs.entry.names.now structs.entry.shapes.now structs.entry.count) (members_in s.now (tables names.old types.old members.old) body) attributes (from s.now at)) result }
 {
-    match wgsl_grammar::name_at(s, at) {
-        NameAt::Refused(r) => MemberAt::Refused(r),
-        NameAt::Name { start, end } => {
-            match wgsl_tables::entry_of(s, &s[start..end], names, body.names) {
-                Found::At(_) => MemberAt::Refused(Refusal {
-                    number: 32,
-                    at,
-                    why: wgsl_grammar::REPEATED_MEMBER,
-                }),
-                Found::Nothing => match wgsl_grammar::expect(s, end, b':') {
-                    Next::Refused(r) => MemberAt::Refused(r),
-                    Next::At(next) => typed_member(
-                        s, structs, shapes, n, names, types, members, room, rows, body, attributes,
-                        start, end, next,
-                    ),
-                },
-            }
+    let name = wgsl_grammar::name_at(s, at)?;
+    match wgsl_tables::entry_of(s, &s[name.start..name.end], names, body.names) {
+        Some(_) => Err(Refusal {
+            fault: Fault::Name,
+            at,
+            why: Why::Other(Problem::RepeatedMember),
+        }),
+        None => {
+            let next = wgsl_grammar::expect(s, name.end, b':')?;
+            typed_member(
+                s, structs, names, types, members, room, body, attributes, name, next,
+            )
         }
     }
 }
@@ -403,27 +358,20 @@ fn named_member(
 // A member.
 pub fn read_member(
     s: &[u8],
-    structs: &[usize],
-    shapes: &[u32],
-    n: u32,
+    structs: Structs,
     names: &mut [usize],
     types: &mut [u32],
     members: &mut [u32],
-    room: u32,
-    rows: u32,
+    room: Room,
     body: Body,
-) -> MemberAt
-    requires { (n * 2 ≤ length structs.now) × (n * 4 ≤ length shapes.now) × Bounds (rooms room rows) (tables names.old types.old members.old) body }
-    ensures { MemberRead s.now (rooms room rows) (tables names.old types.old members.old) (tables names.new types.new members.new) body (member_of (length s.now) (rooms room rows) (structs_in s.now structs.now shapes.now n) (members_in s.now (tables names.old types.old members.old) body)) result }
+) -> Result<Body, Refusal>
+    requires { (structs.count * 2 ≤ length structs.names.now) × (structs.count * 4 ≤ length structs.shapes.now) × Bounds (rooms room.types room.members) (tables names.old types.old members.old) body }
+    ensures { MemberRead s.now (rooms room.types room.members) (tables names.old types.old members.old) (tables names.new types.new members.new) body (member_of (length s.now) (rooms room.types room.members) (structs_in s.now structs.entry.names.now structs.entry.shapes.now structs.entry.count) (members_in s.now (tables names.old types.old members.old) body)) result }
 {
     let at = body.at;
-    match attributes_at(s, at) {
-        AttributesAt::Refused(r) => MemberAt::Refused(r),
-        AttributesAt::Given {
-            attributes,
-            at: next,
-        } => named_member(
-            s, structs, shapes, n, names, types, members, room, rows, body, attributes, next,
-        ),
-    }
+    let given = attributes_at(s, at)?;
+    let attributes = given.attributes;
+    named_member(
+        s, structs, names, types, members, room, body, attributes, given.at,
+    )
 }

@@ -4,15 +4,15 @@
 ghost use Rattle.std.specs.Prelude.{◌≡◌, length, List, ℕ, min};
 ghost use Rattle.program_output.specs.Bytes.{Puts};
 ghost use Rattle.wgsl_messages.specs.Position.{breaks_line, position_of};
-ghost use Rattle.wgsl_messages.specs.Message.{token_text, found_text, sentence, mark_text, reason_text, position_text, broken_text};
+ghost use Rattle.wgsl_messages.specs.Message.{token_text, found_text, line_number, sentence, mark_text, reason_text, position_text, broken_text};
 ghost use Rattle.wgsl_messages.specs.Says.{Says};
 
 use program_output::Buffer;
-use wgsl_grammar::Refusal;
-use wgsl_tokens::{Gap, Lexed};
+use wgsl_grammar::{Problem, Refusal, Why};
+use wgsl_tokens::Lexed;
 
 // Both count from 1, columns in bytes.
-#[derive(Clone, Copy)]
+#[derive(Clone, Copy, Debug, PartialEq, Eq)]
 pub struct Position {
     pub line: usize,
     pub column: usize,
@@ -28,29 +28,20 @@ fn breaks_line(c: u8, next: u8) -> bool
     (LINE_FEED <= c) & (c <= RETURN) & !((c == RETURN) & (next == LINE_FEED))
 }
 
-fn least(n: usize, most: usize) -> usize
-    ensures { result ≡ min n most }
-{
-    if n < most { n } else { most }
-}
-
 // Line and column of a byte; past the end of the text, those of its end.
 pub fn line_and_column(text: &[u8], at: usize) -> Position
     ensures { result ≡ position_of text.now (min at (length text.now)) }
 {
-    let end = least(at, text.len());
+    let end = at.min(text.len());
     let mut line = 1;
     let mut column = 1;
-    let mut i = 0;
-    while i < end {
-        let next = i + 1;
-        if breaks_line(text[i], wgsl_tokens::byte_at(text, next)) {
+    for i in 0..end {
+        if breaks_line(text[i], wgsl_tokens::byte_at(text, i + 1)) {
             line += 1;
             column = 1;
         } else {
             column += 1;
         }
-        i = next;
     }
     Position { line, column }
 }
@@ -84,16 +75,16 @@ fn put_found(out: &mut Buffer, at: usize, text: &[u8], start: usize, token: Lexe
     }
 }
 
-// Reasons beside those of wgsl_grammar: a comment before the token is not closed, or holds a byte that is no ASCII; a comma is missing.
-const OPEN: u32 = 125;
+// The line of a problem, from 0 on.
+fn line_number(problem: Problem) -> u32
+    ensures { result ≡ line_number problem }
+{
+    problem as u32
+}
 
-const NO_ASCII: u32 = 126;
-
-const NO_COMMA: u32 = 127;
-
-// Lines of one text, numbered by their reasons: the three above, then those of wgsl_grammar in their order.
-fn put_sentence(out: &mut Buffer, at: usize, why: u32) -> usize
-    ensures { Puts out.old at (sentence why) out.new result }
+// Lines of one text, one for each problem, in their order.
+fn put_sentence(out: &mut Buffer, at: usize, problem: Problem) -> usize
+    ensures { Puts out.old at (sentence problem) out.new result }
 {
     program_output::put_line_of(
         out,
@@ -119,8 +110,8 @@ the struct has more than 4294967295 bytes
 there is no room for one more type record
 there is no room for one more member record
 ",
-        OPEN,
-        why,
+        0,
+        line_number(problem),
     )
 }
 
@@ -129,21 +120,21 @@ fn put_mark(out: &mut Buffer, at: usize, mark: u8) -> usize
     ensures { Puts out.old at (mark_text mark) out.new result }
 {
     if mark == b',' {
-        return put_sentence(out, at, NO_COMMA);
+        return put_sentence(out, at, Problem::NoComma);
     }
     let a = program_output::put_text(out, at, b"expected `");
     let b = program_output::put_text(out, a, &[mark]);
     program_output::put_text(out, b, b"`\n")
 }
 
-// What was wrong: a number below 128 is the mark that was expected.
-fn put_reason(out: &mut Buffer, at: usize, why: u32) -> usize
+// What was wrong.
+fn put_reason(out: &mut Buffer, at: usize, why: Why) -> usize
     ensures { Puts out.old at (reason_text why) out.new result }
 {
-    if why < wgsl_grammar::NAME {
-        return put_mark(out, at, why as u8);
+    match why {
+        Why::Mark(mark) => put_mark(out, at, mark),
+        Why::Other(problem) => put_sentence(out, at, problem),
     }
-    put_sentence(out, at, why)
 }
 
 fn put_position(out: &mut Buffer, at: usize, text: &[u8], byte: usize) -> usize
@@ -161,9 +152,9 @@ fn put_broken(out: &mut Buffer, at: usize, text: &[u8], byte: usize) -> usize
 {
     let end = put_position(out, at, text, byte);
     if byte < text.len() {
-        return put_sentence(out, end, NO_ASCII);
+        return put_sentence(out, end, Problem::NotAscii);
     }
-    put_sentence(out, end, OPEN)
+    put_sentence(out, end, Problem::OpenComment)
 }
 
 // A line about a refusal: its place, what stands there, and what is wrong.
@@ -171,8 +162,8 @@ pub fn put_message(out: &mut Buffer, at: usize, text: &[u8], refusal: Refusal) -
     ensures { (message : List ℕ) × Says text.now refusal.at refusal.why message × Puts out.old at message out.new result }
 {
     match wgsl_tokens::token_start(text, refusal.at) {
-        Gap::Broken(byte) => put_broken(out, at, text, byte),
-        Gap::At(start) => {
+        Err(broken) => put_broken(out, at, text, broken.at),
+        Ok(start) => {
             let token = wgsl_tokens::next_token(text, start);
             let a = put_position(out, at, text, start);
             let b = put_found(out, a, text, start, token);

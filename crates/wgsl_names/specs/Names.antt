@@ -6,7 +6,6 @@ use Rattle.wgsl_names.specs.declared.Scalar.{Scalar}
 use Rattle.wgsl_names.specs.declared.Scalar.TheVariants.{Bool as BoolScalar, I32, U32, F32, F16}
 use Rattle.wgsl_names.specs.declared.Dimension.{Dimension}
 use Rattle.wgsl_names.specs.declared.Dimension.TheVariants.{Two, Three, Four}
-use Rattle.wgsl_names.specs.declared.Template.{Template}
 use Rattle.wgsl_names.specs.declared.Template.TheVariants.{Vector, Matrix, Atomic}
 use Rattle.wgsl_names.specs.declared.TypeName.{TypeName}
 use Rattle.wgsl_names.specs.declared.TypeName.TheVariants.{OfScalar, OfTemplate, Array, Unknown}

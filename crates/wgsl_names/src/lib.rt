@@ -16,9 +16,9 @@ pub enum Scalar {
 // Of a vector, and of a matrix's columns and rows.
 #[derive(Clone, Copy)]
 pub enum Dimension {
-    Two,
-    Three,
-    Four,
+    Two = 2,
+    Three = 3,
+    Four = 4,
 }
 
 // The templates over a scalar.
@@ -30,6 +30,7 @@ pub enum Template {
 }
 
 // What a predeclared name stands for.
+// Kept: `Unknown` is one of the kinds that every reader of a name tells apart; an `Option` of the others is matched in two steps.
 #[derive(Clone, Copy)]
 pub enum TypeName {
     OfScalar(Scalar),
@@ -38,21 +39,11 @@ pub enum TypeName {
     Unknown,
 }
 
-// Whether two words have the same bytes. The last ones, in which names differ most, are looked at first.
+// Whether two words have the same bytes.
 pub fn same(a: &[u8], b: &[u8]) -> bool
     ensures { result ≡ same a.now b.now }
 {
-    let mut i = a.len();
-    if i != b.len() {
-        return false;
-    }
-    while 0 < i {
-        i -= 1;
-        if a[i] != b[i] {
-            return false;
-        }
-    }
-    true
+    a == b
 }
 
 fn first_keyword(w: &[u8]) -> bool
@@ -221,9 +212,5 @@ pub fn bytes_of(scalar: Scalar) -> u32
 pub fn number_of(n: Dimension) -> u32
     ensures { (result ≡ number_of n) × (result ≤ 4) }
 {
-    match n {
-        Dimension::Two => 2,
-        Dimension::Three => 3,
-        Dimension::Four => 4,
-    }
+    n as u32
 }

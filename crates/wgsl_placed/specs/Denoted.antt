@@ -6,7 +6,7 @@ use Rattle.std.specs.Prelude.{◌≡◌, List, ℕ, ◌<◌, T}
 use Rattle.std.proofs.Math.Option.{Option, none, some}
 use Rattle.std.specs.Int.{◌∣◌}
 use Rattle.ir_records.specs.Record.{Decoded, decoded, type_count}
-use Rattle.ir_records.specs.declared.Outcome.TheVariants.{Accepted}
+use Rattle.ir_records.specs.Outcome.{Accepted}
 use Rattle.proc_layouter.specs.Layouter.{layout, layout_outcome}
 use Rattle.w3c_agreement.specs.Wgsl.{WgslType, align_of, size_of, HostShareable, FixedSize, WellFormed}
 use Rattle.w3c_agreement.specs.Placement.{IsType}

@@ -20,17 +20,18 @@ pub struct Shape {
 }
 
 // Of an array.
+// Kept: a runtime-sized array is no array without a count; `None` would not say so, and naga's ArraySize is an enum too.
 #[derive(Clone, Copy)]
 pub enum Count {
     Of(u32),
     Runtime,
 }
 
-// SizeOf and StrideOf of an array, or that they leave 32 bits.
-#[derive(Clone, Copy)]
-pub enum Measure {
-    Bytes { size: u32, stride: u32 },
-    TooLarge,
+// SizeOf and StrideOf of an array.
+#[derive(Clone, Copy, Debug, PartialEq, Eq)]
+pub struct Measure {
+    pub size: u32,
+    pub stride: u32,
 }
 
 const MOST: u64 = 4294967295;
@@ -173,22 +174,22 @@ fn elements(count: Count) -> u32
     }
 }
 
-// StrideOf, and N of them.
-pub fn array_measure(count: Count, e: Shape) -> Measure
+/// StrideOf, and N of them; nothing where they leave 32 bits.
+pub fn array_measure(count: Count, e: Shape) -> Option<Measure>
     ensures { Measured count e result }
 {
     let stride = round_up(e.align, e.size as u64);
     if MOST < stride {
-        return Measure::TooLarge;
+        return None;
     }
     let n = elements(count) as u64;
     let total = n * stride;
     if MOST < total {
-        return Measure::TooLarge;
+        return None;
     }
     let size = total as u32;
     let step = stride as u32;
-    Measure::Bytes { size, stride: step }
+    Some(Measure { size, stride: step })
 }
 
 pub fn array_record(count: Count, element: u32, stride: u32) -> Words

@@ -1,19 +1,20 @@
 -- Laws of a text's reading: what the declarations leave is what the text's definition says. Assumes nothing.
 use mathlib.Core.Path.{◌≡◌, sym}
-use mathlib.Core.List.{List, append-nil}
+use mathlib.Core.List.{List}
 use Prim.Native.Nat.{ℕ, ◌+◌, ◌*◌, ◌≤◌}
 use native.Mathlib.Omega.{arith}
-use lib.ListN.{length, drop, replicate, take-append-drop, drop_of_length-le}
+use lib.ListN.{length, drop, take-append-drop}
 use lib.Seq.{length-take-le}
 use Rattle.ir_records.specs.Record.{type_words, member_words}
-use Rattle.ir_rows.specs.Rows.{cleared}
 use Rattle.wgsl_grammar.specs.Grammar.{Reading, refused, read}
 use Rattle.wgsl_tables.specs.Tables.{records_in, structs_in}
 use Rattle.wgsl_members.specs.Members.{Rooms}
 use Rattle.wgsl_structs.specs.Structs.{Declared, declarations_of}
 use Rattle.wgsl_structs.specs.Serving.{Declarations, declared_in, StructRead, first}
-use Rattle.wgsl_structs.specs.declared.StructAt.{StructAt}
-use Rattle.wgsl_structs.specs.declared.StructAt.TheVariants as struct
+use Rattle.wgsl_structs.specs.declared.State.{State}
+use Rattle.wgsl_grammar.specs.declared.Refusal.{Refusal}
+use Rattle.ir_records.specs.Refusal.{number_of}
+use Rattle.std.specs.Prelude.{Result, Ok, Err}
 use Rattle.wgsl_read.specs.Text.{rooms_in, text_of, left_in, Filled}
 
 -- the records at the start of the words, and what was lent behind them
@@ -21,24 +22,18 @@ pub left-in : (width made : ℕ) (was is : List ℕ) → made * width ≤ length
 left-in width made was is within kept =
     rw (length-take-le (made * width) is within, ← kept) (sym (take-append-drop (made * width) is))
 
--- every word zero
-pub all_cleared : (words : List ℕ) (n : ℕ) → n ≡ length words → cleared words n ≡ replicate n 0
-all_cleared words n e =
-    let all : length words ≤ n = omega arith in
-    rw (drop_of_length-le words all) (append-nil (replicate n 0))
-
 module _ (s : List ℕ) (was is : Declarations) (r : Rooms) (rooms-are : r ≡ rooms_in (length was.types) (length was.members)) where
   whole : (d : Reading Declared) → declarations_of (length s) (length s + 1) r (declared_in s was first) ≡ d → text_of (length was.types) (length was.members) s ≡ d
   unfolding text_of structs_in
   whole d e = rw rooms-are at e
 
-  pub text_filled : (x : StructAt) → StructRead s r was is first (declarations_of (length s) (length s + 1) r (declared_in s was first)) x
+  pub text_filled : (x : Result State Refusal) → StructRead s r was is first (declarations_of (length s) (length s + 1) r (declared_in s was first)) x
       → Filled s was.types is.types was.members is.members x
-  text_filled (struct.Declared d) h =
+  text_filled (Ok d) h =
       let e = whole (read (declared_in s is d)) h.0 in
       let t = h.1.types in (
         rw e,
         rw e (left-in type_words d.types was.types is.types (omega (arith, t.0, t.2)) h.2.types),
         rw e (left-in member_words d.members was.members is.members (omega (arith, h.1.made, h.1.words)) h.2.members),
       )
-  text_filled (struct.Refused x) h = whole (refused x.number) h
+  text_filled (Err x) h = whole (refused (number_of x.fault)) h

@@ -1,1 +1,2 @@
+pub mod TextAnswer
 pub mod Text

@@ -1,8 +1,10 @@
 -- 02, E7: the records of a WGSL text, for lent tables of so many words; and what a call leaves in them.
 -- Assumes nothing.
-use Rattle.std.specs.Prelude.{List, [], ◌∷◌, ◌++◌, ℕ, ◌+◌, ◌/◌, min, length, drop, replicate, ◌≡◌}
+use Rattle.std.specs.Prelude.{List, [], ◌++◌, ℕ, ◌+◌, ◌/◌, min, length, drop, replicate, ◌≡◌, Result, Ok, Err}
 use Rattle.ir_records.specs.Record.{type_words, member_words}
 use Rattle.ir_records.specs.Fields.{most_types, most_members}
+use Rattle.ir_records.specs.Refusal.{number_of}
+use Rattle.ir_records.specs.declared.Records as made
 use Rattle.wgsl_tokens.specs.Tokens.{code, tokens}
 use Rattle.wgsl_grammar.specs.Grammar.{Reading, refused, read}
 use Rattle.wgsl_grammar.specs.declared.Refusal.{Refusal}
@@ -10,12 +12,8 @@ use Rattle.wgsl_tables.specs.Tables.{Records}
 use Rattle.wgsl_members.specs.Members.{Rooms}
 use Rattle.wgsl_structs.specs.Structs.{Declared, declarations_of}
 use Rattle.wgsl_structs.specs.declared.State.{State}
-use Rattle.wgsl_structs.specs.declared.StructAt.{StructAt}
-use Rattle.wgsl_structs.specs.declared.StructAt.TheVariants as struct
-use Rattle.wgsl_read.specs.declared.TextAnswer.{TextAnswer}
-use Rattle.wgsl_read.specs.declared.TextAnswer.TheVariants as answer
-use Rattle.wgsl_read.specs.declared.TextAt.{TextAt}
-use Rattle.wgsl_read.specs.declared.TextAt.TheVariants as at
+use Rattle.wgsl_read.specs.TextAnswer.{TextAnswer}
+use Rattle.wgsl_read.specs.TextAnswer as answer
 
 -- 'more records than 01 or the lent tables admit is number 1': whole ones
 abbrev pub rooms_in : (types members : ℕ) → Rooms
@@ -46,14 +44,14 @@ members_left (read d) lent = left_in d.members lent
 members_left (refused n) lent = replicate (length lent) 0
 
 -- a refusal's number alone
-abbrev pub numbered_by : TextAt → TextAnswer
-numbered_by (at.Records types members) = answer.Records types members
-numbered_by (at.Refused r) = answer.Refused r.number
+abbrev pub numbered_by : Result made.Records Refusal → TextAnswer
+numbered_by (Ok r) = answer.Records r.types r.members
+numbered_by (Err r) = answer.Refused (number_of r.fault)
 
 -- what the declarations leave before a refusal zeroes the words
-abbrev pub Filled : (text types types-now members members-now : List ℕ) → StructAt → Type 0
-Filled text types types-now members members-now (struct.Declared d) =
+abbrev pub Filled : (text types types-now members members-now : List ℕ) → Result State Refusal → Type 0
+Filled text types types-now members members-now (Ok d) =
     (answer_of (text_of (length types) (length members) text) ≡ answer.Records d.types d.members)
     × (types-now ≡ types_left (text_of (length types) (length members) text) types)
     × (members-now ≡ members_left (text_of (length types) (length members) text) members)
-Filled text types types-now members members-now (struct.Refused r) = text_of (length types) (length members) text ≡ refused r.number
+Filled text types types-now members members-now (Err r) = text_of (length types) (length members) text ≡ refused (number_of r.fault)

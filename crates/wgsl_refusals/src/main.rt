@@ -2,7 +2,6 @@
 #![tactic(auto)]
 
 use wgsl_grammar::Refusal;
-use wgsl_read::TextAt;
 
 fn refuse(text: &[u8]) {
     let mut out = [0u8; 1114112];
@@ -62,12 +61,8 @@ fn say(text: &[u8], refusal: Refusal) {
 
 // With room for so many words.
 fn refuse_short(text: &[u8], types: &mut [u32], members: &mut [u32]) {
-    match wgsl_read::read_at(text, types, members) {
-        TextAt::Records {
-            types: _,
-            members: _,
-        } => {}
-        TextAt::Refused(refusal) => say(text, refusal),
+    if let Err(refusal) = wgsl_read::read_at(text, types, members) {
+        say(text, refusal);
     }
 }
 

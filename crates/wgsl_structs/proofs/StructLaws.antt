@@ -11,6 +11,9 @@ use Rattle.ir_rows.proofs.RowLaws.{drop_later}
 use Rattle.proc_alignment.specs.Alignment.{round_up}
 use Rattle.wgsl_tokens.specs.Tokens.{Token, word, from}
 use Rattle.wgsl_names.specs.Names.{same, struct_word}
+use Rattle.std.specs.Prelude.{Result, Ok, Err, Some}
+use Rattle.program_words.specs.declared.Span.{Span}
+use Rattle.wgsl_grammar.specs.declared.Refusal.{Refusal}
 use Rattle.wgsl_grammar.specs.Grammar.{Reading, refused, read, and_then}
 use Rattle.wgsl_placement.specs.Placement.{shape, words_of, struct_record}
 use Rattle.wgsl_placement.specs.declared.Shape.{Shape}
@@ -21,21 +24,21 @@ use Rattle.wgsl_members.specs.Members.{Members, Rooms, member_of}
 use Rattle.wgsl_members.specs.Serving.{rooms, Tables, tables, members_in, Bounds, Kept}
 use Rattle.wgsl_members.specs.declared.Body.{Body}
 use Rattle.wgsl_structs.specs.Structs.{member_end, after_member, members_of, Declared, start_of, with_struct, close_struct, struct_body, struct_of, declared_by, declaration_of, after_declaration, declarations_of}
-use Rattle.wgsl_structs.specs.Serving.{Declarations, declarations, declared_in, StateBounds, StateKept, StructRead, ClosedIn, declared_at, DeclarationRead}
-use Rattle.wgsl_structs.specs.declared.StructAt.{StructAt}
-use Rattle.wgsl_structs.specs.declared.StructAt.TheVariants as struct
+use Rattle.wgsl_structs.specs.Serving.{Declarations, declarations, declared_in, StateBounds, StateKept, StructRead, ClosedIn, DeclarationRead}
 use Rattle.wgsl_structs.specs.declared.State.{State}
 
 -- ---- one member, one declaration
-pub members_step : (turns left : ℕ) (r : Rooms) (structs : List Named) (m : Members) → 0 < left
-    → members_of turns left r structs m ≡ and_then (member_of turns r structs m) (λ m. after_member (member_end m.rest) m (λ m. members_of turns (left - 1) r structs m))
+pub members_step : (turns count turn : ℕ) (r : Rooms) (structs : List Named) (m : Members) → turn < count
+    → members_of turns (count - turn) r structs m
+    ≡ and_then (member_of turns r structs m) (λ m. after_member (member_end m.rest) m (λ m. members_of turns (count - (turn + 1)) r structs m))
 unfolding members_of
-members_step turns left r structs m h = let one : left ≡ suc (left - 1) = omega arith in ap (λ (k : ℕ). members_of turns k r structs m) one
+members_step turns count turn r structs m h = let one : count - turn ≡ suc (count - (turn + 1)) = omega arith in ap (λ (k : ℕ). members_of turns k r structs m) one
 
-pub declarations_step : (turns left : ℕ) (r : Rooms) (d : Declared) → 0 < left
-    → declarations_of turns left r d ≡ after_declaration (declaration_of turns r d d.rest) d (λ next. declarations_of turns (left - 1) r next)
+pub declarations_step : (turns count turn : ℕ) (r : Rooms) (d : Declared) → turn < count
+    → declarations_of turns (count - turn) r d
+    ≡ after_declaration (declaration_of turns r d d.rest) d (λ next. declarations_of turns (count - (turn + 1)) r next)
 unfolding declarations_of
-declarations_step turns left r d h = let one : left ≡ suc (left - 1) = omega arith in ap (λ (k : ℕ). declarations_of turns k r d) one
+declarations_step turns count turn r d h = let one : count - turn ≡ suc (count - (turn + 1)) = omega arith in ap (λ (k : ℕ). declarations_of turns k r d) one
 
 -- ---- the same members, where the text goes on elsewhere
 abbrev pub at_position : Body → ℕ → Body
@@ -94,7 +97,7 @@ pub close_alike : (r : Rooms) (s structs shapes n t m n' t' m' : List ℕ) (d : 
 unfolding with_struct
 close_alike r s structs shapes n t m n' t' m' d name b = refl
 
-module _ (s structs shapes names types members : List ℕ) (d : State) (b : Body) (start end : ℕ) where
+module _ (s structs shapes names types members : List ℕ) (d : State) (b : Body) (name : Span) where
   abbrev pub span : ℕ
   span = round_up b.align b.end
 
@@ -106,14 +109,14 @@ module _ (s structs shapes names types members : List ℕ) (d : State) (b : Body
 
   pub struct_is : d.structs * 2 + 2 ≤ length structs → d.structs * 4 + 4 ≤ length shapes → b.types * type_words + type_words ≤ length types
       → declared_in s (
-      declarations (set (set structs (d.structs * 2) start) (d.structs * 2 + 1) end)
+      declarations (set (set structs (d.structs * 2) name.start) (d.structs * 2 + 1) name.end)
       (with_part 4 shapes (d.structs * 4) (struct_shape.number ∷ struct_shape.size ∷ struct_shape.align ∷ flag struct_shape.fixed ∷ []))
       names (with_part type_words types (b.types * type_words) (words_of (struct_record d.members (b.members - d.members) span))) members) next_state
-      ≡ with_struct (declared_in s (declarations structs shapes names types members) d) (name_in s start end) (members_in s (tables names types members) b)
+      ≡ with_struct (declared_in s (declarations structs shapes names types members) d) (name_in s name.start name.end) (members_in s (tables names types members) b)
   unfolding with_struct
   struct_is named shaped room =
       rw (
-        one_struct s structs shapes d.structs start end struct_shape named shaped,
+        one_struct s structs shapes d.structs name.start name.end struct_shape named shaped,
         one_record type_words types (words_of (struct_record d.members (b.members - d.members) span)) b.types refl room,
       )
 
@@ -132,27 +135,27 @@ module _ (turns : ℕ) (r : Rooms) (s : List ℕ) (t : Declarations) (d : State)
   body_closed m e = rw e
 
 module _ (s : List ℕ) (room rows : ℕ) (structs structs-now shapes shapes-now names names-now types mid types-now members members-now : List ℕ)
-    (d : State) (b : Body) (start end at : ℕ) (ordered : start ≤ end) (inside : end ≤ length s)
+    (d : State) (b : Body) (name : Span) (at : ℕ) (ordered : name.start ≤ name.end) (inside : name.end ≤ length s)
     (bounds : StateBounds (rooms room rows) (declarations structs shapes names types members) d)
     (members-read : members_of (length s) (length s) (rooms room rows) (structs_in s structs shapes d.structs) (members_in s (tables names types members) (first_body d at))
     ≡ read (members_in s (tables names-now mid members-now) b))
     (body-bounds : Bounds (rooms room rows) (tables names-now mid members-now) b)
     (kept : Kept (tables names types members) (tables names-now mid members-now) (first_body d at) b)
     (long-structs : length structs-now ≡ length structs) (long-shapes : length shapes-now ≡ length shapes) (long-types : length types-now ≡ length mid) where
-  same_close : close_struct (rooms room rows) (declared_in s (declarations structs shapes names types members) d) (part s start end) (members_in s (tables names-now mid members-now) b)
-      ≡ close_struct (rooms room rows) (declared_in s (declarations structs shapes names-now mid members-now) d) (name_in s start end) (members_in s (tables names-now mid members-now) b)
+  same_close : close_struct (rooms room rows) (declared_in s (declarations structs shapes names types members) d) (part s name.start name.end) (members_in s (tables names-now mid members-now) b)
+      ≡ close_struct (rooms room rows) (declared_in s (declarations structs shapes names-now mid members-now) d) (name_in s name.start name.end) (members_in s (tables names-now mid members-now) b)
   same_close =
-      close_alike (rooms room rows) s structs shapes names types members names-now mid members-now d (part s start end) (members_in s (tables names-now mid members-now) b)
+      close_alike (rooms room rows) s structs shapes names types members names-now mid members-now d (part s name.start name.end) (members_in s (tables names-now mid members-now) b)
       ∙ ap (λ (w : List ℕ). close_struct (rooms room rows) (declared_in s (declarations structs shapes names-now mid members-now) d) w (members_in s (tables names-now mid members-now) b))
-      (sym (name_within s start end ordered inside))
+      (sym (name_within s name.start name.end ordered inside))
 
-  pub struct_read : (x : StructAt) → ClosedIn structs structs-now shapes shapes-now mid types-now room d b start end x
+  pub struct_read : (x : Result State Refusal) → ClosedIn structs structs-now shapes shapes-now mid types-now room d b name x
       → StructRead s (rooms room rows) (declarations structs shapes names types members) (declarations structs-now shapes-now names-now types-now members-now) d
-      (struct_body (length s) (rooms room rows) (declared_in s (declarations structs shapes names types members) d) (part s start end) (from s at)) x
-  struct_read (struct.Declared after) c =
+      (struct_body (length s) (rooms room rows) (declared_in s (declarations structs shapes names types members) d) (part s name.start name.end) (from s at)) x
+  struct_read (Ok after) c =
       let own = bounds.types in
       let body-types = body-bounds.types in (
-        body_closed (length s) (rooms room rows) s (declarations structs shapes names types members) d (part s start end) at (members_in s (tables names-now mid members-now) b) members-read
+        body_closed (length s) (rooms room rows) s (declarations structs shapes names types members) d (part s name.start name.end) at (members_in s (tables names-now mid members-now) b) members-read
             ∙ same_close ∙ c.0 s names-now members-now rows,
         record {
           types = (c.3, own.1, omega (arith, body-types.2));
@@ -171,8 +174,8 @@ module _ (s : List ℕ) (room rows : ℕ) (structs structs-now shapes shapes-now
           members = rw c.4 kept.members;
         },
       )
-  struct_read (struct.Refused x) c =
-      body_closed (length s) (rooms room rows) s (declarations structs shapes names types members) d (part s start end) at (members_in s (tables names-now mid members-now) b) members-read
+  struct_read (Err x) c =
+      body_closed (length s) (rooms room rows) s (declarations structs shapes names types members) d (part s name.start name.end) at (members_in s (tables names-now mid members-now) b) members-read
       ∙ same_close ∙ c s names-now members-now rows
 
 -- ---- a declaration
@@ -186,10 +189,9 @@ state_bounds_at r t d at h =
 pub state_kept_at : (was is : Declarations) (a b : State) (at : ℕ) → StateKept was is a b → StateKept was is a (past_state b at)
 state_kept_at was is a b at h = record { more-types = h.more-types; types = h.types; more-members = h.more-members; members = h.members }
 
-pub declared_read : (s : List ℕ) (r : Rooms) (was is : Declarations) (d : State) (c : Reading Declared) (x : StructAt)
-    → StructRead s r was is d c x → DeclarationRead s r was is d (declared_by c) (declared_at x)
-declared_read s r was is d c (struct.Declared after) h = (rw h.0, h.1, h.2)
-declared_read s r was is d c (struct.Refused x) h = rw h
+pub declared_read : (s : List ℕ) (r : Rooms) (was is : Declarations) (d : State) (c : Reading Declared) (after : State)
+    → StructRead s r was is d c (Ok after) → DeclarationRead s r was is d (declared_by c) (Ok (Some after))
+declared_read s r was is d c after h = (rw h.0, h.1, h.2)
 
 pub struct_declared : (turns : ℕ) (r : Rooms) (d : Declared) (ts rest : List Token) (w : List ℕ) → ts ≡ word w ∷ rest → same w struct_word ≡ true
     → declaration_of turns r d ts ≡ declared_by (struct_of turns r d rest)

@@ -1,10 +1,13 @@
 -- Serves the contracts of functions inside the library: it adds nothing to what the other files say, and a reader may skip it.
 -- What the functions over positions answer, as the readings of the tokens from there on, by the code's numbers and the words of its tables.
 -- Assumes nothing.
-use Rattle.std.specs.Prelude.{◌≡◌, List, ℕ, ◌+◌, ◌*◌, ◌≤◌, length, drop}
+use Rattle.std.specs.Prelude.{◌≡◌, List, ℕ, ◌+◌, ◌*◌, ◌≤◌, length, drop, Option, Some, None, Result, Ok, Err}
 use Rattle.ir_records.specs.Record.{type_words, member_words}
+use Rattle.ir_records.specs.Refusal.{number_of}
+use Rattle.program_words.specs.declared.Span.{Span}
 use Rattle.wgsl_tokens.specs.Tokens.{from}
 use Rattle.wgsl_grammar.specs.Grammar.{Reading, refused, read}
+use Rattle.wgsl_grammar.specs.declared.Refusal.{Refusal}
 use Rattle.wgsl_tables.specs.Tables.{records_in, name_in, structs_in}
 use Rattle.wgsl_types.specs.Serving.{Room}
 use Rattle.wgsl_members.specs.Members.{Members, Rooms}
@@ -14,21 +17,16 @@ use Rattle.wgsl_structs.specs.Structs.{MemberEnd, stops, closes, goes, Declared,
 use Rattle.wgsl_structs.specs.declared.EndAt.{EndAt}
 use Rattle.wgsl_structs.specs.declared.EndAt.TheVariants as end
 use Rattle.wgsl_structs.specs.declared.MembersAt.{MembersAt}
-use Rattle.wgsl_structs.specs.declared.MembersAt.TheVariants as members
 use Rattle.wgsl_structs.specs.declared.State.{State}
-use Rattle.wgsl_structs.specs.declared.StructAt.{StructAt}
-use Rattle.wgsl_structs.specs.declared.StructAt.TheVariants as struct
-use Rattle.wgsl_structs.specs.declared.DeclarationAt.{DeclarationAt}
-use Rattle.wgsl_structs.specs.declared.DeclarationAt.TheVariants as declaration
 
-abbrev pub end_read : List ℕ → EndAt → MemberEnd
-end_read s (end.Closes at close) = closes (from s at)
-end_read s (end.Goes at) = goes (from s at)
-end_read s (end.Refused r) = stops r.number
+abbrev pub end_read : List ℕ → Result EndAt Refusal → MemberEnd
+end_read s (Ok (end.Closes at close)) = closes (from s at)
+end_read s (Ok (end.Goes at)) = goes (from s at)
+end_read s (Err r) = stops (number_of r.fault)
 
-abbrev pub MembersRead : List ℕ → Rooms → (was is : Tables) → (before : Body) → Reading Members → MembersAt → Type 0
-MembersRead s r was is before m (members.Closed after close) = (m ≡ read (members_in s is after)) × Bounds r is after × Kept was is before after
-MembersRead s r was is before m (members.Refused x) = m ≡ refused x.number
+abbrev pub MembersRead : List ℕ → Rooms → (was is : Tables) → (before : Body) → Reading Members → Result MembersAt Refusal → Type 0
+MembersRead s r was is before m (Ok x) = (m ≡ read (members_in s is x.body)) × Bounds r is x.body × Kept was is before x.body
+MembersRead s r was is before m (Err x) = m ≡ refused (number_of x.fault)
 
 -- ---- what was declared so far: the tables of structs beside those of members
 pub record Declarations : Type 0 where
@@ -67,9 +65,9 @@ pub record StateKept (was is : Declarations) (before after : State) : Type 0 whe
   pub more-members : before.members ≤ after.members
   pub members : drop (after.members * member_words) is.members ≡ drop (after.members * member_words) was.members
 
-abbrev pub StructRead : List ℕ → Rooms → (was is : Declarations) → (before : State) → Reading Declared → StructAt → Type 0
-StructRead s r was is before d (struct.Declared after) = (d ≡ read (declared_in s is after)) × StateBounds r is after × StateKept was is before after
-StructRead s r was is before d (struct.Refused x) = d ≡ refused x.number
+abbrev pub StructRead : List ℕ → Rooms → (was is : Declarations) → (before : State) → Reading Declared → Result State Refusal → Type 0
+StructRead s r was is before d (Ok after) = (d ≡ read (declared_in s is after)) × StateBounds r is after × StateKept was is before after
+StructRead s r was is before d (Err x) = d ≡ refused (number_of x.fault)
 
 -- ---- a struct that closes, in the tables of structs and of type records, whatever the text and the other tables are
 pub record Closable (structs shapes types : List ℕ) (room : ℕ) (d : State) (b : Body) : Type 0 where
@@ -80,30 +78,26 @@ pub record Closable (structs shapes types : List ℕ) (room : ℕ) (d : State) (
   pub shaped : 4096 ≤ length shapes
   pub end : b.end ≤ 35184372088832
 
-abbrev pub ClosedIn : (structs structs-now shapes shapes-now types types-now : List ℕ) (room : ℕ) (d : State) (b : Body) (start end : ℕ) → StructAt → Type 0
-ClosedIn structs structs-now shapes shapes-now types types-now room d b start end (struct.Declared after) =
+abbrev pub ClosedIn : (structs structs-now shapes shapes-now types types-now : List ℕ) (room : ℕ) (d : State) (b : Body) (name : Span) → Result State Refusal → Type 0
+ClosedIn structs structs-now shapes shapes-now types types-now room d b name (Ok after) =
     ((s names members : List ℕ) (rows : ℕ) →
-    close_struct (record { types = room; members = rows }) (declared_in s (declarations structs shapes names types members) d) (name_in s start end) (members_in s (tables names types members) b)
+    close_struct (record { types = room; members = rows }) (declared_in s (declarations structs shapes names types members) d) (name_in s name.start name.end) (members_in s (tables names types members) b)
     ≡ read (declared_in s (declarations structs-now shapes-now names types-now members) after))
     × (after.structs ≡ d.structs + 1)
     × (after.types ≡ b.types + 1)
     × (after.types ≤ room)
     × (after.members ≡ b.members)
     × (drop (after.types * type_words) types-now ≡ drop (after.types * type_words) types)
-ClosedIn structs structs-now shapes shapes-now types types-now room d b start end (struct.Refused x) =
+ClosedIn structs structs-now shapes shapes-now types types-now room d b name (Err x) =
     (s names members : List ℕ) (rows : ℕ) →
-    close_struct (record { types = room; members = rows }) (declared_in s (declarations structs shapes names types members) d) (name_in s start end) (members_in s (tables names types members) b)
-    ≡ refused x.number
+    close_struct (record { types = room; members = rows }) (declared_in s (declarations structs shapes names types members) d) (name_in s name.start name.end) (members_in s (tables names types members) b)
+    ≡ refused (number_of x.fault)
 
 -- ---- a declaration
 abbrev pub first : State
 first = record { structs = 0; types = 0; members = 0; at = 0 }
 
-abbrev pub declared_at : StructAt → DeclarationAt
-declared_at (struct.Declared d) = declaration.After d
-declared_at (struct.Refused r) = declaration.Refused r
-
-abbrev pub DeclarationRead : List ℕ → Rooms → (was is : Declarations) → (before : State) → Declaration → DeclarationAt → Type 0
-DeclarationRead s r was is before d declaration.Finished = (d ≡ finished) × (is ≡ was)
-DeclarationRead s r was is before d (declaration.After next) = (d ≡ further (declared_in s is next)) × StateBounds r is next × StateKept was is before next
-DeclarationRead s r was is before d (declaration.Refused x) = d ≡ wrong x.number
+abbrev pub DeclarationRead : List ℕ → Rooms → (was is : Declarations) → (before : State) → Declaration → Result (Option State) Refusal → Type 0
+DeclarationRead s r was is before d (Ok None) = (d ≡ finished) × (is ≡ was)
+DeclarationRead s r was is before d (Ok (Some next)) = (d ≡ further (declared_in s is next)) × StateBounds r is next × StateKept was is before next
+DeclarationRead s r was is before d (Err x) = d ≡ wrong (number_of x.fault)

@@ -18,28 +18,28 @@ use Rattle.ir_rows.specs.Rows.{with_part}
 use Rattle.ir_rows.proofs.RowLaws.{take_part}
 use Rattle.wgsl_names.specs.Names.{same}
 use Rattle.wgsl_placement.specs.declared.Shape.{Shape}
-use Rattle.wgsl_tables.specs.declared.Found.TheVariants.{At}
+use Rattle.std.specs.Prelude.{Some}
 use Rattle.wgsl_tables.specs.Tables.{records_in, is_one_of, name_in, name_at, names_in, shape_at, structs_in, entry_of, is_found, flag, lookup, shape_found}
 
 -- ---- the entry of a name
 module _ (s w names : List ℕ) (i : ℕ) (positive : 0 < i) where
-  last_entry : entry_of s w names i ≡ pick (same w (name_at s names (i - 1))) (At (i - 1)) (entry_of s w names (i - 1))
+  last_entry : entry_of s w names i ≡ pick (same w (name_at s names (i - 1))) (Some (i - 1)) (entry_of s w names (i - 1))
   unfolding entry_of
   last_entry = let one : i ≡ suc (i - 1) = omega arith in ap (entry_of s w names) one
 
-  pub entry_here : same w (name_at s names (i - 1)) ≡ true → entry_of s w names i ≡ At (i - 1)
+  pub entry_here : same w (name_at s names (i - 1)) ≡ true → entry_of s w names i ≡ Some (i - 1)
   entry_here e = last_entry ∙ rw e
 
   pub entry_before : same w (name_at s names (i - 1)) ≡ false → entry_of s w names i ≡ entry_of s w names (i - 1)
   entry_before e = last_entry ∙ rw e
 
 -- an entry is one of those looked at
-pub entry_within : (s w names : List ℕ) (n i : ℕ) → entry_of s w names n ≡ At i → i < n
+pub entry_within : (s w names : List ℕ) (n i : ℕ) → entry_of s w names n ≡ Some i → i < n
 unfolding entry_of
 entry_within s w names zero i e = let z : ◌≡◌ {A = ℕ} 0 1 = cc in absurd (omega arith)
 entry_within s w names (suc n) i e = go (same w (name_at s names n)) refl (λ h. entry_within s w names n i h)
   where
-    go : (t : Bool) → same w (name_at s names n) ≡ t → (entry_of s w names n ≡ At i → i < n) → i < suc n
+    go : (t : Bool) → same w (name_at s names n) ≡ t → (entry_of s w names n ≡ Some i → i < n) → i < suc n
     go true h earlier = let x : n ≡ i = let y = rw h at e in cc in omega arith
     go false h earlier = let x = earlier (rw h at e) in omega arith
 
@@ -50,7 +50,7 @@ one_of_entry s w names zero = refl
 one_of_entry s w names (suc n) = go (same w (name_at s names n)) (one_of_entry s w names n)
   where
     go : (t : Bool) → is_one_of w (names_in s names n) ≡ is_found (entry_of s w names n)
-        → (t || is_one_of w (names_in s names n)) ≡ is_found (pick t (At n) (entry_of s w names n))
+        → (t || is_one_of w (names_in s names n)) ≡ is_found (pick t (Some n) (entry_of s w names n))
     go true h = refl
     go false h = h
 
@@ -60,7 +60,7 @@ lookup_entry s w names shapes zero = refl
 lookup_entry s w names shapes (suc n) = go (same w (name_at s names n)) (lookup_entry s w names shapes n)
   where
     go : (t : Bool) → lookup w (structs_in s names shapes n) ≡ shape_found shapes (entry_of s w names n)
-        → pick t (some (shape_at shapes n)) (lookup w (structs_in s names shapes n)) ≡ shape_found shapes (pick t (At n) (entry_of s w names n))
+        → pick t (some (shape_at shapes n)) (lookup w (structs_in s names shapes n)) ≡ shape_found shapes (pick t (Some n) (entry_of s w names n))
     go true h = refl
     go false h = h
 

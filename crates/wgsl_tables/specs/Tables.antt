@@ -1,16 +1,14 @@
 -- The tables that the reader of WGSL text fills: type and member records in the lent words; for each struct its name and its shape, and the names
 -- of the members of the struct that is being read. A name is two positions in the text.
 -- Assumes nothing.
-use Rattle.std.specs.Prelude.{Bool, true, false, not, ◌&&◌, ◌||◌, List, [], ◌∷◌, ℕ, zero, suc, ◌+◌, ◌*◌, eqb, leb, length, get_or, take}
+use Rattle.std.specs.Prelude.{Bool, true, false, not, ◌&&◌, ◌||◌, List, [], ◌∷◌, ℕ, zero, suc, ◌+◌, ◌*◌, eqb, leb, length, get_or, take, Some, None}
+use Rattle.std.specs.Prelude as std
 use Rattle.std.proofs.Math.Option.{Option, none, some}
 use Rattle.ir_records.specs.Result.{pick}
-use Rattle.ir_records.specs.Record.{type_words, member_words}
 use Rattle.program_words.specs.Words.{part}
 use Rattle.wgsl_names.specs.Names.{same}
 use Rattle.wgsl_placement.specs.Placement.{shape}
 use Rattle.wgsl_placement.specs.declared.Shape.{Shape}
-use Rattle.wgsl_tables.specs.declared.Found.{Found}
-use Rattle.wgsl_tables.specs.declared.Found.TheVariants.{At, Nothing}
 
 -- ---- records made so far, and their words
 pub record Records : Type 0 where
@@ -52,13 +50,13 @@ structs_in s names shapes zero = []
 structs_in s names shapes (suc i) = record { name = name_at s names i; shape = shape_at shapes i } ∷ structs_in s names shapes i
 
 -- ---- the entry of a name, of the first n
-unfoldable pub entry_of : List ℕ → (w names : List ℕ) → ℕ → Found
-entry_of s w names zero = Nothing
-entry_of s w names (suc i) = pick (same w (name_at s names i)) (At i) (entry_of s w names i)
+unfoldable pub entry_of : List ℕ → (w names : List ℕ) → ℕ → std.Option ℕ
+entry_of s w names zero = None
+entry_of s w names (suc i) = pick (same w (name_at s names i)) (Some i) (entry_of s w names i)
 
-abbrev pub is_found : Found → Bool
-is_found (At i) = true
-is_found Nothing = false
+abbrev pub is_found : std.Option ℕ → Bool
+is_found (Some i) = true
+is_found None = false
 
 abbrev pub flag : Bool → ℕ
 flag true = 1
@@ -69,6 +67,6 @@ unfoldable pub lookup : List ℕ → List Named → Option Shape
 lookup w [] = none
 lookup w (n ∷ ns) = pick (same w n.name) (some n.shape) (lookup w ns)
 
-abbrev pub shape_found : (shapes : List ℕ) → Found → Option Shape
-shape_found shapes (At i) = some (shape_at shapes i)
-shape_found shapes Nothing = none
+abbrev pub shape_found : (shapes : List ℕ) → std.Option ℕ → Option Shape
+shape_found shapes (Some i) = some (shape_at shapes i)
+shape_found shapes None = none

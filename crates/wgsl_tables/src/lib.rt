@@ -8,24 +8,15 @@ ghost use Rattle.wgsl_placement.specs.Placement.{words_of};
 ghost use Rattle.wgsl_tables.specs.Tables.{name_in, name_at, shape_at, entry_of, flag};
 
 use ir_records::{MEMBER_WORDS, TYPE_WORDS, Words};
+use program_words::Span;
 use wgsl_placement::Shape;
-
-#[derive(Clone, Copy)]
-pub enum Found {
-    At(usize),
-    Nothing,
-}
 
 // Writes words from `at` on.
 fn put_words(words: &mut [u32], at: usize, part: &[u32])
     requires { at + length part.now ≤ length words.old }
     ensures { words.new ≡ with_part (length part.now) words.old at part.now }
 {
-    let mut j = 0;
-    while j < part.len() {
-        words[at + j] = part[j];
-        j += 1;
-    }
+    words[at..at + part.len()].copy_from_slice(part);
 }
 
 // Type record number i.
@@ -47,13 +38,13 @@ pub fn put_member(members: &mut [u32], i: u32, ty: u32, offset: u32)
 }
 
 // Entry i of a table of names.
-pub fn put_name(names: &mut [usize], i: u32, start: usize, end: usize)
+pub fn put_name(names: &mut [usize], i: u32, name: Span)
     requires { i * 2 + 2 ≤ length names.old }
-    ensures { names.new ≡ set (set names.old (i * 2) start) (i * 2 + 1) end }
+    ensures { names.new ≡ set (set names.old (i * 2) name.start) (i * 2 + 1) name.end }
 {
     let at = (i as usize) * 2;
-    names[at] = start;
-    names[at + 1] = end;
+    names[at] = name.start;
+    names[at + 1] = name.end;
 }
 
 fn name_in(s: &[u8], start: usize, end: usize) -> &[u8]
@@ -75,24 +66,16 @@ fn name_at<'a>(s: &'a [u8], names: &[usize], i: usize) -> &'a [u8]
 }
 
 // The last of the first n entries that has a name.
-pub fn entry_of(s: &[u8], w: &[u8], names: &[usize], n: u32) -> Found
+pub fn entry_of(s: &[u8], w: &[u8], names: &[usize], n: u32) -> Option<usize>
     requires { n * 2 ≤ length names.now }
     ensures { result ≡ entry_of s.now w.now names.now n }
 {
-    let mut i = n as usize;
-    while 0 < i {
-        i -= 1;
+    for i in (0..n as usize).rev() {
         if wgsl_names::same(w, name_at(s, names, i)) {
-            return Found::At(i);
+            return Some(i);
         }
     }
-    Found::Nothing
-}
-
-fn flag(b: bool) -> u32
-    ensures { result ≡ flag b }
-{
-    if b { 1 } else { 0 }
+    None
 }
 
 // Entry i of the table of shapes.
@@ -100,7 +83,12 @@ pub fn put_shape(shapes: &mut [u32], i: u32, shape: Shape)
     requires { i * 4 + 4 ≤ length shapes.old }
     ensures { shapes.new ≡ with_part 4 shapes.old (i * 4) (shape.number ∷ shape.size ∷ shape.align ∷ flag shape.fixed ∷ []) }
 {
-    let words = [shape.number, shape.size, shape.align, flag(shape.fixed)];
+    let words = [
+        shape.number,
+        shape.size,
+        shape.align,
+        u32::from(shape.fixed),
+    ];
     put_words(shapes, (i as usize) * 4, &words);
 }
 

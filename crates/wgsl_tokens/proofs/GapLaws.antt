@@ -8,11 +8,11 @@ use native.Mathlib.Omega.{arith}
 use lib.Dec.{eqb}
 use lib.ListN.{length, get_or, drop, drop_of_length-le, get_or-eq_default}
 use borrow.Author.Tests.{eqb-true, ne_eqb}
+use Rattle.std.specs.Prelude.{Result, Ok, Err}
 use Rattle.wgsl_tokens.specs.Tokens.{Mode, code, line, block, stopped, is_blank, ends_line, is_ascii, opens_line, opens_block, closes_block, code_step, block_step, step_of, tokens, from}
 use Rattle.wgsl_tokens.specs.Lexed.{IsBad, starts_gap}
 use Rattle.wgsl_tokens.specs.Serving.{GapAt}
-use Rattle.wgsl_tokens.specs.declared.Gap.{Gap}
-use Rattle.wgsl_tokens.specs.declared.Gap.TheVariants.{At, Broken}
+use Rattle.wgsl_tokens.specs.declared.BrokenComment.{BrokenComment}
 use Rattle.wgsl_tokens.proofs.TokenLaws.{inside, both, head_next, drop_two, code_skip, block_skip, tokens_at}
 
 module _ (s : List ℕ) (i : ℕ) where
@@ -96,10 +96,10 @@ pub past_gap : (s : List ℕ) (i : ℕ) → length s ≤ i → starts_gap s i �
 past_gap s i h = rw (get_or-eq_default s 0 h)
 
 -- a gap that goes on in another mode
-pub gap_later : (mode later : Mode) (s : List ℕ) (at next : ℕ) (g : Gap) → at ≤ next → tokens mode (drop at s) ≡ tokens later (drop next s)
+pub gap_later : (mode later : Mode) (s : List ℕ) (at next : ℕ) (g : Result ℕ BrokenComment) → at ≤ next → tokens mode (drop at s) ≡ tokens later (drop next s)
     → GapAt later s next g → GapAt mode s at g
-gap_later mode later s at next (At end) h e g = (omega arith, g.1, e ∙ g.2)
-gap_later mode later s at next (Broken place) h e g = (g.0, e ∙ g.1)
+gap_later mode later s at next (Ok end) h e g = (omega arith, g.1, e ∙ g.2)
+gap_later mode later s at next (Err broken) h e g = (g.0, e ∙ g.1)
 
 -- the last of three tests
 pub third : (a b c : Bool) → a || b || c ≡ true → a ≡ false → b ≡ false → c ≡ true

@@ -13,7 +13,8 @@ use lib.Seq.{drop-cons, drop-drop, get_or-drop, get_or-take, length-take-le}
 use borrow.Author.Tests.{eq-eqb}
 use Rattle.program_words.specs.Words.{run_of, part}
 use Rattle.program_words.specs.Number.{is_digit, number_of}
-use Rattle.program_words.specs.declared.Number as words-number
+use Rattle.std.specs.Prelude.{Result}
+use Rattle.program_words.specs.declared.NumberError.{NumberError}
 use Rattle.wgsl_tokens.specs.Tokens.{number_token, Token, word, mark, bad, code, stopped, is_blank, starts_word, in_word, is_mark, opens_line, opens_block, word_of, digits_of, code_step, step_of, tokens, from}
 use Rattle.wgsl_tokens.specs.Lexed.{IsBad, starts_gap, TokenAt}
 use Rattle.wgsl_tokens.specs.declared.Lexed.{Lexed}
@@ -124,7 +125,7 @@ module _ (s : List ℕ) (i e : ℕ) (some_byte : i < e) (within : e ≤ length s
   unfolding digits_of
   digits_bad t = rw (part_first s i e within some_byte, part-length s i e within (omega arith), t)
 
-  pub digits_good : is_odd ≡ false → (n : words-number.Number) → n ≡ number_of (part s i e) → digits_of (part s i e) (get_or s e 0) ≡ number_token n
+  pub digits_good : is_odd ≡ false → (n : Result ℕ NumberError) → n ≡ number_of (part s i e) → digits_of (part s i e) (get_or s e 0) ≡ number_token n
   unfolding digits_of
   digits_good t n is = rw (part_first s i e within some_byte, part-length s i e within (omega arith), t, is)
 

@@ -1,10 +1,9 @@
 -- What the functions over positions in a text answer, by the tokens that the text has from there on.
 -- Assumes nothing.
-use Rattle.std.specs.Prelude.{◌≡◌, Bool, false, ◌||◌, List, [], ◌∷◌, ℕ, ◌+◌, ◌≤◌, length, get_or}
+use Rattle.std.specs.Prelude.{◌≡◌, Bool, false, ◌||◌, List, [], ◌∷◌, ℕ, ◌+◌, ◌≤◌, length, get_or, Result, Ok, Err}
 use Rattle.program_words.specs.Words.{part}
-use Rattle.wgsl_tokens.specs.Tokens.{Token, word, number, large, mark, bad, is_blank, opens_line, opens_block, code, from}
-use Rattle.wgsl_tokens.specs.declared.Gap.{Gap}
-use Rattle.wgsl_tokens.specs.declared.Gap.TheVariants.{At, Broken}
+use Rattle.wgsl_tokens.specs.Tokens.{Token, word, number, large, mark, bad, is_blank, opens_line, opens_block, from}
+use Rattle.wgsl_tokens.specs.declared.BrokenComment.{BrokenComment}
 use Rattle.wgsl_tokens.specs.declared.Lexed.{Lexed}
 use Rattle.wgsl_tokens.specs.declared.Lexed.TheVariants.{Word, Number, Large, Mark, Bad, End}
 
@@ -17,9 +16,9 @@ abbrev pub starts_gap : List ℕ → (at : ℕ) → Bool
 starts_gap s at = is_blank (get_or s at 0) || opens_line (get_or s at 0) (get_or s (at + 1) 0) || opens_block (get_or s at 0) (get_or s (at + 1) 0)
 
 -- from `at` on, after blankspace and comments
-abbrev pub StartAt : List ℕ → (at : ℕ) → Gap → Type 0
-StartAt s at (At start) = (starts_gap s start ≡ false) × (from s at ≡ from s start)
-StartAt s at (Broken place) = IsBad (from s at)
+abbrev pub StartAt : List ℕ → (at : ℕ) → Result ℕ BrokenComment → Type 0
+StartAt s at (Ok start) = (starts_gap s start ≡ false) × (from s at ≡ from s start)
+StartAt s at (Err broken) = IsBad (from s at)
 
 -- the next token, and where the text goes on
 abbrev pub TokenAt : List ℕ → (at : ℕ) → Lexed → Type 0

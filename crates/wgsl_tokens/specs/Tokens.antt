@@ -1,12 +1,12 @@
 -- 02, E7: WGSL text as tokens, in ASCII: blankspace and comments, words, decimal numbers without suffix, marks. What is none of them is `bad`.
 -- The rules are those of the W3C WGSL specification.
 -- Assumes nothing.
-use Rattle.std.specs.Prelude.{Bool, ◌&&◌, ◌||◌, List, [], ◌∷◌, ◌++◌, ℕ, zero, suc, ◌+◌, ◌-◌, eqb, leb, ltb, length, get_or, take, drop}
+use Rattle.std.specs.Prelude.{Bool, ◌&&◌, ◌||◌, List, [], ◌∷◌, ◌++◌, ℕ, zero, suc, ◌+◌, ◌-◌, eqb, leb, ltb, length, get_or, take, drop, Result, Ok, Err}
 use Rattle.ir_records.specs.Result.{pick}
 use Rattle.program_words.specs.Words.{run_of}
 use Rattle.program_words.specs.Number.{is_digit, number_of}
-use Rattle.program_words.specs.declared.Number.{Number}
-use Rattle.program_words.specs.declared.Number.TheVariants.{Value, NotANumber, TooLarge}
+use Rattle.program_words.specs.declared.NumberError.{NumberError}
+use Rattle.program_words.specs.declared.NumberError.TheVariants.{NotANumber, TooLarge}
 
 pub data Token : Type 0 where
   -- an identifier or a keyword, by its bytes
@@ -65,10 +65,10 @@ head s = get_or s 0 0
 unfoldable pub word_of : List ℕ → Token
 word_of w = pick (eqb (get_or w 0 0) 95 && (eqb (length w) 1 || eqb (get_or w 1 0) 95)) bad (word w)
 
-abbrev pub number_token : Number → Token
-number_token (Value n) = number n
-number_token TooLarge = large
-number_token NotANumber = bad
+abbrev pub number_token : Result ℕ NumberError → Token
+number_token (Ok n) = number n
+number_token (Err TooLarge) = large
+number_token (Err NotANumber) = bad
 
 -- digits, with the byte that follows them: no leading zero, no suffix, no point
 unfoldable pub digits_of : (digits : List ℕ) (next : ℕ) → Token

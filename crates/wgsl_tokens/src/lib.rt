@@ -8,7 +8,7 @@ ghost use Rattle.wgsl_tokens.specs.Tokens.{code, is_blank, ends_line, is_ascii, 
 ghost use Rattle.wgsl_tokens.specs.Lexed.{starts_gap, StartAt, TokenAt};
 ghost use Rattle.wgsl_tokens.specs.Serving.{is_in, GapAt, BlockAt};
 
-use program_words::Number;
+use program_words::NumberError;
 
 // The next token, and where the text goes on after it.
 #[derive(Clone, Copy)]
@@ -22,11 +22,10 @@ pub enum Lexed {
     End,
 }
 
-// Where the text goes on after a comment, or the byte at which it is no text of WGSL.
-#[derive(Clone, Copy)]
-pub enum Gap {
-    At(usize),
-    Broken(usize),
+/// A comment that is no text of WGSL: `at` is a byte in it that is no ASCII, or the end of the text where it is not closed.
+#[derive(Clone, Copy, Debug, PartialEq, Eq)]
+pub struct BrokenComment {
+    pub at: usize,
 }
 
 // A byte later in block comments: in how many of them, or after the last one.
@@ -34,29 +33,15 @@ pub enum Gap {
 pub enum Block {
     Inside { at: usize, depth: usize },
     Closed(usize),
-    Open(usize),
 }
 
 // What a run consists of.
+// Kept: a closure for the two classes would need clauses of its own at `run_end` and at each call, and says no more than the two names.
 #[derive(Clone, Copy)]
 pub enum Run {
     Name,
     Digits,
 }
-
-const SPACE: u8 = 32;
-
-const SLASH: u8 = 47;
-
-const STAR: u8 = 42;
-
-const ZERO: u8 = 48;
-
-const NINE: u8 = 57;
-
-const POINT: u8 = 46;
-
-const UNDERSCORE: u8 = 95;
 
 // The byte at a position; 0 past the end.
 pub fn byte_at(s: &[u8], at: usize) -> u8
@@ -68,7 +53,7 @@ pub fn byte_at(s: &[u8], at: usize) -> u8
 fn is_blank(c: u8) -> bool
     ensures { result ≡ is_blank c }
 {
-    (c == SPACE) | ((9 <= c) & (c <= 13))
+    (c == b' ') | ((9 <= c) & (c <= 13))
 }
 
 // Line feed, vertical tab, form feed, carriage return.
@@ -87,16 +72,19 @@ fn is_ascii(c: u8) -> bool
 fn starts_word(c: u8) -> bool
     ensures { result ≡ starts_word c }
 {
-    ((65 <= c) & (c <= 90)) | ((97 <= c) & (c <= 122)) | (c == UNDERSCORE)
+    c.is_ascii_alphabetic() | (c == b'_')
+}
+
+fn is_digit(c: u8) -> bool
+    ensures { result ≡ is_digit c }
+{
+    c.is_ascii_digit()
 }
 
 fn in_word(c: u8) -> bool
     ensures { result ≡ in_word c }
 {
-    ((65 <= c) & (c <= 90))
-        | ((97 <= c) & (c <= 122))
-        | (c == UNDERSCORE)
-        | ((ZERO <= c) & (c <= NINE))
+    starts_word(c) | is_digit(c)
 }
 
 fn is_mark(c: u8) -> bool
@@ -117,19 +105,19 @@ fn is_mark(c: u8) -> bool
 fn opens_line(c: u8, next: u8) -> bool
     ensures { result ≡ opens_line c next }
 {
-    (c == SLASH) & (next == SLASH)
+    (c == b'/') & (next == b'/')
 }
 
 fn opens_block(c: u8, next: u8) -> bool
     ensures { result ≡ opens_block c next }
 {
-    (c == SLASH) & (next == STAR)
+    (c == b'/') & (next == b'*')
 }
 
 fn closes_block(c: u8, next: u8) -> bool
     ensures { result ≡ closes_block c next }
 {
-    (c == STAR) & (next == SLASH)
+    (c == b'*') & (next == b'/')
 }
 
 fn is_in(run: Run, c: u8) -> bool
@@ -137,7 +125,7 @@ fn is_in(run: Run, c: u8) -> bool
 {
     match run {
         Run::Name => in_word(c),
-        Run::Digits => (ZERO <= c) & (c <= NINE),
+        Run::Digits => is_digit(c),
     }
 }
 
@@ -147,76 +135,70 @@ fn run_end(s: &[u8], at: usize, run: Run) -> usize
     ensures value { result ≡ at + run_of (is_in run) (drop at s.now) }
     ensures lower_bound { (at ≤ result) × (result ≤ length s.now) }
 {
-    let mut i = at;
-    while i < s.len() {
+    for i in at..s.len() {
         if !is_in(run, s[i]) {
             return i;
         }
-        i += 1;
     }
-    i
+    s.len()
 }
 
 // From `at` on in a line comment, which may end with the text.
-fn line_end(s: &[u8], at: usize) -> Gap
+fn line_end(s: &[u8], at: usize) -> Result<usize, BrokenComment>
     requires { at < length s.now }
     ensures { GapAt line s.now at result }
 {
-    let mut i = at;
-    while i < s.len() {
+    for i in at..s.len() {
         if !is_ascii(s[i]) {
-            return Gap::Broken(i);
+            return Err(BrokenComment { at: i });
         }
         if ends_line(s[i]) {
-            return Gap::At(i + 1);
+            return Ok(i + 1);
         }
-        i += 1;
     }
-    Gap::At(i)
+    Ok(s.len())
 }
 
 // A byte, or two, of block comments: how deep the text is after it.
-fn block_step(s: &[u8], at: usize, depth: usize) -> Block
+fn block_step(s: &[u8], at: usize, depth: usize) -> Result<Block, BrokenComment>
     requires { (at < length s.now) × (1 ≤ depth) × (depth ≤ at) }
     ensures { BlockAt s.now at depth result }
 {
     let c = s[at];
     if !is_ascii(c) {
-        return Block::Open(at);
+        return Err(BrokenComment { at });
     }
     let next = byte_at(s, at + 1);
     if closes_block(c, next) {
         if depth == 1 {
-            return Block::Closed(at + 2);
+            return Ok(Block::Closed(at + 2));
         }
-        return Block::Inside {
+        return Ok(Block::Inside {
             at: at + 2,
             depth: depth - 1,
-        };
+        });
     }
     if opens_block(c, next) {
-        return Block::Inside {
+        return Ok(Block::Inside {
             at: at + 2,
             depth: depth + 1,
-        };
+        });
     }
-    Block::Inside { at: at + 1, depth }
+    Ok(Block::Inside { at: at + 1, depth })
 }
 
 // From `at` on in a block comment, which must end before the text does.
-fn block_end(s: &[u8], at: usize) -> Gap
+fn block_end(s: &[u8], at: usize) -> Result<usize, BrokenComment>
     requires { 1 ≤ at }
     ensures { GapAt (block 0 1) s.now at result }
 {
     let mut i = at;
     let mut depth = 1;
+    // Kept: a step is a byte or the two of a mark; no range has such steps.
     while i < s.len() {
-        match block_step(s, i, depth) {
-            Block::Open(place) => {
-                return Gap::Broken(place);
-            }
+        match block_step(s, i, depth)? {
             Block::Closed(end) => {
-                return Gap::At(end);
+                return Ok(end);
             }
             Block::Inside {
                 at: next,
@@ -227,17 +209,17 @@ fn block_end(s: &[u8], at: usize) -> Gap
             }
         }
     }
-    Gap::Broken(i)
+    Err(BrokenComment { at: i })
 }
 
 // A byte of blankspace, or a comment.
-fn gap_end(s: &[u8], at: usize) -> Gap
+fn gap_end(s: &[u8], at: usize) -> Result<usize, BrokenComment>
     requires { (at < length s.now) × (starts_gap s.now at ≡ true) }
     ensures { GapAt (code 0) s.now at result }
 {
     let c = s[at];
     if is_blank(c) {
-        return Gap::At(at + 1);
+        return Ok(at + 1);
     }
     let next = byte_at(s, at + 1);
     if opens_line(c, next) {
@@ -257,24 +239,18 @@ fn starts_gap(s: &[u8], at: usize) -> bool
 }
 
 // Where the next token starts, or the text ends, after blankspace and comments.
-pub fn token_start(s: &[u8], at: usize) -> Gap
+pub fn token_start(s: &[u8], at: usize) -> Result<usize, BrokenComment>
     ensures { StartAt s.now at result }
 {
     let mut i = at;
+    // Kept: a step is a whole gap; no range has such steps.
     while i < s.len() {
         if !starts_gap(s, i) {
-            return Gap::At(i);
+            return Ok(i);
         }
-        match gap_end(s, i) {
-            Gap::Broken(place) => {
-                return Gap::Broken(place);
-            }
-            Gap::At(end) => {
-                i = end;
-            }
-        }
+        i = gap_end(s, i)?;
     }
-    Gap::At(i)
+    Ok(i)
 }
 
 // A word that starts at a position: never `_` alone, never a start of two underscores.
@@ -285,7 +261,7 @@ fn word_at(s: &[u8], start: usize) -> Lexed
     let end = run_end(s, start + 1, Run::Name);
     let second = byte_at(s, start + 1);
     let long = end - start;
-    if (s[start] == UNDERSCORE) & ((long == 1) | (second == UNDERSCORE)) {
+    if (s[start] == b'_') & ((long == 1) | (second == b'_')) {
         return Lexed::Bad;
     }
     Lexed::Word { start, end }
@@ -299,13 +275,13 @@ fn number_at(s: &[u8], start: usize) -> Lexed
     let end = run_end(s, start + 1, Run::Digits);
     let next = byte_at(s, end);
     let long = end - start;
-    if ((s[start] == ZERO) & (1 < long)) | in_word(next) | (next == POINT) {
+    if ((s[start] == b'0') & (1 < long)) | in_word(next) | (next == b'.') {
         return Lexed::Bad;
     }
     match program_words::number_of(&s[start..end]) {
-        Number::Value(value) => Lexed::Number { value, end },
-        Number::TooLarge => Lexed::Large(end),
-        Number::NotANumber => Lexed::Bad,
+        Ok(value) => Lexed::Number { value, end },
+        Err(NumberError::TooLarge) => Lexed::Large(end),
+        Err(NumberError::NotANumber) => Lexed::Bad,
     }
 }
 
@@ -321,7 +297,7 @@ fn token_at(s: &[u8], start: usize) -> Lexed
     if starts_word(c) {
         return word_at(s, start);
     }
-    if (ZERO <= c) & (c <= NINE) {
+    if is_digit(c) {
         return number_at(s, start);
     }
     if is_mark(c) {
@@ -338,7 +314,7 @@ pub fn next_token(s: &[u8], at: usize) -> Lexed
     ensures { TokenAt s.now at result }
 {
     match token_start(s, at) {
-        Gap::Broken(_) => Lexed::Bad,
-        Gap::At(start) => token_at(s, start),
+        Err(_) => Lexed::Bad,
+        Ok(start) => token_at(s, start),
     }
 }

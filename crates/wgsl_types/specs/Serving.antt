@@ -1,37 +1,38 @@
 -- Serves the contracts of functions inside the library: it adds nothing to what the other files say, and a reader may skip it.
 -- What the functions over positions answer, as the readings of the tokens from there on; the records stand at the start of the lent words.
 -- Assumes nothing.
-use Rattle.std.specs.Prelude.{◌≡◌, List, ℕ, ◌*◌, ◌≤◌, length, drop}
+use Rattle.std.specs.Prelude.{◌≡◌, List, ℕ, ◌*◌, ◌≤◌, length, drop, Result, Ok, Err}
 use Rattle.ir_records.specs.Record.{type_words}
+use Rattle.ir_records.specs.Refusal.{number_of}
 use Rattle.wgsl_tokens.specs.Tokens.{Token, from}
 use Rattle.wgsl_grammar.specs.Grammar.{Reading, refused, read}
+use Rattle.wgsl_grammar.specs.declared.Refusal.{Refusal}
 use Rattle.wgsl_tables.specs.Tables.{Records, records_in}
 use Rattle.wgsl_types.specs.Types.{Closing, stopped, full, closed, Counted, scalar_type, template_type, arguments_of}
 use Rattle.wgsl_types.specs.declared.CountAt.{CountAt}
-use Rattle.wgsl_types.specs.declared.CountAt.TheVariants as count
 use Rattle.wgsl_types.specs.declared.Opened.{Opened}
 use Rattle.wgsl_types.specs.declared.Opened.TheVariants as opened
 use Rattle.wgsl_types.specs.declared.Closed.{Closed}
 use Rattle.wgsl_types.specs.declared.Closed.TheVariants as answer
 
-abbrev pub count_read : List ℕ → CountAt → Reading Counted
-count_read s (count.Counted n at close) = read (record { count = n; rest = from s at })
-count_read s (count.Refused r) = refused r.number
+abbrev pub count_read : List ℕ → Result CountAt Refusal → Reading Counted
+count_read s (Ok c) = read (record { count = c.count; rest = from s c.at })
+count_read s (Err r) = refused (number_of r.fault)
 
 -- what is left of a type after its name and its `<`
-abbrev pub opened_type : (inner : Records → List Token → Closing) → (room left : ℕ) → Records → List ℕ → Opened → Closing
-opened_type inner room left types s (opened.Scalar k at close) = scalar_type room types k (from s at)
-opened_type inner room left types s (opened.Struct e at close) = closed e types (from s at)
-opened_type inner room left types s (opened.Template t at) = template_type room left types t (from s at)
-opened_type inner room left types s (opened.Array at) = arguments_of room (inner types (from s at))
-opened_type inner room left types s (opened.Refused r) = stopped r.number
+abbrev pub opened_type : (inner : Records → List Token → Closing) → (room left : ℕ) → Records → List ℕ → Result Opened Refusal → Closing
+opened_type inner room left types s (Ok (opened.Scalar k at close)) = scalar_type room types k (from s at)
+opened_type inner room left types s (Ok (opened.Struct e at close)) = closed e types (from s at)
+opened_type inner room left types s (Ok (opened.Template t at)) = template_type room left types t (from s at)
+opened_type inner room left types s (Ok (opened.Array at)) = arguments_of room (inner types (from s at))
+opened_type inner room left types s (Err r) = stopped (number_of r.fault)
 
 -- what the reading of a type came to, after so many records, in the type words as they were and as they are; behind the records nothing changes
-abbrev pub TypeRead : List ℕ → (room before : ℕ) → (was is : List ℕ) → Closing → Closed → Type 0
-TypeRead s room before was is c (answer.Whole e made at close) =
+abbrev pub TypeRead : List ℕ → (room before : ℕ) → (was is : List ℕ) → Closing → Result Closed Refusal → Type 0
+TypeRead s room before was is c (Ok (answer.Whole e made at close)) =
     (c ≡ closed e (records_in type_words is made) (from s at)) × (before ≤ made) × (made ≤ room) × (drop (made * type_words) is ≡ drop (made * type_words) was)
-TypeRead s room before was is c (answer.Full e close) = c ≡ full e
-TypeRead s room before was is c (answer.Refused r) = c ≡ stopped r.number
+TypeRead s room before was is c (Ok (answer.Full e close)) = c ≡ full e
+TypeRead s room before was is c (Err r) = c ≡ stopped (number_of r.fault)
 
 -- there is room for the records that the lent words admit
 abbrev pub Room : (room made : ℕ) → (types : List ℕ) → Type 0

@@ -1,6 +1,6 @@
 -- 02, E7: a type in WGSL text, read from tokens into records. Each type written makes its own record where it closes; a struct's name makes none.
 -- Assumes nothing.
-use Rattle.std.specs.Prelude.{Bool, true, not, List, [], ◌∷◌, ◌++◌, ℕ, zero, suc, ◌+◌, eqb, ltb}
+use Rattle.std.specs.Prelude.{true, not, List, ◌++◌, ℕ, zero, suc, ◌+◌, eqb, ltb}
 use Rattle.std.proofs.Math.Option.{Option, none, some}
 use Rattle.ir_records.specs.Result.{pick}
 use Rattle.ir_records.specs.declared.Words.{Words}

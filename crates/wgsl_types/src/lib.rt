@@ -10,11 +10,19 @@ ghost use Rattle.wgsl_tables.specs.Tables.{Records, records_in, structs_in};
 ghost use Rattle.wgsl_types.specs.Types.{known_type, Closing, make_type, scalar_type, close_template, template_of, template_type, number_count, comma_count, count_of, close_array, array_of, arguments_of, type_named, type_after, type_of};
 ghost use Rattle.wgsl_types.specs.Serving.{count_read, opened_type, TypeRead, Room};
 
-use ir_records::Words;
-use wgsl_grammar::{NameAt, Next, NumberAt, Refusal};
+use ir_records::{Fault, Words};
+use program_words::Span;
+use wgsl_grammar::{Problem, Refusal, Why};
 use wgsl_names::{Scalar, Template, TypeName};
-use wgsl_placement::{Count, Measure, Shape};
-use wgsl_tables::Found;
+use wgsl_placement::{Count, Shape};
+
+/// The structs declared so far: where their names stand in the text, and their shapes.
+#[derive(Clone, Copy)]
+pub struct Structs<'a> {
+    pub names: &'a [usize],
+    pub shapes: &'a [u32],
+    pub count: u32,
+}
 
 // What a name stands for.
 #[derive(Clone, Copy)]
@@ -28,13 +36,10 @@ pub enum Known {
 
 // Of an array, and where the text goes on after its `>`. `close`, here and below, is a position before the token at which a type closes.
 #[derive(Clone, Copy)]
-pub enum CountAt {
-    Counted {
-        count: Count,
-        at: usize,
-        close: usize,
-    },
-    Refused(Refusal),
+pub struct CountAt {
+    pub count: Count,
+    pub at: usize,
+    pub close: usize,
 }
 
 // A type after its name, and after the `<` of a template.
@@ -55,7 +60,6 @@ pub enum Opened {
         at: usize,
     },
     Array(usize),
-    Refused(Refusal),
 }
 
 // A type that has closed: what it is, how many type records there are then, and where the text goes on; or that there is no room for its record.
@@ -71,81 +75,65 @@ pub enum Closed {
         shape: Shape,
         close: usize,
     },
-    Refused(Refusal),
 }
 
-// What a name stands for: a predeclared type, or one of the first n structs.
-pub fn known_type(
-    s: &[u8],
-    names: &[usize],
-    shapes: &[u32],
-    n: u32,
-    start: usize,
-    end: usize,
-) -> Known
-    requires { (start ≤ end) × (end ≤ length s.now) × (n * 2 ≤ length names.now) × (n * 4 ≤ length shapes.now) }
-    ensures { result ≡ known_type (part s.now start end) (structs_in s.now names.now shapes.now n) }
+// What a name stands for: a predeclared type, or a struct.
+pub fn known_type(s: &[u8], structs: Structs, name: Span) -> Known
+    requires { (name.start ≤ name.end) × (name.end ≤ length s.now) × (structs.count * 2 ≤ length structs.names.now) × (structs.count * 4 ≤ length structs.shapes.now) }
+    ensures { result ≡ known_type (part s.now name.start name.end) (structs_in s.now structs.entry.names.now structs.entry.shapes.now structs.entry.count) }
 {
-    match wgsl_names::predeclared(&s[start..end]) {
+    let w = &s[name.start..name.end];
+    match wgsl_names::predeclared(w) {
         TypeName::OfScalar(scalar) => Known::OfScalar(scalar),
         TypeName::OfTemplate(template) => Known::OfTemplate(template),
         TypeName::Array => Known::Array,
-        TypeName::Unknown => {
-            match wgsl_tables::entry_of(s, &s[start..end], names, n) {
-                Found::At(i) => Known::Struct(wgsl_tables::shape_at(shapes, i)),
-                Found::Nothing => Known::Unknown,
-            }
-        }
+        TypeName::Unknown => match wgsl_tables::entry_of(s, w, structs.names, structs.count) {
+            Some(i) => Known::Struct(wgsl_tables::shape_at(structs.shapes, i)),
+            None => Known::Unknown,
+        },
     }
 }
 
 // The name of a type, and the `<` of a template.
-fn open_type(s: &[u8], names: &[usize], shapes: &[u32], n: u32, at: usize) -> Opened
-    requires { (n * 2 ≤ length names.now) × (n * 4 ≤ length shapes.now) }
-    ensures { (inner : Records → List Token → Closing) (room left : ℕ) (types : Records) → type_after inner room left (structs_in s.now names.now shapes.now n) types (from s.now at) ≡ opened_type inner room left types s.now result }
+fn open_type(s: &[u8], structs: Structs, at: usize) -> Result<Opened, Refusal>
+    requires { (structs.count * 2 ≤ length structs.names.now) × (structs.count * 4 ≤ length structs.shapes.now) }
+    ensures { (inner : Records → List Token → Closing) (room left : ℕ) (types : Records) → type_after inner room left (structs_in s.now structs.entry.names.now structs.entry.shapes.now structs.entry.count) types (from s.now at) ≡ opened_type inner room left types s.now result }
 {
-    match wgsl_grammar::name_at(s, at) {
-        NameAt::Refused(r) => Opened::Refused(r),
-        NameAt::Name { start, end } => {
-            match known_type(s, names, shapes, n, start, end) {
-                Known::OfScalar(scalar) => Opened::Scalar {
-                    scalar,
-                    at: end,
-                    close: at,
-                },
-                Known::Struct(shape) => Opened::Struct {
-                    shape,
-                    at: end,
-                    close: at,
-                },
-                Known::Unknown => Opened::Refused(Refusal {
-                    number: 32,
-                    at,
-                    why: wgsl_grammar::UNKNOWN_TYPE,
-                }),
-                Known::OfTemplate(template) => open_template(s, end, template),
-                Known::Array => open_array(s, end),
-            }
-        }
+    let name = wgsl_grammar::name_at(s, at)?;
+    let end = name.end;
+    match known_type(s, structs, name) {
+        Known::OfScalar(scalar) => Ok(Opened::Scalar {
+            scalar,
+            at: end,
+            close: at,
+        }),
+        Known::Struct(shape) => Ok(Opened::Struct {
+            shape,
+            at: end,
+            close: at,
+        }),
+        Known::Unknown => Err(Refusal {
+            fault: Fault::Name,
+            at,
+            why: Why::Other(Problem::UnknownType),
+        }),
+        Known::OfTemplate(template) => open_template(s, end, template),
+        Known::Array => open_array(s, end),
     }
 }
 
-fn open_template(s: &[u8], at: usize, template: Template) -> Opened
+fn open_template(s: &[u8], at: usize, template: Template) -> Result<Opened, Refusal>
     ensures { (inner : Records → List Token → Closing) (room left : ℕ) (types : Records) → type_named inner room left types (Known.OfTemplate template) (from s.now at) ≡ opened_type inner room left types s.now result }
 {
-    match wgsl_grammar::expect(s, at, b'<') {
-        Next::Refused(r) => Opened::Refused(r),
-        Next::At(next) => Opened::Template { template, at: next },
-    }
+    let next = wgsl_grammar::expect(s, at, b'<')?;
+    Ok(Opened::Template { template, at: next })
 }
 
-fn open_array(s: &[u8], at: usize) -> Opened
+fn open_array(s: &[u8], at: usize) -> Result<Opened, Refusal>
     ensures { (inner : Records → List Token → Closing) (room left : ℕ) (types : Records) → type_named inner room left types Known.Array (from s.now at) ≡ opened_type inner room left types s.now result }
 {
-    match wgsl_grammar::expect(s, at, b'<') {
-        Next::Refused(r) => Opened::Refused(r),
-        Next::At(next) => Opened::Array(next),
-    }
+    let next = wgsl_grammar::expect(s, at, b'<')?;
+    Ok(Opened::Array(next))
 }
 
 // A record more, where there is room for it. The text goes on at `at`, whatever it is.
@@ -157,20 +145,20 @@ fn make_type(
     w: Words,
     at: usize,
     close: usize,
-) -> Closed
+) -> Result<Closed, Refusal>
     requires { Room room made types.old }
     ensures { (s : List ℕ) → TypeRead s room made types.old types.new (make_type room (records_in type_words types.old made) shape w (from s at)) result }
 {
     if made < room {
         wgsl_tables::put_type(types, made, w);
-        return Closed::Whole {
+        return Ok(Closed::Whole {
             shape,
             made: made + 1,
             at,
             close,
-        };
+        });
     }
-    Closed::Full { shape, close }
+    Ok(Closed::Full { shape, close })
 }
 
 fn make_scalar(
@@ -180,7 +168,7 @@ fn make_scalar(
     scalar: Scalar,
     at: usize,
     close: usize,
-) -> Closed
+) -> Result<Closed, Refusal>
     requires { Room room made types.old }
     ensures { (s : List ℕ) → TypeRead s room made types.old types.new (scalar_type room (records_in type_words types.old made) scalar (from s at)) result }
 {
@@ -198,19 +186,15 @@ fn close_template(
     template: Template,
     scalar: Scalar,
     at: usize,
-) -> Closed
+) -> Result<Closed, Refusal>
     requires { Room room made types.old }
     ensures { TypeRead s.now room made types.old types.new (close_template room template scalar (records_in type_words types.old made) (from s.now at)) result }
 {
     let close = wgsl_grammar::skipping(s, at, b',');
-    match wgsl_grammar::expect(s, close, b'>') {
-        Next::Refused(r) => Closed::Refused(r),
-        Next::At(next) => {
-            let shape = wgsl_placement::template_shape(made, template, scalar);
-            let w = wgsl_placement::template_record(template, scalar);
-            make_type(types, room, made, shape, w, next, close)
-        }
-    }
+    let next = wgsl_grammar::expect(s, close, b'>')?;
+    let shape = wgsl_placement::template_shape(made, template, scalar);
+    let w = wgsl_placement::template_record(template, scalar);
+    make_type(types, room, made, shape, w, next, close)
 }
 
 // A vector, matrix or atomic from its scalar on, which ends at `at`.
@@ -223,20 +207,19 @@ fn template_of(
     scalar: Scalar,
     at: usize,
     close: usize,
-) -> Closed
+) -> Result<Closed, Refusal>
     requires { Room room made types.old }
     ensures { TypeRead s.now room made types.old types.new (template_of room (records_in type_words types.old made) template (some scalar) (from s.now at)) result }
 {
-    let inner = make_scalar(types, room, made, scalar, at, close);
+    let inner = make_scalar(types, room, made, scalar, at, close)?;
     match inner {
-        Closed::Refused(r) => Closed::Refused(r),
         Closed::Full {
             shape: _,
             close: last,
-        } => Closed::Refused(Refusal {
-            number: 1,
+        } => Err(Refusal {
+            fault: Fault::TableLength,
             at: last,
-            why: wgsl_grammar::TYPES_FULL,
+            why: Why::Other(Problem::TypesFull),
         }),
         Closed::Whole {
             shape: _,
@@ -256,90 +239,83 @@ fn template_type(
     made: u32,
     template: Template,
     at: usize,
-) -> Closed
+) -> Result<Closed, Refusal>
     requires { Room room made types.old }
     ensures { TypeRead s.now room made types.old types.new (template_type room left (records_in type_words types.old made) template (from s.now at)) result }
 {
     if left == 0 {
-        return Closed::Refused(Refusal {
-            number: 31,
+        return Err(Refusal {
+            fault: Fault::Grammar,
             at,
-            why: wgsl_grammar::TOO_DEEP,
+            why: Why::Other(Problem::TooDeep),
         });
     }
     let other = Refusal {
-        number: 31,
+        fault: Fault::Grammar,
         at,
-        why: wgsl_grammar::SCALAR,
+        why: Why::Other(Problem::NoScalar),
     };
-    match wgsl_grammar::name_at(s, at) {
-        NameAt::Refused(r) => Closed::Refused(r),
-        NameAt::Name { start, end } => match wgsl_names::predeclared(&s[start..end]) {
-            TypeName::OfScalar(scalar) => template_of(
-                s, types, room, made, template, scalar, end, at,
-            ),
-            TypeName::OfTemplate(_) => Closed::Refused(other),
-            TypeName::Array => Closed::Refused(other),
-            TypeName::Unknown => Closed::Refused(other),
-        },
+    let name = wgsl_grammar::name_at(s, at)?;
+    match wgsl_names::predeclared(&s[name.start..name.end]) {
+        TypeName::OfScalar(scalar) => template_of(
+            s, types, room, made, template, scalar, name.end, at,
+        ),
+        TypeName::OfTemplate(_) => Err(other),
+        TypeName::Array => Err(other),
+        TypeName::Unknown => Err(other),
     }
 }
 
 // A count, and the `>` after it.
-fn number_count(s: &[u8], at: usize) -> CountAt
+fn number_count(s: &[u8], at: usize) -> Result<CountAt, Refusal>
     ensures { count_read s.now result ≡ number_count (from s.now at) }
 {
-    match wgsl_grammar::number_at(s, at) {
-        NumberAt::Refused(r) => CountAt::Refused(r),
-        NumberAt::Value { value, at: next } => {
-            if value == 0 {
-                return CountAt::Refused(Refusal {
-                    number: 33,
-                    at,
-                    why: wgsl_grammar::ZERO_COUNT,
-                });
-            }
-            let close = wgsl_grammar::skipping(s, next, b',');
-            match wgsl_grammar::expect(s, close, b'>') {
-                Next::Refused(r) => CountAt::Refused(r),
-                Next::At(end) => CountAt::Counted {
-                    count: Count::Of(value),
-                    at: end,
-                    close,
-                },
-            }
-        }
+    let number = wgsl_grammar::number_at(s, at)?;
+    let value = number.value;
+    if value == 0 {
+        return Err(Refusal {
+            fault: Fault::Attribute,
+            at,
+            why: Why::Other(Problem::ZeroCount),
+        });
     }
+    let close = wgsl_grammar::skipping(s, number.at, b',');
+    let end = wgsl_grammar::expect(s, close, b'>')?;
+    Ok(CountAt {
+        count: Count::Of(value),
+        at: end,
+        close,
+    })
 }
 
 // After the comma of an array.
-fn comma_count(s: &[u8], at: usize) -> CountAt
+fn comma_count(s: &[u8], at: usize) -> Result<CountAt, Refusal>
     ensures { count_read s.now result ≡ comma_count (from s.now at) }
 {
     match wgsl_grammar::expect(s, at, b'>') {
-        Next::At(end) => CountAt::Counted {
+        Ok(end) => Ok(CountAt {
             count: Count::Runtime,
             at: end,
             close: at,
-        },
-        Next::Refused(_) => number_count(s, at),
+        }),
+        Err(_) => number_count(s, at),
     }
 }
 
 // After the element of an array.
-fn count_at(s: &[u8], at: usize) -> CountAt
+fn count_at(s: &[u8], at: usize) -> Result<CountAt, Refusal>
     ensures { count_read s.now result ≡ count_of (from s.now at) }
 {
     match wgsl_grammar::expect(s, at, b'>') {
-        Next::At(end) => CountAt::Counted {
+        Ok(end) => Ok(CountAt {
             count: Count::Runtime,
             at: end,
             close: at,
-        },
-        Next::Refused(_) => match wgsl_grammar::expect(s, at, b',') {
-            Next::Refused(r) => CountAt::Refused(r),
-            Next::At(next) => comma_count(s, next),
-        },
+        }),
+        Err(_) => {
+            let next = wgsl_grammar::expect(s, at, b',')?;
+            comma_count(s, next)
+        }
     }
 }
 
@@ -352,71 +328,71 @@ fn close_array(
     count: Count,
     at: usize,
     close: usize,
-) -> Closed
+) -> Result<Closed, Refusal>
     requires { Room room made types.old }
     ensures { (s : List ℕ) → TypeRead s room made types.old types.new (close_array room element (records_in type_words types.old made) (record { count = count; rest = from s at })) result }
 {
     match wgsl_placement::array_measure(count, element) {
-        Measure::TooLarge => Closed::Refused(Refusal {
-            number: 33,
+        None => Err(Refusal {
+            fault: Fault::Attribute,
             at: close,
-            why: wgsl_grammar::LARGE_ARRAY,
+            why: Why::Other(Problem::LargeArray),
         }),
-        Measure::Bytes { size, stride } => {
+        Some(measure) => {
             let fixed = wgsl_placement::is_counted(count) & element.fixed;
             let shape = Shape {
                 number: made,
-                size,
+                size: measure.size,
                 align: element.align,
                 fixed,
             };
-            let w = wgsl_placement::array_record(count, element.number, stride);
+            let w = wgsl_placement::array_record(count, element.number, measure.stride);
             make_type(types, room, made, shape, w, at, close)
         }
     }
 }
 
 // The end of an array, after its element.
-fn array_of(s: &[u8], types: &mut [u32], room: u32, made: u32, element: Shape, at: usize) -> Closed
+fn array_of(
+    s: &[u8],
+    types: &mut [u32],
+    room: u32,
+    made: u32,
+    element: Shape,
+    at: usize,
+) -> Result<Closed, Refusal>
     requires { Room room made types.old }
     ensures { TypeRead s.now room made types.old types.new (array_of room element (records_in type_words types.old made) (from s.now at)) result }
 {
-    match count_at(s, at) {
-        CountAt::Refused(r) => Closed::Refused(r),
-        CountAt::Counted {
-            count,
-            at: end,
-            close,
-        } => close_array(types, room, made, element, count, end, close),
-    }
+    let counted = count_at(s, at)?;
+    let count = counted.count;
+    close_array(types, room, made, element, count, counted.at, counted.close)
 }
 
 // A type, with so many levels left, this one too.
 #[cycle(read_arguments_read_type)]
 pub fn read_type(
     s: &[u8],
-    names: &[usize],
-    shapes: &[u32],
-    n: u32,
+    structs: Structs,
     types: &mut [u32],
     room: u32,
     made: u32,
     at: usize,
     left: u32,
-) -> Closed
-    requires { (n * 2 ≤ length names.now) × (n * 4 ≤ length shapes.now) × Room room made types.old }
-    ensures { TypeRead s.now room made types.old types.new (type_of room left (structs_in s.now names.now shapes.now n) (records_in type_words types.old made) (from s.now at)) result }
+) -> Result<Closed, Refusal>
+    requires { (structs.count * 2 ≤ length structs.names.now) × (structs.count * 4 ≤ length structs.shapes.now) × Room room made types.old }
+    ensures { TypeRead s.now room made types.old types.new (type_of room left (structs_in s.now structs.entry.names.now structs.entry.shapes.now structs.entry.count) (records_in type_words types.old made) (from s.now at)) result }
 {
     if left == 0 {
-        return Closed::Refused(Refusal {
-            number: 31,
+        return Err(Refusal {
+            fault: Fault::Grammar,
             at,
-            why: wgsl_grammar::TOO_DEEP,
+            why: Why::Other(Problem::TooDeep),
         });
     }
     let inner = left - 1;
-    match open_type(s, names, shapes, n, at) {
-        Opened::Refused(r) => Closed::Refused(r),
+    let opened = open_type(s, structs, at)?;
+    match opened {
         Opened::Scalar {
             scalar,
             at: next,
@@ -426,16 +402,16 @@ pub fn read_type(
             shape,
             at: next,
             close,
-        } => Closed::Whole {
+        } => Ok(Closed::Whole {
             shape,
             made,
             at: next,
             close,
-        },
+        }),
         Opened::Template { template, at: next } => template_type(
             s, types, room, inner, made, template, next,
         ),
-        Opened::Array(next) => read_arguments(s, names, shapes, n, types, room, made, next, inner),
+        Opened::Array(next) => read_arguments(s, structs, types, room, made, next, inner),
     }
 }
 
@@ -443,25 +419,22 @@ pub fn read_type(
 #[cycle(read_arguments_read_type)]
 fn read_arguments(
     s: &[u8],
-    names: &[usize],
-    shapes: &[u32],
-    n: u32,
+    structs: Structs,
     types: &mut [u32],
     room: u32,
     made: u32,
     at: usize,
     left: u32,
-) -> Closed
-    requires { (n * 2 ≤ length names.now) × (n * 4 ≤ length shapes.now) × Room room made types.old }
-    ensures { TypeRead s.now room made types.old types.new (arguments_of room (type_of room left (structs_in s.now names.now shapes.now n) (records_in type_words types.old made) (from s.now at))) result }
+) -> Result<Closed, Refusal>
+    requires { (structs.count * 2 ≤ length structs.names.now) × (structs.count * 4 ≤ length structs.shapes.now) × Room room made types.old }
+    ensures { TypeRead s.now room made types.old types.new (arguments_of room (type_of room left (structs_in s.now structs.entry.names.now structs.entry.shapes.now structs.entry.count) (records_in type_words types.old made) (from s.now at))) result }
 {
-    let inner = read_type(s, names, shapes, n, types, room, made, at, left);
+    let inner = read_type(s, structs, types, room, made, at, left)?;
     match inner {
-        Closed::Refused(r) => Closed::Refused(r),
-        Closed::Full { shape: _, close } => Closed::Refused(Refusal {
-            number: 1,
+        Closed::Full { shape: _, close } => Err(Refusal {
+            fault: Fault::TableLength,
             at: close,
-            why: wgsl_grammar::TYPES_FULL,
+            why: Why::Other(Problem::TypesFull),
         }),
         Closed::Whole {
             shape,

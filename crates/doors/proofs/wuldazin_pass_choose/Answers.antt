@@ -1,4 +1,5 @@
-use mathlib.Core.Path.{refl}
+use Rattle.immediates_pass.specs.Pass.{Tried}
+use mathlib.Core.Path.{refl, ap}
 use borrow.Author.Tests.{le-leb, lt-leb}
 use Rattle.doors_words.specs.Words.{tried_in, with_tried, pass_rows}
 use Rattle.doors.proofs.wuldazin_pass_choose.Goals as goal
@@ -12,4 +13,4 @@ unfolding tried_in pass_rows
 returns c =
     let r = rw (c.rule_of-by.ensures, c.capabilities_by-known.ensures) at c.choose-tried.ensures in
     let p = c.pass_of.ensures in
-    rw (le-leb 3 _ c.if-pass-lt3.false) record { rows_after = r.rows_after; pass_after = rw (r.value, p) at c.put_tried.ensures; answer_after = rw r.value at c.put_answer-2.ensures }
+    rw (le-leb 3 _ c.if-pass-lt3.false) record { rows_after = r.rows_after; pass_after = rw (r.value, p) at c.put_tried.ensures; answer_after = rw (ap (λ (t : Tried). t.outcome) r.value) at c.put_answer-2.ensures }

@@ -1,3 +1,5 @@
+use Rattle.immediates_pass.specs.Pass.{Tried}
+use mathlib.Core.Path.{ap}
 use borrow.Author.Tests.{le-leb, lt-leb}
 use Rattle.doors_words.specs.Words.{tried_in}
 use Rattle.doors.proofs.wuldazin_pass_dispatch.Goals as goal
@@ -12,4 +14,4 @@ unfolding tried_in
 returns c =
     let r = c.dispatch-tried.ensures in
     let p = c.pass_of.ensures in
-    rw (le-leb 3 _ c.if-pass-lt3.false) record { missing_after = rw (r, p) at c.put_one-2.ensures; answer_after = rw (r, p) at c.put_answer-2.ensures }
+    rw (le-leb 3 _ c.if-pass-lt3.false) record { missing_after = rw (ap (λ (t : Tried). t.missing) r, p) at c.put_one-2.ensures; answer_after = rw (ap (λ (t : Tried). t.outcome) r, p) at c.put_answer-2.ensures }

@@ -5,12 +5,12 @@ use Rattle.doors_words.proofs.put_answer.Goals as goal
 
 pub returns-then-answer-lt4 : goal.returns-then-answer-lt4
 unfolding with_answer
-returns-then-answer-lt4 c = rw (lt-leb 4 _ c.if-answer-lt4.true) refl
+returns-then-answer-lt4 g c = rw (lt-leb 4 _ c.if-answer-lt4.true) refl
 
-pub returns-in-Accepted : goal.returns-in-Accepted
+pub returns-in-Ok : goal.returns-in-Ok
 unfolding with_answer
-returns-in-Accepted c = rw (le-leb 4 _ c.if-answer-lt4.false, c.in-Accepted.is) c.put_four.ensures
+returns-in-Ok g c = rw (le-leb 4 _ c.if-answer-lt4.false, c.in-Ok.is) c.put_four.ensures
 
-pub returns-in-Refused : goal.returns-in-Refused
+pub returns-in-Err : goal.returns-in-Err
 unfolding with_answer
-returns-in-Refused c = rw (le-leb 4 _ c.if-answer-lt4.false, c.in-Refused.is) c.put_four-in-Refused.ensures
+returns-in-Err g c = rw (le-leb 4 _ c.if-answer-lt4.false, c.in-Err.is) (rw c.from.ensures at c.put_four-in-Err.ensures)

@@ -7,10 +7,10 @@ pub returns-then-numbers-lt3 : goal.returns-then-numbers-lt3
 unfolding with_numbers
 returns-then-numbers-lt3 c = rw (lt-leb 3 _ c.if-numbers-lt3.true) refl
 
-pub returns-in-Found : goal.returns-in-Found
+pub returns-in-Ok : goal.returns-in-Ok
 unfolding with_numbers
-returns-in-Found c = rw (le-leb 3 _ c.if-numbers-lt3.false, c.in-Found.is) c.put_three.ensures
+returns-in-Ok c = rw (le-leb 3 _ c.if-numbers-lt3.false, c.in-Ok.is) c.put_three.ensures
 
-pub returns-in-Refused : goal.returns-in-Refused
+pub returns-in-Err : goal.returns-in-Err
 unfolding with_numbers
-returns-in-Refused c = rw (le-leb 3 _ c.if-numbers-lt3.false, c.in-Refused.is) c.put_three-in-Refused.ensures
+returns-in-Err c = rw (le-leb 3 _ c.if-numbers-lt3.false, c.in-Err.is) c.put_three-in-Err.ensures

@@ -1,11 +1,18 @@
-use mathlib.Core.Path.{refl}
-use Rattle.doors_words.specs.Words.{with_tried}
+use mathlib.Core.Path.{sym, ◌∙◌}
+use Rattle.doors_words.specs.Words.{with_tried, with_pass}
+use Rattle.doors_words.proofs.ToldLaws.{accepted_words, refused_words}
 use Rattle.doors_words.proofs.put_tried.Goals as goal
 
-pub returns-in-Accepted : goal.returns-in-Accepted
+pub returns-then-is_ok : goal.returns-then-is_ok
 unfolding with_tried
-returns-in-Accepted c = rw c.in-Accepted.is c.put_pass.ensures
+returns-then-is_ok c =
+    let a = c.args in
+    let t = a.tried in
+    rw (accepted_words t.outcome (sym c.is_ok.ensures.value ∙ c.if-is_ok.true) (with_pass a.words.now t.pass) a.words.now) c.put_pass.ensures
 
-pub returns-in-Refused : goal.returns-in-Refused
+pub returns-else-is_ok : goal.returns-else-is_ok
 unfolding with_tried
-returns-in-Refused c = rw c.in-Refused.is refl
+returns-else-is_ok c =
+    let a = c.args in
+    let t = a.tried in
+    sym (refused_words t.outcome (sym c.is_ok.ensures.value ∙ c.if-is_ok.false) (with_pass a.words.now t.pass) a.words.now)

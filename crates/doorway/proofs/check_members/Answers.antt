@@ -2,7 +2,7 @@
 use Rattle.std.proofs.Common.{length, ◌∙◌}
 use Rattle.valid_arena.specs.Arena.{arena_answer, arena_words}
 use Rattle.valid_rule_word.specs.RuleWord.{rule_of, capabilities_by}
-use Rattle.ir_records.specs.declared.Outcome.TheVariants.{Refused}
+use Rattle.ir_records.specs.Outcome.{Refused}
 use Rattle.ir_member_words.proofs.FlatLaws.{fit_le, through}
 use Rattle.doorway.proofs.CoreLaws.{answer_refuses, words_refuses}
 use Rattle.doorway.proofs.check_members.Goals as goal

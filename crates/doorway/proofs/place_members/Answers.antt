@@ -3,7 +3,7 @@ use Rattle.std.proofs.Common.{length, ◌∙◌}
 use Rattle.valid_arena.specs.Arena.{arena_words}
 use Rattle.valid_rule_word.specs.RuleWord.{rule_of, capabilities_by}
 use Rattle.place_lookup.specs.Place.{lookup_answer}
-use Rattle.place_lookup.specs.declared.PlaceAnswer.TheVariants.{Refused}
+use Rattle.place_lookup.specs.Answer.{Refused}
 use Rattle.ir_member_words.proofs.FlatLaws.{fit_le, through}
 use Rattle.doorway.proofs.CoreLaws.{lookup_refuses, words_refuses}
 use Rattle.doorway.proofs.place_members.Goals as goal

@@ -2,7 +2,7 @@
 use Rattle.std.proofs.Common.{length, ◌∙◌}
 use Rattle.valid_arena.specs.Arena.{arena_words}
 use Rattle.valid_rule_word.specs.RuleWord.{rule_of, capabilities_by}
-use Rattle.immediates_ranges.specs.declared.SlotsAnswer.TheVariants.{Refused}
+use Rattle.immediates_ranges.specs.Answer.{Refused}
 use Rattle.immediates_slots.specs.Immediates.{slots_answer}
 use Rattle.ir_member_words.proofs.FlatLaws.{fit_le, through}
 use Rattle.doorway.proofs.CoreLaws.{slots_refuses, words_refuses}

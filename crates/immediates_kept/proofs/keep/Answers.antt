@@ -3,13 +3,13 @@ use mathlib.Core.Path.{refl}
 use Rattle.immediates_kept.specs.Kept.{with_kept}
 use Rattle.immediates_kept.proofs.keep.Goals as goal
 
-pub returns-in-Within : goal.returns-in-Within
+pub returns-in-Some : goal.returns-in-Some
 unfolding with_kept
-returns-in-Within c =
+returns-in-Some c =
     let place = c.place-at.ensures in
-    let part = c.in-Within.is in
+    let part = c.in-Some.is in
     rw part (rw place at c.store.ensures)
 
-pub returns-in-Past : goal.returns-in-Past
+pub returns-in-None : goal.returns-in-None
 unfolding with_kept
-returns-in-Past c = rw (c.in-Past.is, c.place-at.ensures) refl
+returns-in-None c = rw (c.in-None.is, c.place-at.ensures) refl

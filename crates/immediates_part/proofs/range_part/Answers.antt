@@ -1,21 +1,22 @@
 -- `immediates_part::range_part` meets its contract. Assumes nothing.
-use mathlib.Core.Path.{refl, sym, ◌∙◌}
+use mathlib.Core.Path.{refl, sym, ap, ◌∙◌}
 use native.Mathlib.Omega.{arith}
 use borrow.Author.Tests.{le-leb}
 use Rattle.proc_alignment.specs.Alignment.{most}
-use Rattle.immediates_part.specs.Part.{range_part}
+use Rattle.immediates_ranges.specs.Slots.{slots_found}
+use Rattle.immediates_part.specs.Part.{range_part, part_found}
 use Rattle.immediates_part.proofs.range_part.Goals as goal
 
-pub returns-in-Mask : goal.returns-in-Mask
+pub returns-in_err-slots : goal.returns-in_err-slots
 unfolding range_part
-returns-in-Mask c =
+returns-in_err-slots c =
     let a = c.args in
-    let mask = sym c.range_slots.ensures ∙ c.in-Mask.is in
-    rw (le-leb a.offset most (omega arith), mask, c.range_room.ensures) refl
+    let past = sym c.range_slots.ensures ∙ ap slots_found c.in_err-slots.was in
+    rw (le-leb a.offset most (omega arith), past) (ap part_found c.from_residual.ensures)
 
-pub returns-in-Past : goal.returns-in-Past
+pub returns : goal.returns
 unfolding range_part
-returns-in-Past c =
+returns c =
     let a = c.args in
-    let past = sym c.range_slots.ensures ∙ c.in-Past.is in
-    rw (le-leb a.offset most (omega arith), past) refl
+    let mask = sym c.range_slots.ensures ∙ ap slots_found c.in_ok-slots.was in
+    rw (le-leb a.offset most (omega arith), mask, c.range_room.ensures) refl

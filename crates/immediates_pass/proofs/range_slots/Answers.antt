@@ -6,4 +6,4 @@ pub returns-then-offset-size : goal.returns-then-offset-size
 returns-then-offset-size c = rw c.if-offset-size.true c.range.ensures
 
 pub returns-else-offset-size : goal.returns-else-offset-size
-returns-else-offset-size c = rw c.if-offset-size.false refl
+returns-else-offset-size c = rw (c.if-offset-size.false, c.of.ensures) refl

@@ -6,7 +6,7 @@ use Prim.Native.Nat.{◌+◌, ◌/◌, ◌<◌}
 use lib.Bits.{bit_or}
 use borrow.Author.Tests.{ne_eqb, lt-leb, le-leb}
 use Rattle.immediates_ranges.specs.Slots.{slot_bytes, range_slots}
-use Rattle.immediates_ranges.specs.declared.Slots.TheVariants.{Mask}
+use Rattle.immediates_ranges.specs.Slots.{Mask}
 use Rattle.immediates_ranges.proofs.RangeLaws.{shifts, range_mask}
 use Rattle.immediates_ranges.proofs.PartLaws.{partly_mask}
 use Rattle.immediates_ranges.proofs.range_slots.Goals as goal

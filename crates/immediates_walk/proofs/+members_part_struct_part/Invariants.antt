@@ -2,6 +2,7 @@
 use Rattle.std.proofs.Common.{◌≡◌, ◌+◌, ◌-◌, ◌*◌, ◌≤◌}
 use Rattle.ir_records.specs.Record.{decoded}
 use Rattle.ir_records.specs.Table.{table}
+use Rattle.immediates_part.specs.Part.{part_in}
 use Rattle.immediates_kept.specs.Kept.{Keeps}
 use Rattle.immediates_walk.specs.Parts.{no_part, part_step, members_part, part_at}
 use Rattle.immediates_walk.proofs.+members_part_struct_part.Given as goal
@@ -15,7 +16,7 @@ decreases-struct_part l = 2 * l.ty + 1
 abbrev pub invariant-members_part-loop-j : goal.invariant-members_part-loop-j
 invariant-members_part-loop-j l = record {
   within : l.j ≤ l.count;
-  so_far : l.part ≡ members_part (table no_part (part_step (decoded l.types l.members)) l.ty) l.own l.offset l.j;
+  so_far : part_in l.part ≡ members_part (table no_part (part_step (decoded l.types l.members)) l.ty) l.own l.offset l.j;
   keeps : Keeps (part_at (decoded l.types l.members)) l.kept;
 }
 

@@ -1,15 +1,12 @@
-use mathlib.Core.Path.{refl, sym, ◌∙◌}
+use Rattle.std.proofs.Common.{arith}
+use Rattle.std.proofs.lemmas.Grind.{common_steps}
 use Rattle.ir_records.specs.Fields.{record_at}
 use Rattle.ir_fields.proofs.record_at.Goals as goal
 
-pub returns-then-sources_located : goal.returns-then-sources_located
+pub returns-then-not-sources_located : goal.returns-then-not-sources_located
 unfolding record_at
-returns-then-sources_located c =
-    let located = rw c.struct_members-part.ensures at (sym c.sources_located.ensures ∙ c.if-sources_located.true) in
-    rw located c.fields_at.ensures
+returns-then-not-sources_located c = grind (arith, common_steps)
 
 pub returns : goal.returns
 unfolding record_at
-returns c =
-    let located = rw c.struct_members-part.ensures at (sym c.sources_located.ensures ∙ c.if-sources_located.false) in
-    rw located refl
+returns c = grind (arith, common_steps)

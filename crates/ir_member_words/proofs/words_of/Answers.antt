@@ -4,11 +4,10 @@ use Rattle.ir_member_words.proofs.FlatLaws.{one_more, none_yet}
 use Rattle.ir_member_words.proofs.words_of.Goals as goal
 
 pub loop-i-init : goal.loop-i-init
-loop-i-init c = record { within = omega arith; size = omega arith; copied = none_yet c.args.ms.now [] }
+loop-i-init c = record { size = omega arith; copied = none_yet c.args.ms.now [] }
 
 pub loop-i-preserved : goal.loop-i-preserved
 loop-i-preserved c = record {
-  within = omega arith;
   size = omega (arith, length-set {A = ℕ});
   copied = one_more c.args.ms.now c.loop-i.words c.loop-i.i (omega arith) (omega arith) c.loop-i.invariant.copied;
 }

@@ -6,10 +6,6 @@ use Rattle.ir_member_words.proofs.words_of.Given as goal
 
 abbrev pub invariant-loop-i : goal.invariant-loop-i
 invariant-loop-i l = record {
-  within : l.i ≤ l.n;
   size : length l.words ≡ 16388;
   copied : take (l.i * member_words) l.words ≡ flat (take l.i l.ms);
 }
-
-abbrev pub decreases-loop-i : goal.decreases-loop-i
-decreases-loop-i l = l.n - l.i

@@ -1,5 +1,4 @@
 -- `ir_records::sources_located` meets its contract. The invariant: the rows from j on have their locations. Assumes nothing.
-use borrow.Author.Rules.{rules}
 use mathlib.Core.Path.{sym, ◌∙◌}
 use Rattle.ir_records.proofs.RecordLaws.{unlocated_found, located_before, located_none}
 use Rattle.ir_records.proofs.sources_located.Goals as goal
@@ -8,16 +7,16 @@ pub returns-then-source-location : goal.returns-then-source-location
 returns-then-source-location c =
     let l = c.loop-j in
     let a = c.args in
-    sym (l.invariant.1 ∙ unlocated_found a.part.now l.j c.loop-j-test.true (rw (c.own_location-location.ensures, c.own_source-source.ensures) at c.if-source-location.true))
+    sym (l.invariant ∙ unlocated_found a.part.now l.j c.loop-j-test.true (rw (c.own_location-location.ensures, c.own_source-source.ensures) at c.if-source-location.true))
 
 pub loop-j-preserved : goal.loop-j-preserved
 loop-j-preserved c =
     let l = c.loop-j in
     let a = c.args in
-    (search rules, l.invariant.1 ∙ located_before a.part.now l.j c.loop-j-test.true (rw (c.own_location-location.ensures, c.own_source-source.ensures) at c.if-source-location.false))
+    l.invariant ∙ located_before a.part.now l.j c.loop-j-test.true (rw (c.own_location-location.ensures, c.own_source-source.ensures) at c.if-source-location.false)
 
 pub returns : goal.returns
 returns c =
     let l = c.loop-j in
     let a = c.args in
-    sym (l.invariant.1 ∙ located_none a.part.now l.j c.loop-j-test.false)
+    sym (l.invariant ∙ located_none a.part.now l.j c.loop-j-test.false)

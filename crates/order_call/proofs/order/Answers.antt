@@ -1,7 +1,10 @@
-use mathlib.Core.Path.{sym, ap, ◌∙◌}
+use mathlib.Core.Path.{◌≡◌, sym, ap, ◌∙◌}
 use Prim.Native.Nat.{◌*◌, ◌≤◌}
 use native.Mathlib.Omega.{arith}
 use lib.ListN.{length, take}
+use Rattle.std.proofs.Common.{rules, Err}
+use Rattle.ir_records.specs.Refusal.{outcome_of}
+use Rattle.order_call.specs.Answer.{order_answer_of}
 use Rattle.valid_arena.specs.Arena.{arena_words}
 use Rattle.order_call.specs.Call.{Left, after_check}
 use Rattle.order_call.proofs.CallLaws.{has_room, positive, ordered_short, ordered_after}
@@ -12,10 +15,10 @@ returns-then-not-has_room c =
     let s = c in
     let a = s.args in
     let e = ordered_short a.rule a.capabilities a.types.now a.n a.members.now a.m a.rows.now a.wanted.now a.span (sym c.has_room.ensures ∙ c.if-not-has_room.true) in
-    record { value = c.refused.ensures ∙ ap (λ (l : Left). l.answer) (sym e); types_after = ap (λ (l : Left). l.types) (sym e); members_after = ap (λ (l : Left). l.members) (sym e); rows_after = ap (λ (l : Left). l.rows) (sym e) }
+    record { value = ap (λ r. order_answer_of (Err r)) c.of.ensures ∙ ap (λ (l : Left). l.answer) (sym e); types_after = ap (λ (l : Left). l.types) (sym e); members_after = ap (λ (l : Left). l.members) (sym e); rows_after = ap (λ (l : Left). l.rows) (sym e) }
 
-pub check_first-checked-requires : goal.check_first-checked-requires
-check_first-checked-requires c =
+pub check_first-requires : goal.check_first-requires
+check_first-requires c =
     let s = c in
     let a = s.args in
     let roomy = sym c.has_room.ensures ∙ c.if-not-has_room.false in
@@ -28,33 +31,34 @@ choose-requires c =
     let a = s.args in
     let roomy = sym c.has_room.ensures ∙ c.if-not-has_room.false in
     let r = has_room (length a.types.now) (length a.members.now) (length a.rows.now) a.n a.m (length a.wanted.now) roomy in
-    let k = c.check_first-checked in
-    let accepted = sym k.ensures.value ∙ c.in-Accepted.is in
+    let k = c.check_first in
+    let accepted = sym k.ensures.value ∙ ap outcome_of c.in_ok-check_first.was in
     let n6 : a.n * 6 ≤ length a.types.now = omega (arith, r.record') in
     let aligned = positive a.rule a.capabilities a.types.now a.n (take (a.m * 4) a.members.now) a.rows.now n6 accepted in
     record { wanted_len_bound = r.few; n_in_bounds = r.record'; wanted_bound = r.count; wanted_in_bounds = r.words; by_index = rw k.ensures.rows_after aligned }
 
-pub returns-in-Accepted : goal.returns-in-Accepted
-returns-in-Accepted c =
+pub returns : goal.returns
+returns c =
     let s = c in
     let a = s.args in
     let roomy = sym c.has_room.ensures ∙ c.if-not-has_room.false in
     let r = has_room (length a.types.now) (length a.members.now) (length a.rows.now) a.n a.m (length a.wanted.now) roomy in
-    let k = c.check_first-checked in
-    let accepted = sym k.ensures.value ∙ c.in-Accepted.is in
+    let k = c.check_first in
+    let accepted = sym k.ensures.value ∙ ap outcome_of c.in_ok-check_first.was in
     let words = arena_words a.rule a.capabilities (take (a.n * 6) a.types.now) (take (a.m * 4) a.members.now) a.rows.now in
     let e = ordered_after a.rule a.capabilities a.types.now a.n a.members.now a.m a.rows.now a.wanted.now a.span roomy ∙ ap (after_check a.rule a.capabilities a.types.now a.n a.members.now a.m words a.wanted.now a.span) accepted in
     let w = rw k.ensures.rows_after at c.choose.ensures in
     record { value = w.value ∙ ap (λ (l : Left). l.answer) (sym e); types_after = w.types_after ∙ ap (λ (l : Left). l.types) (sym e); members_after = w.members_after ∙ ap (λ (l : Left). l.members) (sym e); rows_after = w.rows_after ∙ ap (λ (l : Left). l.rows) (sym e) }
 
-pub returns-in-Refused : goal.returns-in-Refused
-returns-in-Refused c =
+pub returns-in_err-check_first : goal.returns-in_err-check_first
+returns-in_err-check_first c =
+    let same : c.from_residual.result ≡ Err c.in_err-check_first.field-0.0 = search rules in
     let s = c in
     let a = s.args in
     let roomy = sym c.has_room.ensures ∙ c.if-not-has_room.false in
     let r = has_room (length a.types.now) (length a.members.now) (length a.rows.now) a.n a.m (length a.wanted.now) roomy in
-    let k = c.check_first-checked in
-    let refusal = sym k.ensures.value ∙ c.in-Refused.is in
+    let k = c.check_first in
+    let refusal = sym k.ensures.value ∙ ap outcome_of c.in_err-check_first.was in
     let words = arena_words a.rule a.capabilities (take (a.n * 6) a.types.now) (take (a.m * 4) a.members.now) a.rows.now in
     let e = ordered_after a.rule a.capabilities a.types.now a.n a.members.now a.m a.rows.now a.wanted.now a.span roomy ∙ ap (after_check a.rule a.capabilities a.types.now a.n a.members.now a.m words a.wanted.now a.span) refusal in
-    record { value = ap (λ (l : Left). l.answer) (sym e); types_after = ap (λ (l : Left). l.types) (sym e); members_after = ap (λ (l : Left). l.members) (sym e); rows_after = k.ensures.rows_after ∙ ap (λ (l : Left). l.rows) (sym e) }
+    record { value = ap order_answer_of same ∙ ap (λ (l : Left). l.answer) (sym e); types_after = ap (λ (l : Left). l.types) (sym e); members_after = ap (λ (l : Left). l.members) (sym e); rows_after = k.ensures.rows_after ∙ ap (λ (l : Left). l.rows) (sym e) }

@@ -1,17 +1,28 @@
-use mathlib.Core.Path.{ap, ◌∙◌}
+use mathlib.Core.Path.{◌≡◌, sym, ap, ◌∙◌}
+use Rattle.std.proofs.Common.{rules, Err}
+use Rattle.ir_records.specs.Refusal.{outcome_of}
+use Rattle.order_call.specs.Answer.{order_answer_of}
 use Rattle.order_call.specs.Call.{struct_answer}
 use Rattle.order_call.proofs.with_order.Goals as goal
 
-pub tried-outcome-requires : goal.tried-outcome-requires
-tried-outcome-requires c =
+pub tried-requires : goal.tried-requires
+tried-requires c =
     let p = c.requires in
     record { k_bound = p.wanted_len_bound; n_in_bounds = p.n_in_bounds; k_bound_2 = p.wanted_bound; k_in_bounds = p.wanted_in_bounds; by_index = p.by_index }
 
 pub returns : goal.returns
 returns c =
-    let s = c in
-    let a = s.args in
-    let span = s.requires.span_value in
-    let t = c.tried-outcome in
-    let k = c.struct_answer in
-    rw (← span) record { value = k.ensures ∙ ap (struct_answer a.n a.span a.order) t.ensures.value; types_after = rw t.ensures.value at t.ensures.types_after; members_after = rw t.ensures.value at t.ensures.members_after; rows_after = t.ensures.rows_after }
+    let a = c.args in
+    let span = c.requires.span_value in
+    let t = c.tried in
+    let answer = ap (struct_answer a.n a.span a.order) (ap outcome_of (sym c.in_ok-tried.was) ∙ t.ensures.value) in
+    rw (← span) record { value = answer; types_after = rw t.ensures.value at t.ensures.types_after; members_after = rw t.ensures.value at t.ensures.members_after; rows_after = t.ensures.rows_after }
+
+pub returns-in_err-tried : goal.returns-in_err-tried
+returns-in_err-tried c =
+    let same : c.from_residual.result ≡ Err c.in_err-tried.field-0.0 = search rules in
+    let a = c.args in
+    let span = c.requires.span_value in
+    let t = c.tried in
+    let answer = ap order_answer_of same ∙ ap (struct_answer a.n a.span a.order) (ap outcome_of (sym c.in_err-tried.was) ∙ t.ensures.value) in
+    rw (← span) record { value = answer; types_after = rw t.ensures.value at t.ensures.types_after; members_after = rw t.ensures.value at t.ensures.members_after; rows_after = t.ensures.rows_after }

@@ -27,8 +27,8 @@ check_first-checked-requires c =
     let w = c.put_struct in
     record { t_in_bounds = omega (arith, n6, w.auto.types); u_in_bounds = omega (arith, m4, w.auto.members) }
 
-pub put-requires-in-Refused : goal.put-requires-in-Refused
-put-requires-in-Refused c =
+pub put-requires-in-Err : goal.put-requires-in-Err
+put-requires-in-Err c =
     let s = c in
     let a = s.args in
     let types = a.types.now in
@@ -38,8 +38,8 @@ put-requires-in-Refused c =
     let w = c.put_struct in
     record { count_in_bounds = omega (arith, n6, w.auto.types); count_in_bounds_2 = omega (arith, c.put.auto.table) }
 
-pub put-requires-in-Refused-2 : goal.put-requires-in-Refused-2
-put-requires-in-Refused-2 c =
+pub put-requires-in-Err-2 : goal.put-requires-in-Err-2
+put-requires-in-Err-2 c =
     let s = c in
     let a = s.args in
     let types = a.types.now in
@@ -49,8 +49,8 @@ put-requires-in-Refused-2 c =
     let w = c.put_struct in
     record { count_in_bounds = omega (arith, m4, w.auto.members); count_in_bounds_2 = omega (arith, s.requires.k_bound, c.put-2.auto.table) }
 
-pub returns-in-Accepted : goal.returns-in-Accepted
-returns-in-Accepted c =
+pub returns-in-Ok : goal.returns-in-Ok
+returns-in-Ok c =
     let s = c in
     let a = s.args in
     let types = a.types.now in
@@ -65,11 +65,11 @@ returns-in-Accepted c =
     let ts : take (a.n * 6 + 6) w.new.types ≡ types_with types a.n record' = ap (take (a.n * 6 + 6)) w.ensures.types_after ∙ take_part 6 types record' (a.n * 6) refl n6 in
     let ms : take (a.m * 4 + a.k * 4) w.new.members ≡ members_with members a.m words =
     ap (take (a.m * 4 + a.k * 4)) w.ensures.members_after ∙ take_part (a.k * 4) members words (a.m * 4) long m4 in
-    let q = c.in-Accepted.is in
+    let q = c.in-Ok.is in
     record { value = rw (← ts, ← ms) k.ensures.value; types_after = rw q w.ensures.types_after; members_after = rw q w.ensures.members_after; rows_after = rw (← ts, ← ms) k.ensures.rows_after }
 
-pub returns-in-Refused : goal.returns-in-Refused
-returns-in-Refused c =
+pub returns-in-Err : goal.returns-in-Err
+returns-in-Err c =
     let s = c in
     let a = s.args in
     let types = a.types.now in
@@ -84,12 +84,12 @@ returns-in-Refused c =
     let ts : take (a.n * 6 + 6) w.new.types ≡ types_with types a.n record' = ap (take (a.n * 6 + 6)) w.ensures.types_after ∙ take_part 6 types record' (a.n * 6) refl n6 in
     let ms : take (a.m * 4 + a.k * 4) w.new.members ≡ members_with members a.m words =
     ap (take (a.m * 4 + a.k * 4)) w.ensures.members_after ∙ take_part (a.k * 4) members words (a.m * 4) long m4 in
-    let q = c.in-Refused.is in
+    let q = c.in-Err.is in
     let kept = c.put in
     let kept-rows = c.put-2 in
     let kt : take 6 kept.new.table ≡ take 6 (drop (a.n * 6) types) = kept-part types (replicate 6 0) kept.new.table (a.n * 6) 6 n6 kept.ensures in
     let km : take (a.k * 4) kept-rows.new.table ≡ take (a.k * 4) (drop (a.m * 4) members) =
     kept-part members (replicate 28 0) kept-rows.new.table (a.m * 4) (a.k * 4) m4 kept-rows.ensures in
-    let bt = c.put-in-Refused.ensures ∙ ap (λ (x : List ℕ). paste x (a.n * 6) kept.new.table 6) w.ensures.types_after ∙ restored types record' kept.new.table (a.n * 6) 6 refl n6 kt in
-    let bm = c.put-in-Refused-2.ensures ∙ ap (λ (x : List ℕ). paste x (a.m * 4) kept-rows.new.table (a.k * 4)) w.ensures.members_after ∙ restored members words kept-rows.new.table (a.m * 4) (a.k * 4) long m4 km in
+    let bt = c.put-in-Err.ensures ∙ ap (λ (x : List ℕ). paste x (a.n * 6) kept.new.table 6) w.ensures.types_after ∙ restored types record' kept.new.table (a.n * 6) 6 refl n6 kt in
+    let bm = c.put-in-Err-2.ensures ∙ ap (λ (x : List ℕ). paste x (a.m * 4) kept-rows.new.table (a.k * 4)) w.ensures.members_after ∙ restored members words kept-rows.new.table (a.m * 4) (a.k * 4) long m4 km in
     record { value = rw (← ts, ← ms) k.ensures.value; types_after = rw q bt; members_after = rw q bm; rows_after = rw (← ts, ← ms) k.ensures.rows_after }

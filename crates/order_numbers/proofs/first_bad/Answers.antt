@@ -1,7 +1,5 @@
 use mathlib.Core.Path.{sym, ◌∙◌}
 use native.Mathlib.Nat.{sub-zero}
-use native.Mathlib.Omega.{arith}
-use borrow.Author.Rules.{rules}
 use Rattle.order_numbers.specs.Order.{member_at, bad_place}
 use Rattle.order_numbers.proofs.SearchLaws.{first_hit, first_miss, first_done}
 use Rattle.order_numbers.proofs.first_bad.Goals as goal
@@ -11,20 +9,20 @@ returns-then-bad_place c =
     let l = c in
     let a = l.args in
     sym (first_hit (bad_place a.n (member_at a.n a.order)) a.n l.loop-j.j c.loop-j-test.true (sym c.bad_place.ensures ∙ c.if-bad_place.true))
-    ∙ l.loop-j.invariant.1
+    ∙ l.loop-j.invariant
 
 pub loop-j-preserved : goal.loop-j-preserved
 loop-j-preserved c =
     let l = c in
     let a = l.args in
-    (omega arith, sym (first_miss (bad_place a.n (member_at a.n a.order)) a.n l.loop-j.j c.loop-j-test.true (sym c.bad_place.ensures ∙ c.if-bad_place.false)) ∙ l.loop-j.invariant.1)
+    sym (first_miss (bad_place a.n (member_at a.n a.order)) a.n l.loop-j.j c.loop-j-test.true (sym c.bad_place.ensures ∙ c.if-bad_place.false)) ∙ l.loop-j.invariant
 
 pub returns : goal.returns
 returns c =
     let l = c in
     let a = l.args in
-    sym (first_done (bad_place a.n (member_at a.n a.order)) a.n l.loop-j.j c.loop-j-test.false) ∙ l.loop-j.invariant.1
+    sym (first_done (bad_place a.n (member_at a.n a.order)) a.n l.loop-j.j c.loop-j-test.false) ∙ l.loop-j.invariant
 
 pub loop-j-init : goal.loop-j-init
 loop-j-init c =
-    (search rules, rw sub-zero)
+    rw sub-zero

@@ -8,18 +8,18 @@ pub after_place-requires : goal.after_place-requires
 after_place-requires c =
     let s = c in
     let a = s.args in
-    let e = sym c.first_bad.ensures ∙ c.in-At.is in
-    let f = first_least (bad_place a.n (member_at a.n a.order)) a.n 0 c.in-At.j e in
+    let e = sym c.first_bad.ensures ∙ c.in-Some.is in
+    let f = first_least (bad_place a.n (member_at a.n a.order)) a.n 0 c.in-Some.j e in
     record { j_lt_n = omega (arith, f.2); n_bound = s.requires.n_bound; order_bound = s.requires.order_bound }
 
-pub returns-in-At : goal.returns-in-At
-returns-in-At c =
+pub returns-in-Some : goal.returns-in-Some
+returns-in-Some c =
     let a = c.args in
-    let e = sym c.first_bad.ensures ∙ c.in-At.is in
+    let e = sym c.first_bad.ensures ∙ c.in-Some.is in
     (c.after_place.ensures.0 ∙ ap (next_try a.n a.order) (sym e), c.after_place.ensures.1)
 
-pub returns-in-Nothing : goal.returns-in-Nothing
-returns-in-Nothing c =
+pub returns-in-None : goal.returns-in-None
+returns-in-None c =
     let a = c.args in
-    let e = sym c.first_bad.ensures ∙ c.in-Nothing.is in
+    let e = sym c.first_bad.ensures ∙ c.in-None.is in
     (ap (next_try a.n a.order) (sym e), omega arith)

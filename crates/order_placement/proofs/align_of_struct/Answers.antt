@@ -1,17 +1,18 @@
-use mathlib.Core.Path.{refl}
-use native.Mathlib.Nat.{le_antisymm}
+use mathlib.Core.Path.{◌≡◌, refl}
+use native.Mathlib.Omega.{arith}
 use native.Mathlib.Numerals.{add-one}
-use borrow.Author.Rules.{rules}
 use Rattle.order_placement.specs.Placement.{align_of_struct}
 use Rattle.order_placement.proofs.align_of_struct.Goals as goal
 
 pub loop-m-init : goal.loop-m-init
 unfolding align_of_struct
-loop-m-init c = (search rules, refl)
+loop-m-init c = refl
 
 pub loop-m-preserved : goal.loop-m-preserved
 unfolding align_of_struct
-loop-m-preserved c = let l = c in (search rules, rw (add-one, ← l.loop-m.invariant.1, ← c.align_of.ensures, ← c.larger-most.ensures))
+loop-m-preserved c = let l = c in rw (add-one, ← l.loop-m.invariant, ← c.align_of.ensures, ← c.larger-most.ensures)
 
 pub returns : goal.returns
-returns c = let l = c in rw (le_antisymm l.loop-m.invariant.0 c.loop-m-test.false) at l.loop-m.invariant.1
+returns c =
+    let last : c.loop-m.m ≡ c.args.n = omega arith in
+    rw last at c.loop-m.invariant

@@ -1,13 +1,11 @@
 use mathlib.Core.Path.{◌≡◌}
-use Prim.Native.Nat.{◌-◌, ◌≤◌}
+use Prim.Native.Nat.{◌-◌}
 use lib.ListN.{length}
 use Rattle.order_numbers.specs.Search.{first_from}
 use Rattle.order_types.specs.Given.{is_sort, first_of}
+use Rattle.order_types.specs.Serving.{sort_number}
 use Rattle.order_types.proofs.first_of.Given as goal
 
 abbrev pub invariant-loop-j : goal.invariant-loop-j
 invariant-loop-j l =
-    (l.j ≤ length l.wanted) × (first_from (is_sort l.types l.rows l.n l.wanted l.sort) (length l.wanted - l.j) l.j ≡ first_of l.types l.rows l.n l.wanted l.sort l.from)
-
-abbrev pub decreases-loop-j : goal.decreases-loop-j
-decreases-loop-j l = length l.wanted - l.j
+    first_from (is_sort l.types l.rows l.n l.wanted (sort_number l.sort)) (length l.wanted - l.j) l.j ≡ first_of l.types l.rows l.n l.wanted (sort_number l.sort) l.from

@@ -1,6 +1,8 @@
 -- `place_descent::place_of` meets its contract. The invariant: the rest of the steps from here lead where all of them lead from the start. Assumes nothing.
-use mathlib.Core.Path.{refl, sym, ◌∙◌}
+use mathlib.Core.Path.{refl, sym, ap, ◌∙◌}
 use native.Mathlib.Omega.{arith}
+use Rattle.place_steps.specs.Step.{step_made, step_found}
+use Rattle.place_descent.specs.Place.{found_place}
 use Rattle.place_descent.proofs.LoopLaws.{no_start, looking_start, looking_fits, looking_ends, looking_bounds, looking_step, looking_at, looking_done, column_fits, column_last, column_passed}
 use Rattle.place_descent.proofs.place_of.Goals as goal
 
@@ -14,25 +16,26 @@ pub step_at-requires : goal.step_at-requires
 step_at-requires c = looking_bounds c.loop-i.invariant
 
 pub overflow_add-byte : goal.overflow_add-byte
-overflow_add-byte c = record { fits = omega (arith, looking_fits (looking_step c.loop-i.invariant c.loop-i-test.true (sym c.in-To.is ∙ c.step_at.ensures))) }
+overflow_add-byte c = record { fits = omega (arith, looking_fits (looking_step c.loop-i.invariant c.loop-i-test.true (sym (ap step_found c.in_ok-next.was ∙ ap step_made c.in-To.is) ∙ c.step_at.ensures))) }
 
 pub returns-then-i-steps : goal.returns-then-i-steps
-returns-then-i-steps c = column_passed c.loop-i.invariant c.loop-i-test.true c.if-i-steps.true (sym c.in-Column.is ∙ c.step_at.ensures)
+returns-then-i-steps c = column_passed c.loop-i.invariant c.loop-i-test.true c.if-i-steps.true (sym (ap step_found c.in_ok-next.was ∙ ap step_made c.in-Column.is) ∙ c.step_at.ensures)
 
 pub overflow_add-column : goal.overflow_add-column
-overflow_add-column c = record { fits = column_fits c.loop-i.invariant (sym c.in-Column.is ∙ c.step_at.ensures) }
+overflow_add-column c = record { fits = column_fits c.loop-i.invariant (sym (ap step_found c.in_ok-next.was ∙ ap step_made c.in-Column.is) ∙ c.step_at.ensures) }
 
 pub returns-in-Column : goal.returns-in-Column
-returns-in-Column c = column_last c.loop-i.invariant c.loop-i-test.true c.if-i-steps.false (sym c.in-Column.is ∙ c.step_at.ensures)
+returns-in-Column c = column_last c.loop-i.invariant c.loop-i-test.true c.if-i-steps.false (sym (ap step_found c.in_ok-next.was ∙ ap step_made c.in-Column.is) ∙ c.step_at.ensures)
 
-pub returns-in-NoStep : goal.returns-in-NoStep
-returns-in-NoStep c = looking_ends c.loop-i.invariant c.loop-i-test.true (sym c.in-NoStep.is ∙ c.step_at.ensures)
+pub returns-in_err-next : goal.returns-in_err-next
+returns-in_err-next c =
+    ap found_place c.from_residual.ensures ∙ looking_ends c.loop-i.invariant c.loop-i-test.true (sym (ap step_found c.in_err-next.was) ∙ c.step_at.ensures)
 
 pub loop-i-preserved : goal.loop-i-preserved
-loop-i-preserved c = looking_at (looking_step c.loop-i.invariant c.loop-i-test.true (sym c.in-To.is ∙ c.step_at.ensures)) _ refl
+loop-i-preserved c = looking_at (looking_step c.loop-i.invariant c.loop-i-test.true (sym (ap step_found c.in_ok-next.was ∙ ap step_made c.in-To.is) ∙ c.step_at.ensures)) _ refl
 
 pub returns-then-is_leaf_at : goal.returns-then-is_leaf_at
 returns-then-is_leaf_at c = rw (sym c.is_leaf_at.ensures ∙ c.if-is_leaf_at.true) at (looking_done c.loop-i.invariant c.loop-i-test.false)
 
-pub returns : goal.returns
-returns c = rw (sym c.is_leaf_at.ensures ∙ c.if-is_leaf_at.false) at (looking_done c.loop-i.invariant c.loop-i-test.false)
+pub returns-else-is_leaf_at : goal.returns-else-is_leaf_at
+returns-else-is_leaf_at c = rw (sym c.is_leaf_at.ensures ∙ c.if-is_leaf_at.false) at (looking_done c.loop-i.invariant c.loop-i-test.false)

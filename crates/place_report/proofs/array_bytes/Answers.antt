@@ -8,11 +8,11 @@ returns-then-stride-size c = rw (lt-ltb _ _ c.if-stride-size.true)
 
 pub overflow_mul-all : goal.overflow_mul-all
 overflow_mul-all c =
-    let b = rw c.in-Carried.is at c.requires in
+    let b = rw c.in-Some.is at c.requires in
     record { fits = product_fits _ _ c.ranges.count.fits b }
 
-pub returns-in-Carried : goal.returns-in-Carried
-returns-in-Carried c = rw (le-ltb _ _ c.if-stride-size.false, c.in-Carried.is)
+pub returns-in-Some : goal.returns-in-Some
+returns-in-Some c = rw (le-ltb _ _ c.if-stride-size.false, c.in-Some.is)
 
-pub returns-in-Narrow : goal.returns-in-Narrow
-returns-in-Narrow c = rw (le-ltb _ _ c.if-stride-size.false, c.in-Narrow.is)
+pub returns-in-None : goal.returns-in-None
+returns-in-None c = rw (le-ltb _ _ c.if-stride-size.false, c.in-None.is)

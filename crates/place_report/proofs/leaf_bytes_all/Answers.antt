@@ -4,7 +4,7 @@ use mathlib.Core.Path.{refl, ◌∙◌}
 use Prim.Native.Nat.{◌*◌}
 use native.Mathlib.Omega.{arith}
 use lib.Seq.{length-take-le}
-use Rattle.place_report.proofs.PassLaws.{bounds-at}
+use Rattle.place_report.proofs.PassLaws.{bounds-at, narrow_told}
 use Rattle.place_report.proofs.FirstPass.{first_pass_start, first_pass_small, first_pass_done, first_pass_refused, first_pass_more}
 use Rattle.place_report.proofs.leaf_bytes_all.Goals as goal
 
@@ -37,16 +37,16 @@ returns-then-structured-narrow c =
     let s = c in let a = s.args in let l = c.loop-i in
     let ts = a.types.now in let ms = a.members.now in let rows = a.rows.now in
     let is = rw c.row_word-size.ensures at c.leaf_bytes_at-own.ensures in
-    let e = rw (c.is_struct-structured.ensures, c.is_narrow-narrow.ensures) at c.if-structured-narrow.true in
+    let e = rw (c.is_struct-structured.ensures, narrow_told c.leaf_bytes_at-own.result c.is_none-narrow.result c.is_none-narrow.ensures) at c.if-structured-narrow.true in
     let g = first_pass_refused ts ms rows a.report.now a.n l.report l.i l.invariant s.requires.rows_of s.requires.n_value s.requires.n_in_bounds c.loop-i-test.true c.leaf_bytes_at-own.result is e in
-    record { value = g.0; report_after = c.clear.ensures ∙ g.1 }
+    rw (c.at.ensures, c.of.ensures) record { value = g.0; report_after = c.clear.ensures ∙ g.1 }
 
 pub loop-i-preserved : goal.loop-i-preserved
 loop-i-preserved c =
     let s = c in let a = s.args in let l = c.loop-i in
     let ts = a.types.now in let ms = a.members.now in let rows = a.rows.now in
     let is = rw c.row_word-size.ensures at c.leaf_bytes_at-own.ensures in
-    let e = rw (c.is_struct-structured.ensures, c.is_narrow-narrow.ensures) at c.if-structured-narrow.false in
+    let e = rw (c.is_struct-structured.ensures, narrow_told c.leaf_bytes_at-own.result c.is_none-narrow.result c.is_none-narrow.ensures) at c.if-structured-narrow.false in
     rw c.put_leaf_bytes.ensures
     (first_pass_more ts ms rows a.report.now a.n l.report l.i l.invariant s.requires.rows_of s.requires.n_value s.requires.n_in_bounds c.loop-i-test.true c.leaf_bytes_at-own.result is e
     (rw (← c.row_word-size.ensures) (search rules)))

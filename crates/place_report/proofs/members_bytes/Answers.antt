@@ -14,22 +14,22 @@ overflow_add-total c =
     let l = c.loop-j in
     record {
       fits = adding_fits (entry_in a.report.now) s.requires a.part.now a.count l.j l.total l.invariant c.loop-j-test.true
-          s.ranges.count.fits _ (rw c.member_type.ensures at (sym c.entry.ensures ∙ c.in-Carried.is));
+          s.ranges.count.fits _ (rw c.member_type.ensures at (sym c.entry.ensures ∙ c.in-Some.is));
     }
 
-pub returns-in-Narrow : goal.returns-in-Narrow
-returns-in-Narrow c =
+pub returns-in-None : goal.returns-in-None
+returns-in-None c =
     let s = c in let a = s.args in
     let l = c.loop-j in
     adding_narrow (entry_in a.report.now) s.requires a.part.now a.count l.j l.total l.invariant c.loop-j-test.true
-    (rw c.member_type.ensures at (sym c.entry.ensures ∙ c.in-Narrow.is))
+    (rw c.member_type.ensures at (sym c.entry.ensures ∙ c.in-None.is))
 
 pub loop-j-preserved : goal.loop-j-preserved
 loop-j-preserved c =
     let s = c in let a = s.args in
     let l = c.loop-j in
     adding_more (entry_in a.report.now) s.requires a.part.now a.count l.j l.total l.invariant c.loop-j-test.true
-    _ (rw c.member_type.ensures at (sym c.entry.ensures ∙ c.in-Carried.is))
+    _ (rw c.member_type.ensures at (sym c.entry.ensures ∙ c.in-Some.is))
 
 pub returns : goal.returns
 returns c = rw (← le_antisymm c.loop-j.invariant.within c.loop-j-test.false) (sym c.loop-j.invariant.same)

@@ -1,7 +1,7 @@
 use Rattle.place_report.proofs.put_leaf_bytes.Goals as goal
 
-pub returns-in-Carried : goal.returns-in-Carried
-returns-in-Carried c = rw c.in-Carried.is c.put_pair.ensures
+pub returns-in-Some : goal.returns-in-Some
+returns-in-Some c = rw c.in-Some.is c.put_pair.ensures
 
-pub returns-in-Narrow : goal.returns-in-Narrow
-returns-in-Narrow c = rw c.in-Narrow.is c.put_pair-in-Narrow.ensures
+pub returns-in-None : goal.returns-in-None
+returns-in-None c = rw c.in-None.is c.put_pair-in-None.ensures

@@ -1,6 +1,6 @@
 -- `place_runs::fill` meets its contract. The invariant: `at` is where run j begins, and the answers of the runs before it stand in place. Assumes nothing.
 use mathlib.Core.Path.{◌≡◌}
-use Prim.Native.Nat.{◌≤◌, ◌-◌, ◌*◌}
+use Prim.Native.Nat.{◌*◌}
 use lib.ListN.{length, take, drop}
 use Rattle.ir_records.specs.Table.{flat}
 use Rattle.place_runs.specs.Runs.{run_at}
@@ -9,11 +9,7 @@ use Rattle.place_runs.proofs.fill.Given as goal
 
 abbrev pub invariant-loop-j : goal.invariant-loop-j
 invariant-loop-j l =
-    (l.j ≤ l.n)
-    × (l.at ≡ run_at l.queries l.j)
+    (l.at ≡ run_at l.queries l.j)
     × (take (l.j * 2) l.answers ≡ flat (pair_at l.accepted l.types l.members l.queries) l.j)
     × (drop (l.n * 2) l.answers ≡ drop (l.n * 2) l.initial.answers)
     × (length l.answers ≡ length l.initial.answers)
-
-abbrev pub decreases-loop-j : goal.decreases-loop-j
-decreases-loop-j l = l.n - l.j

@@ -1,7 +1,7 @@
 use Rattle.place_runs.proofs.put_place.Goals as goal
 
-pub returns-in-At : goal.returns-in-At
-returns-in-At c = rw c.in-At.is c.put_pair.ensures
+pub returns-in-Some : goal.returns-in-Some
+returns-in-Some c = rw c.in-Some.is c.put_pair.ensures
 
-pub returns-in-NoPlace : goal.returns-in-NoPlace
-returns-in-NoPlace c = rw c.in-NoPlace.is c.put_pair-in-NoPlace.ensures
+pub returns-in-None : goal.returns-in-None
+returns-in-None c = rw c.in-None.is c.put_pair-in-None.ensures

@@ -9,23 +9,23 @@ use Rattle.place_short.proofs.judge.Goals as goal
 pub overflow_cast-n : goal.overflow_cast-n
 overflow_cast-n c =
     let a = c.args in
-    let p = fits_parts a.capabilities (length a.types.now) (length a.members.now) (length a.scratch.now) (sym c.lengths_fit.ensures ∙ c.if-lengths_fit.true) in
+    let p = fits_parts a.capabilities (length a.types.now) (length a.members.now) (length a.scratch.now) (sym c.lengths_fit.ensures ∙ c.if-not-lengths_fit.false) in
     let f = tables_fitting (length a.types.now) (length a.members.now) _ p.tables in
     omega (arith, f.types)
 
 pub judge_tables-requires : goal.judge_tables-requires
 judge_tables-requires c =
     let a = c.args in
-    let p = fits_parts a.capabilities (length a.types.now) (length a.members.now) (length a.scratch.now) (sym c.lengths_fit.ensures ∙ c.if-lengths_fit.true) in
+    let p = fits_parts a.capabilities (length a.types.now) (length a.members.now) (length a.scratch.now) (sym c.lengths_fit.ensures ∙ c.if-not-lengths_fit.false) in
     record { n_value = refl; n_in_bounds = p.room }
-
-pub returns-then-lengths_fit : goal.returns-then-lengths_fit
-unfolding short_answer short_words
-returns-then-lengths_fit c =
-    let fits = sym c.lengths_fit.ensures ∙ c.if-lengths_fit.true in
-    let answer = c.judge_tables.ensures.value in
-    record { value = rw fits answer; scratch_after = rw fits (rw (← answer) c.judge_tables.ensures.words_after) }
 
 pub returns : goal.returns
 unfolding short_answer short_words
-returns c = let fits = sym c.lengths_fit.ensures ∙ c.if-lengths_fit.false in record { value = rw fits refl; scratch_after = rw fits refl }
+returns c =
+    let fits = sym c.lengths_fit.ensures ∙ c.if-not-lengths_fit.false in
+    let answer = c.judge_tables.ensures.value in
+    record { value = rw fits answer; scratch_after = rw fits (rw (← answer) c.judge_tables.ensures.words_after) }
+
+pub returns-then-not-lengths_fit : goal.returns-then-not-lengths_fit
+unfolding short_answer short_words
+returns-then-not-lengths_fit c = let fits = sym c.lengths_fit.ensures ∙ c.if-not-lengths_fit.true in record { value = rw (fits, c.of.ensures) refl; scratch_after = rw fits refl }

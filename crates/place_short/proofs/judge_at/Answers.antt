@@ -1,3 +1,8 @@
+use Rattle.std.proofs.Common.{rules, Err, Ok, ◌≡◌, ap}
+use Rattle.ir_records.specs.Result.{ok}
+use Rattle.ir_records.specs.Refusal.{judged, outcome_of}
+use Rattle.ir_records.proofs.RefusalLaws.{judged_at_type}
+use Rattle.place_short.proofs.RefusedLaws.{stopped, unwritten}
 use mathlib.Core.Path.{refl, sym, ◌∙◌}
 use Prim.Native.Nat.{◌*◌}
 use native.Mathlib.Omega.{arith}
@@ -10,36 +15,52 @@ use Rattle.place_short.proofs.judge_at.Goals as goal
 pub slice_bounds-layout_of-end-2 : goal.slice_bounds-layout_of-end-2
 slice_bounds-layout_of-end-2 c = let a = c.args in sym (length-take-le (a.i * 3) a.words.now (omega (arith, c.requires.i_in_bounds)))
 
-pub layout_of-requires : goal.layout_of-requires
-layout_of-requires c = let a = c.args in rw c.type_inner-inner.ensures (record_bounds a.types.now a.members.now a.i c.requires.i_value)
+pub layout_of-judged-requires : goal.layout_of-judged-requires
+layout_of-judged-requires c = let a = c.args in rw c.type_inner-inner.ensures (record_bounds a.types.now a.members.now a.i c.requires.i_value)
 
-pub slice_bounds-flags_of-end-in-Layout : goal.slice_bounds-flags_of-end-in-Layout
-slice_bounds-flags_of-end-in-Layout c = let a = c.args in sym (length-take-le (a.i * 3) a.words.now (omega (arith, c.requires.i_in_bounds)))
+pub slice_bounds-flags_of-end-2 : goal.slice_bounds-flags_of-end-2
+slice_bounds-flags_of-end-2 c = let a = c.args in sym (length-take-le (a.i * 3) a.words.now (omega (arith, c.requires.i_in_bounds)))
 
-pub flags_of-requires : goal.flags_of-requires
-flags_of-requires c =
+pub flags_of-flagged-requires : goal.flags_of-flagged-requires
+flags_of-flagged-requires c =
     let a = c.args in
     λ count span e. rw c.struct_members-part.ensures (struct_part a.types.now a.members.now a.i (omega (arith, c.requires.i_in_bounds_2)) c.requires.i_value count span (sym c.type_inner-inner.ensures ∙ e))
 
 pub put_three-requires : goal.put_three-requires
 put_three-requires c = c.requires.i_in_bounds
 
-pub returns-in-Flags : goal.returns-in-Flags
+pub returns : goal.returns
 unfolding three_from
-returns-in-Flags c =
-    let laid = sym (rw (c.in-Layout.is, c.type_inner-inner.ensures, c.struct_members-part.ensures) at c.layout_of.ensures) in
-    let flagged = sym (rw (c.in-Flags.is, c.type_inner-inner.ensures, c.struct_members-part.ensures) at c.flags_of.ensures) in
+returns c =
+    let a = c.args in
+    let made = judged_at_type c.layout_of-judged.result a.i c.in_ok-layout.layout (sym c.at_type.ensures ∙ c.in_ok-layout.was) in
+    let laid = sym (rw (made, c.type_inner-inner.ensures, c.struct_members-part.ensures) at c.layout_of-judged.ensures) in
+    let given = judged_at_type c.flags_of-flagged.result a.i c.in_ok-flags.flags (sym c.at_type-2.ensures ∙ c.in_ok-flags.was) in
+    let flagged = sym (rw (given, c.type_inner-inner.ensures, c.struct_members-part.ensures) at c.flags_of-flagged.ensures) in
     record { value = rw (laid, flagged) refl; words_after = rw (laid, flagged) c.put_three.ensures }
 
-pub returns-in-Refused-flags_of : goal.returns-in-Refused-flags_of
+pub returns-in_err-flags : goal.returns-in_err-flags
 unfolding three_from
-returns-in-Refused-flags_of c =
-    let laid = sym (rw (c.in-Layout.is, c.type_inner-inner.ensures, c.struct_members-part.ensures) at c.layout_of.ensures) in
-    let flagged = sym (rw (c.in-Refused-flags_of.is, c.type_inner-inner.ensures, c.struct_members-part.ensures) at c.flags_of.ensures) in
-    record { value = rw (laid, flagged) refl; words_after = rw (laid, flagged) refl }
+returns-in_err-flags c =
+    let a = c.args in
+    let made = judged_at_type c.layout_of-judged.result a.i c.in_ok-layout.layout (sym c.at_type.ensures ∙ c.in_ok-layout.was) in
+    let laid = sym (rw (made, c.type_inner-inner.ensures, c.struct_members-part.ensures) at c.layout_of-judged.ensures) in
+    let same : c.from_residual-in_err-flags.result ≡ Err c.in_err-flags.field-0.0 = search rules in
+    let met = sym c.at_type-2.ensures ∙ c.in_err-flags.was in
+    let flagged = rw (c.type_inner-inner.ensures, c.struct_members-part.ensures) at c.flags_of-flagged.ensures in
+    record {
+      value = ap outcome_of same ∙ rw (laid, ← flagged) (stopped c.flags_of-flagged.result a.i c.in_err-flags.field-0.0 _ met);
+      words_after = rw (laid, ← flagged) (sym (unwritten c.flags_of-flagged.result a.i c.in_err-flags.field-0.0 _ met _ _));
+    }
 
-pub returns-in-Refused : goal.returns-in-Refused
+pub returns-in_err-layout : goal.returns-in_err-layout
 unfolding three_from
-returns-in-Refused c =
-    let laid = sym (rw (c.in-Refused.is, c.type_inner-inner.ensures, c.struct_members-part.ensures) at c.layout_of.ensures) in
-    record { value = rw laid refl; words_after = rw laid refl }
+returns-in_err-layout c =
+    let r = c.layout_of-judged.result in
+    let same : c.from_residual.result ≡ Err c.in_err-layout.field-0.0 = search rules in
+    let met = sym c.at_type.ensures ∙ c.in_err-layout.was in
+    let laid = rw (c.type_inner-inner.ensures, c.struct_members-part.ensures) at c.layout_of-judged.ensures in
+    record {
+      value = ap outcome_of same ∙ rw (← laid) (stopped r c.args.i c.in_err-layout.field-0.0 _ met);
+      words_after = rw (← laid) (sym (unwritten r c.args.i c.in_err-layout.field-0.0 _ met _ _));
+    }

@@ -1,20 +1,24 @@
+use Rattle.ir_records.specs.Refusal.{outcome_of}
+use Rattle.ir_records.proofs.RefusalLaws.{no_refusal, some_refusal}
 use mathlib.Core.Path.{sym, ◌∙◌}
 use native.Mathlib.Omega.{arith}
-use Rattle.place_short.proofs.OutcomeLaws.{arena_records}
+use Rattle.place_short.proofs.RefusedLaws.{refused_records, zero_scratch}
 use Rattle.place_short.proofs.judge_tables.Goals as goal
 
 pub judge_records-requires : goal.judge_records-requires
 judge_records-requires c =
-    record { n_value = c.requires.n_value; n_in_bounds = c.requires.n_in_bounds; n_value_2 = sym c.records_ok-found.ensures ∙ c.in-Accepted.is }
+    record { n_value = c.requires.n_value; n_in_bounds = c.requires.n_in_bounds; n_value_2 = sym c.records_ok-found.ensures ∙ no_refusal c.records_ok-found.result (sym c.is_err.ensures.value ∙ c.if-is_err.false) }
 
 pub clear-requires : goal.clear-requires
 clear-requires c = omega (arith, c.requires.n_in_bounds)
 
-pub returns-in-Accepted : goal.returns-in-Accepted
-returns-in-Accepted c = c.judge_records.ensures
+pub returns : goal.returns
+returns c = c.judge_records.ensures
 
-pub returns-in-Refused : goal.returns-in-Refused
-returns-in-Refused c =
+pub returns-then-is_err : goal.returns-then-is_err
+returns-then-is_err c =
     let a = c.args in
-    let e = c.in-Refused.is in
-    record { value = e ∙ sym (arena_records a.capabilities a.types.now a.members.now (rw c.requires.n_value at (sym c.records_ok-found.ensures ∙ e))); words_after = rw e c.clear.ensures }
+    let found = c.records_ok-found in
+    let e = some_refusal found.result (sym c.is_err.ensures.value ∙ c.if-is_err.true) in
+    let told = rw c.requires.n_value at found.ensures in
+    record { value = refused_records a.capabilities a.types.now a.members.now (outcome_of found.result) e told; words_after = rw (zero_scratch (outcome_of found.result) e a.capabilities a.types.now a.members.now a.n a.words.now) c.clear.ensures }

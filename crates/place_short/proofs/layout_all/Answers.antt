@@ -1,7 +1,8 @@
 -- `place_short::layout_all` meets its contract. The invariant: the first i types pass numbers 4 to 7, their layouts stand in their words, and what stands
 -- behind the words of n types is as it was. Assumes nothing.
-use borrow.Author.Rules.{rules}
-use mathlib.Core.Path.{◌≡◌, refl, sym, ◌∙◌}
+use Rattle.std.proofs.Common.{rules, Err}
+use Rattle.ir_records.specs.Refusal.{outcome_of}
+use mathlib.Core.Path.{◌≡◌, refl, sym, ap, ◌∙◌}
 use Prim.Native.Nat.{◌≤◌, ◌+◌, ◌*◌}
 use native.Mathlib.Nat.{le_antisymm}
 use native.Mathlib.Numerals.{add-one}
@@ -15,24 +16,22 @@ use Rattle.place_short.specs.Serving.{laid_from}
 use Rattle.place_short.proofs.ShortLaws.{laid_at, laid_wide, laid_outcome, laid_three, three_written, rest_kept}
 use Rattle.place_short.proofs.layout_all.Goals as goal
 
-pub loop-i-init : goal.loop-i-init
-loop-i-init c = (search rules, refl, refl, refl, refl)
-
-pub layout_at-found-requires : goal.layout_at-found-requires
-layout_at-found-requires c =
+pub layout_at-requires : goal.layout_at-requires
+layout_at-requires c =
     let a = c.args in
     let l = c.loop-i in
-    record { i_in_bounds = omega (arith, c.requires.n_in_bounds, c.loop-i-test.true, l.invariant.4); i_value = (all_ok (record_at a.types.now a.members.now) a.n c.requires.n_value l.i c.loop-i-test.true).1 }
+    record { i_in_bounds = omega (arith, c.requires.n_in_bounds, c.loop-i-test.true, l.invariant.3); i_value = (all_ok (record_at a.types.now a.members.now) a.n c.requires.n_value l.i c.loop-i-test.true).1 }
 
-pub returns-in-Refused : goal.returns-in-Refused
-returns-in-Refused c =
+pub returns-in_err-layout_at : goal.returns-in_err-layout_at
+returns-in_err-layout_at c =
     let a = c.args in
     let ts = a.types.now in
     let ms = a.members.now in
     let l = c.loop-i in
-    let at = c.layout_at-found in
+    let at = c.layout_at in
     let below = c.loop-i-test.true in
-    let refused = sym (laid_outcome ts ms (take (l.i * 3) l.words) l.i l.invariant.2) ∙ sym at.ensures.value ∙ c.in-Refused.is in record { value = c.in-Refused.is ∙ sym (stays (layout_at (decoded ts ms)) l.i l.invariant.1 refused a.n below); words_unchanged = rest_kept (laid_at ts ms) (laid_wide ts ms) l.i l.words _ (laid_from ts ms (take (l.i * 3) l.words) l.i) l.invariant.2 at.ensures.words_after (laid_three ts ms (take (l.i * 3) l.words) l.i l.invariant.2) (omega (arith, c.requires.n_in_bounds, below, l.invariant.4)) a.n below ∙ l.invariant.3 }
+    let same : c.from_residual.result ≡ Err c.in_err-layout_at.field-0.0 = search rules in
+    let refused = sym (laid_outcome ts ms (take (l.i * 3) l.words) l.i l.invariant.1) ∙ sym at.ensures.value ∙ ap outcome_of c.in_err-layout_at.was in record { value = ap outcome_of same ∙ sym (stays (layout_at (decoded ts ms)) l.i l.invariant.0 refused a.n below); words_unchanged = rest_kept (laid_at ts ms) (laid_wide ts ms) l.i l.words _ (laid_from ts ms (take (l.i * 3) l.words) l.i) l.invariant.1 at.ensures.words_after (laid_three ts ms (take (l.i * 3) l.words) l.i l.invariant.1) (omega (arith, c.requires.n_in_bounds, below, l.invariant.3)) a.n below ∙ l.invariant.2 }
 
 pub loop-i-preserved : goal.loop-i-preserved
 loop-i-preserved c =
@@ -40,20 +39,19 @@ loop-i-preserved c =
     let ts = a.types.now in
     let ms = a.members.now in
     let l = c.loop-i in
-    let at = c.layout_at-found in
+    let at = c.layout_at in
     let below = c.loop-i-test.true in
-    let room : l.i * 3 + 3 ≤ length l.words = omega (arith, c.requires.n_in_bounds, below, l.invariant.4) in
-    let told = sym at.ensures.value ∙ c.in-Accepted.is in
-    let passed = sym (laid_outcome ts ms (take (l.i * 3) l.words) l.i l.invariant.2) ∙ told in (
-      omega (arith, below),
-      rw (add-one, l.invariant.1, passed) refl,
-      three_written (laid_at ts ms) (laid_wide ts ms) l.i l.words _ (laid_from ts ms (take (l.i * 3) l.words) l.i) l.invariant.2 at.ensures.words_after (laid_three ts ms (take (l.i * 3) l.words) l.i l.invariant.2) room told,
-      rest_kept (laid_at ts ms) (laid_wide ts ms) l.i l.words _ (laid_from ts ms (take (l.i * 3) l.words) l.i) l.invariant.2 at.ensures.words_after (laid_three ts ms (take (l.i * 3) l.words) l.i l.invariant.2) room a.n below ∙ l.invariant.3,
-      at.auto.words ∙ l.invariant.4,
+    let room : l.i * 3 + 3 ≤ length l.words = omega (arith, c.requires.n_in_bounds, below, l.invariant.3) in
+    let told = sym at.ensures.value ∙ ap outcome_of c.in_ok-layout_at.was in
+    let passed = sym (laid_outcome ts ms (take (l.i * 3) l.words) l.i l.invariant.1) ∙ told in (
+      rw (add-one, l.invariant.0, passed) refl,
+      three_written (laid_at ts ms) (laid_wide ts ms) l.i l.words _ (laid_from ts ms (take (l.i * 3) l.words) l.i) l.invariant.1 at.ensures.words_after (laid_three ts ms (take (l.i * 3) l.words) l.i l.invariant.1) room told,
+      rest_kept (laid_at ts ms) (laid_wide ts ms) l.i l.words _ (laid_from ts ms (take (l.i * 3) l.words) l.i) l.invariant.1 at.ensures.words_after (laid_three ts ms (take (l.i * 3) l.words) l.i l.invariant.1) room a.n below ∙ l.invariant.2,
+      at.auto.words ∙ l.invariant.3,
     )
 
 pub returns : goal.returns
 returns c =
     let l = c.loop-i in
-    let end : l.i ≡ c.args.n = le_antisymm l.invariant.0 c.loop-i-test.false in
-    record { value = rw end at (sym l.invariant.1); words_unchanged = l.invariant.3 }
+    let end : l.i ≡ c.args.n = le_antisymm l.auto.i-end c.loop-i-test.false in
+    record { value = rw end at (sym l.invariant.0); words_unchanged = l.invariant.2 }

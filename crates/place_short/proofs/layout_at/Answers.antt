@@ -1,4 +1,9 @@
-use mathlib.Core.Path.{refl, sym}
+use Rattle.std.proofs.Common.{rules, Err, Ok, ◌≡◌, ap}
+use Rattle.ir_records.specs.Result.{ok}
+use Rattle.ir_records.specs.Refusal.{judged, outcome_of}
+use Rattle.ir_records.proofs.RefusalLaws.{judged_at_type}
+use Rattle.place_short.proofs.RefusedLaws.{stopped, unwritten}
+use mathlib.Core.Path.{refl, sym, ◌∙◌}
 use Prim.Native.Nat.{◌*◌}
 use native.Mathlib.Omega.{arith}
 use lib.Seq.{length-take-le}
@@ -9,20 +14,28 @@ use Rattle.place_short.proofs.layout_at.Goals as goal
 pub slice_bounds-layout_of-end-2 : goal.slice_bounds-layout_of-end-2
 slice_bounds-layout_of-end-2 c = let a = c.args in sym (length-take-le (a.i * 3) a.words.now (omega (arith, c.requires.i_in_bounds)))
 
-pub layout_of-requires : goal.layout_of-requires
-layout_of-requires c = let a = c.args in rw c.type_inner-inner.ensures (record_bounds a.types.now a.members.now a.i c.requires.i_value)
+pub layout_of-judged-requires : goal.layout_of-judged-requires
+layout_of-judged-requires c = let a = c.args in rw c.type_inner-inner.ensures (record_bounds a.types.now a.members.now a.i c.requires.i_value)
 
 pub put_three-requires : goal.put_three-requires
 put_three-requires c = c.requires.i_in_bounds
 
-pub returns-in-Layout : goal.returns-in-Layout
+pub returns : goal.returns
 unfolding laid_from
-returns-in-Layout c =
-    let laid = sym (rw (c.in-Layout.is, c.type_inner-inner.ensures, c.struct_members-part.ensures) at c.layout_of.ensures) in
+returns c =
+    let r = c.layout_of-judged.result in
+    let made = judged_at_type r c.args.i c.in_ok-layout.layout (sym c.at_type.ensures ∙ c.in_ok-layout.was) in
+    let laid = sym (rw (made, c.type_inner-inner.ensures, c.struct_members-part.ensures) at c.layout_of-judged.ensures) in
     record { value = rw laid refl; words_after = rw laid c.put_three.ensures }
 
-pub returns-in-Refused : goal.returns-in-Refused
+pub returns-in_err-layout : goal.returns-in_err-layout
 unfolding laid_from
-returns-in-Refused c =
-    let laid = sym (rw (c.in-Refused.is, c.type_inner-inner.ensures, c.struct_members-part.ensures) at c.layout_of.ensures) in
-    record { value = rw laid refl; words_after = rw laid refl }
+returns-in_err-layout c =
+    let r = c.layout_of-judged.result in
+    let same : c.from_residual.result ≡ Err c.in_err-layout.field-0.0 = search rules in
+    let met = sym c.at_type.ensures ∙ c.in_err-layout.was in
+    let laid = rw (c.type_inner-inner.ensures, c.struct_members-part.ensures) at c.layout_of-judged.ensures in
+    record {
+      value = ap outcome_of same ∙ rw (← laid) (stopped r c.args.i c.in_err-layout.field-0.0 _ met);
+      words_after = rw (← laid) (sym (unwritten r c.args.i c.in_err-layout.field-0.0 _ met _ _));
+    }

@@ -1,7 +1,6 @@
 -- `place_short_flags::members_of` meets its contract. The invariant: bounds and previous are what the definitions have after j members, and where
 -- sources is 0 none of them has a blend source. Assumes nothing.
 use mathlib.Core.Path.{◌≡◌}
-use Prim.Native.Nat.{◌≤◌, ◌-◌}
 use Rattle.ir_records.specs.Result.{ok}
 use Rattle.ir_records.specs.Record.{type_inner, Sourceless}
 use Rattle.valid_type_info.specs.Verdict.{previous_of}
@@ -11,10 +10,6 @@ use Rattle.place_short_flags.proofs.members_of.Given as goal
 
 abbrev pub invariant-loop-j : goal.invariant-loop-j
 invariant-loop-j l =
-    (l.j ≤ l.count)
-    × (bounds_after (type_inner l.types) (short_sizes l.words) (short_flags l.words) l.count l.span l.part l.j ≡ ok l.bounds)
+    (bounds_after (type_inner l.types) (short_sizes l.words) (short_flags l.words) l.count l.span l.part l.j ≡ ok l.bounds)
     × (l.previous ≡ previous_of (type_inner l.types) l.part l.j)
     × (l.sources ≡ 0 → Sourceless l.part l.j)
-
-abbrev pub decreases-loop-j : goal.decreases-loop-j
-decreases-loop-j l = l.count - l.j

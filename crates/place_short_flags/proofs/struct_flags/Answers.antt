@@ -1,3 +1,4 @@
+use Rattle.std.proofs.Common.{rules, Err, ◌≡◌}
 use mathlib.Core.Path.{refl, sym, ◌∙◌, ap}
 use Prim.Native.Nat.{◌<◌}
 use native.Mathlib.Omega.{arith}
@@ -5,7 +6,7 @@ use borrow.Author.Tests.{lt-ltb}
 use Rattle.ir_records.specs.Record.{type_inner}
 use Rattle.valid_flags.specs.Flags.{bit}
 use Rattle.valid_width.specs.Width.{dual_source_blending}
-use Rattle.valid_blend.specs.Serving.{source_answer, blend_answer}
+use Rattle.ir_records.specs.Refusal.{judged}
 use Rattle.valid_blend.proofs.BlendLaws.{blended_refused, flags_taken, flags_refused}
 use Rattle.valid_types.specs.ValidateType.{flags_of}
 use Rattle.place_short_flags.specs.ShortFlags.{short_sizes, short_flags}
@@ -14,53 +15,45 @@ use Rattle.place_short_flags.proofs.struct_flags.Goals as goal
 
 pub returns-then-count-eq0 : goal.returns-then-count-eq0
 unfolding flags_of
-returns-then-count-eq0 c = rw c.if-count-eq0.true refl
+returns-then-count-eq0 c = rw (c.if-count-eq0.true, c.of.ensures) refl
 
 pub blended_flags-requires : goal.blended_flags-requires
 blended_flags-requires c =
-    record { part_len = c.requires; sourceless = rw c.in-Members.is at c.members_of.ensures.sources_known }
+    record { part_len = c.requires; sourceless = rw c.in-Ok.is at c.members_of.ensures.sources_known }
 
 pub source_before-requires : goal.source_before-requires
 source_before-requires c =
     let a = c.args in
-    let error = sym (rw c.in-Refused.is at c.members_of.ensures.result_value) in
+    let error = sym (rw c.in-Err.is at c.members_of.ensures.result_value) in
     let below = (blended_refused (bit a.capabilities dual_source_blending) (type_inner a.types.now) (short_sizes a.words.now) (short_flags a.words.now) a.count a.span a.part.now a.count _ _ _ error).0 in
     record { member_words_in_bounds = omega (arith, below, c.requires); member_bound = omega (arith, below, c.ranges); sourceless = λ e. absurd (not_false_too e) }
 
-pub returns-in-Flags : goal.returns-in-Flags
+pub returns-in-Ok : goal.returns-in-Ok
 unfolding flags_of
-returns-in-Flags c =
+returns-in-Ok c =
     let a = c.args in
     let some : 0 < a.count = omega (arith, c.if-count-eq0.false) in
-    let taken = sym (rw c.in-Members.is at c.members_of.ensures.result_value) in
-    let flags = flags_taken (bit a.capabilities dual_source_blending) (type_inner a.types.now) (short_sizes a.words.now) (short_flags a.words.now) a.count a.span a.part.now _ taken ∙ sym c.blended_flags.ensures ∙ ap blend_answer c.in-Flags.is in
+    let taken = sym (rw c.in-Ok.is at c.members_of.ensures.result_value) in
+    let flags = flags_taken (bit a.capabilities dual_source_blending) (type_inner a.types.now) (short_sizes a.words.now) (short_flags a.words.now) a.count a.span a.part.now _ taken ∙ sym c.blended_flags.ensures in
     rw (lt-ltb 0 a.count some, flags) refl
 
-pub returns-in-Refused-blended_flags : goal.returns-in-Refused-blended_flags
+pub returns-in_ok-source_before-in-Err : goal.returns-in_ok-source_before-in-Err
 unfolding flags_of
-returns-in-Refused-blended_flags c =
+returns-in_ok-source_before-in-Err c =
     let a = c.args in
     let some : 0 < a.count = omega (arith, c.if-count-eq0.false) in
-    let taken = sym (rw c.in-Members.is at c.members_of.ensures.result_value) in
-    let flags = flags_taken (bit a.capabilities dual_source_blending) (type_inner a.types.now) (short_sizes a.words.now) (short_flags a.words.now) a.count a.span a.part.now _ taken ∙ sym c.blended_flags.ensures ∙ ap blend_answer c.in-Refused-blended_flags.is in
-    rw (lt-ltb 0 a.count some, flags) refl
-
-pub returns-in-Fine : goal.returns-in-Fine
-unfolding flags_of
-returns-in-Fine c =
-    let a = c.args in
-    let some : 0 < a.count = omega (arith, c.if-count-eq0.false) in
-    let error = sym (rw c.in-Refused.is at c.members_of.ensures.result_value) in
-    let source = sym c.source_before.ensures ∙ ap source_answer c.in-Fine.is in
+    let error = sym (rw c.in-Err.is at c.members_of.ensures.result_value) in
+    let source = sym c.source_before.ensures ∙ ap judged c.in_ok-source_before-in-Err.was in
     let flags = flags_refused (bit a.capabilities dual_source_blending) (type_inner a.types.now) (short_sizes a.words.now) (short_flags a.words.now) a.count a.span a.part.now _ _ _ error in
     rw (lt-ltb 0 a.count some, flags, source) refl
 
-pub returns-in-Refused-source_before : goal.returns-in-Refused-source_before
+pub returns-in_err-source_before-in-Err : goal.returns-in_err-source_before-in-Err
 unfolding flags_of
-returns-in-Refused-source_before c =
+returns-in_err-source_before-in-Err c =
     let a = c.args in
     let some : 0 < a.count = omega (arith, c.if-count-eq0.false) in
-    let error = sym (rw c.in-Refused.is at c.members_of.ensures.result_value) in
-    let source = sym c.source_before.ensures ∙ ap source_answer c.in-Refused-source_before.is in
+    let error = sym (rw c.in-Err.is at c.members_of.ensures.result_value) in
+    let source = sym c.source_before.ensures ∙ ap judged c.in_err-source_before-in-Err.was in
+    let same : c.from_residual.result ≡ Err c.in_err-source_before-in-Err.field-0.0 = search rules in
     let flags = flags_refused (bit a.capabilities dual_source_blending) (type_inner a.types.now) (short_sizes a.words.now) (short_flags a.words.now) a.count a.span a.part.now _ _ _ error in
-    rw (lt-ltb 0 a.count some, flags, source) refl
+    rw (lt-ltb 0 a.count some, flags, source) (ap judged same)

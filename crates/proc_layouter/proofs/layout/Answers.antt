@@ -6,18 +6,18 @@ use Rattle.proc_layouter.specs.Layouter.{layout_answer, layout_words}
 use Rattle.proc_layouter.proofs.layout.Goals as goal
 
 pub overflow_cast-n : goal.overflow_cast-n
-overflow_cast-n c = let a = c.args in let f = tables_fitting (length a.types.now) (length a.members.now) (length a.rows.now) (sym c.tables_fit.ensures ∙ c.if-tables_fit.true) in omega arith
+overflow_cast-n c = let a = c.args in let f = tables_fitting (length a.types.now) (length a.members.now) (length a.rows.now) (sym c.tables_fit.ensures ∙ c.if-not-tables_fit.false) in omega arith
 
 pub layout_tables-requires : goal.layout_tables-requires
-layout_tables-requires c = let a = c.args in let f = tables_fitting (length a.types.now) (length a.members.now) (length a.rows.now) (sym c.tables_fit.ensures ∙ c.if-tables_fit.true) in record { n_in_bounds = f.rows; n_value = refl }
+layout_tables-requires c = let a = c.args in let f = tables_fitting (length a.types.now) (length a.members.now) (length a.rows.now) (sym c.tables_fit.ensures ∙ c.if-not-tables_fit.false) in record { n_in_bounds = f.rows; n_value = refl }
 
-pub returns-then-tables_fit : goal.returns-then-tables_fit
+pub returns-then-not-tables_fit : goal.returns-then-not-tables_fit
 unfolding layout_answer layout_words
-returns-then-tables_fit c =
-    let fits = sym c.tables_fit.ensures ∙ c.if-tables_fit.true in
-    let answer = c.layout_tables.ensures.value in
-    record { value = rw fits answer; rows_after = rw fits (rw (← answer) c.layout_tables.ensures.rows_after) }
+returns-then-not-tables_fit c = let fits = sym c.tables_fit.ensures ∙ c.if-not-tables_fit.true in record { value = rw (fits, c.of.ensures) refl; rows_after = rw fits refl }
 
 pub returns : goal.returns
 unfolding layout_answer layout_words
-returns c = let fits = sym c.tables_fit.ensures ∙ c.if-tables_fit.false in record { value = rw fits refl; rows_after = rw fits refl }
+returns c =
+    let fits = sym c.tables_fit.ensures ∙ c.if-not-tables_fit.false in
+    let answer = c.layout_tables.ensures.value in
+    record { value = rw fits answer; rows_after = rw fits (rw (← answer) c.layout_tables.ensures.rows_after) }

@@ -1,11 +1,12 @@
 -- `proc_plain_types::plain` meets its contract: each arm knows the width. Assumes nothing.
+use mathlib.Core.Path.{refl}
 use borrow.Author.Tests.{le-leb, lt-leb, ne_eqb}
 use Rattle.proc_plain_types.specs.PlainTypes.{most_shape, plain_answer}
 use Rattle.proc_plain_types.proofs.plain.Goals as goal
 
 pub returns-then-shape-gt-MOST_SHAPE : goal.returns-then-shape-gt-MOST_SHAPE
 unfolding plain_answer
-returns-then-shape-gt-MOST_SHAPE c = rw (lt-leb _ most_shape c.if-shape-gt-MOST_SHAPE.true) c.another.ensures
+returns-then-shape-gt-MOST_SHAPE c = rw (lt-leb _ most_shape c.if-shape-gt-MOST_SHAPE.true, c.of.ensures) refl
 
 pub returns-in-1 : goal.returns-in-1
 unfolding plain_answer
@@ -27,4 +28,4 @@ pub returns-in_default : goal.returns-in_default
 unfolding plain_answer
 returns-in_default c =
     let r = c.in_default.in_default-own.rest in
-    rw (le-leb _ most_shape c.if-shape-gt-MOST_SHAPE.false, ne_eqb _ 8 r.1, ne_eqb _ 4 r.0.1, ne_eqb _ 2 r.0.0.1, ne_eqb _ 1 r.0.0.0.1) c.another-in_default.ensures
+    rw (le-leb _ most_shape c.if-shape-gt-MOST_SHAPE.false, ne_eqb _ 8 r.1, ne_eqb _ 4 r.0.1, ne_eqb _ 2 r.0.0.1, ne_eqb _ 1 r.0.0.0.1, c.of-in_default.ensures) refl

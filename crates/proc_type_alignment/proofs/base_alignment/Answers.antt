@@ -3,6 +3,3 @@ use Rattle.proc_type_alignment.proofs.base_alignment.Goals as goal
 
 pub returns-then-base-i : goal.returns-then-base-i
 returns-then-base-i c = rw (lt-ltb _ _ c.if-base-i.true, c.row_word.ensures)
-
-pub returns-else-base-i : goal.returns-else-base-i
-returns-else-base-i c = rw (le-ltb _ _ c.if-base-i.false)

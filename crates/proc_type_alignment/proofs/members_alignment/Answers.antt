@@ -12,14 +12,14 @@ use Rattle.proc_type_alignment.proofs.members_alignment.Goals as goal
 
 pub loop-j-init : goal.loop-j-init
 unfolding members_alignment
-loop-j-init c = (search rules, refl, λ e j h. absurd (omega (arith, h)))
+loop-j-init c = (refl, λ e j h. absurd (omega (arith, h)))
 
 pub returns-then-i-ty : goal.returns-then-i-ty
 returns-then-i-ty c =
     let l = c.loop-j in
     let a = c.args in
     let late = rw c.own_type-ty.ensures at c.if-i-ty.true in
-    rw (member_late (layouts_in a.rows.now) a.i a.part.now l.j l.a l.invariant.1 late a.count c.loop-j-test.true)
+    rw (member_late (layouts_in a.rows.now) a.i a.part.now l.j l.a l.invariant.0 late a.count c.loop-j-test.true)
     c.late_member.ensures
 
 pub loop-j-preserved : goal.loop-j-preserved
@@ -27,18 +27,17 @@ loop-j-preserved c =
     let l = c.loop-j in
     let a = c.args in
     let earlier = rw c.own_type-ty.ensures at c.if-i-ty.false in
-    let step = member_earlier (layouts_in a.rows.now) a.i a.part.now l.j l.a l.invariant.1 earlier in (
-      search rules,
-      rw (c.larger-a.ensures, c.own_word.ensures, c.own_type-ty.ensures) step,
-      λ e. one_more_sourceless a.part.now l.j l.sources l.invariant.2 (rw c.own_source-sources.ensures at e),
+    let step = member_earlier (layouts_in a.rows.now) a.i a.part.now l.j l.a l.invariant.0 earlier in (
+      rw (c.max-a.ensures, c.own_word.ensures, c.own_type-ty.ensures) step,
+      λ e. one_more_sourceless a.part.now l.j l.sources l.invariant.1 (rw c.own_source-sources.ensures at e),
     )
 
 pub with_sources-requires : goal.with_sources-requires
 with_sources-requires c =
     let l = c.loop-j in
-    λ e j h. l.invariant.2 e j (omega (arith, h, c.requires.part_len, c.loop-j-test.false))
+    λ e j h. l.invariant.1 e j (omega (arith, h, c.requires.part_len, c.loop-j-test.false))
 
 pub returns : goal.returns
 returns c =
     let l = c.loop-j in
-    rw (rw (le_antisymm l.invariant.0 c.loop-j-test.false) at l.invariant.1) c.with_sources.ensures
+    rw (rw (le_antisymm l.auto.j-end c.loop-j-test.false) at l.invariant.0) c.with_sources.ensures

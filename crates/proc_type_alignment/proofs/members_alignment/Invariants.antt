@@ -2,7 +2,6 @@
 -- alignment, and where sources is 0 none of them has a blend source.
 -- Assumes nothing.
 use mathlib.Core.Path.{◌≡◌}
-use Prim.Native.Nat.{◌≤◌, ◌-◌}
 use Rattle.ir_records.specs.Result.{ok}
 use Rattle.ir_records.specs.Record.{Sourceless}
 use Rattle.proc_type_alignment.specs.TypeAlignment.{members_alignment}
@@ -11,7 +10,4 @@ use Rattle.proc_type_alignment.proofs.members_alignment.Given as goal
 
 abbrev pub invariant-loop-j : goal.invariant-loop-j
 invariant-loop-j l =
-    (l.j ≤ l.count) × (members_alignment (layouts_in l.rows) l.i l.part l.j ≡ ok l.a) × (l.sources ≡ 0 → Sourceless l.part l.j)
-
-abbrev pub decreases-loop-j : goal.decreases-loop-j
-decreases-loop-j l = l.count - l.j
+    (members_alignment (layouts_in l.rows) l.i l.part l.j ≡ ok l.a) × (l.sources ≡ 0 → Sourceless l.part l.j)

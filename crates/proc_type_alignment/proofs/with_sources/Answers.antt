@@ -13,6 +13,3 @@ returns-then-sources-eq0 c =
 
 pub returns-then-sources_located : goal.returns-then-sources_located
 returns-then-sources_located c = rw (sym c.sources_located.ensures ∙ c.if-sources_located.true) record { result_value = refl; sources_told = λ e. let z : ◌≡◌ {A = ℕ} 0 1 = cc in absurd (omega arith) }
-
-pub returns : goal.returns
-returns c = rw (sym c.sources_located.ensures ∙ c.if-sources_located.false) record { result_value = refl; sources_told = tt }

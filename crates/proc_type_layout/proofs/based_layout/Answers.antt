@@ -6,6 +6,3 @@ returns-then-not-fit c = rw (c.if-not-fit.true) c.unfit.ensures
 
 pub returns-then-within : goal.returns-then-within
 returns-then-within c = rw (c.if-not-fit.false, c.if-within.true) c.with_alignment.ensures
-
-pub returns : goal.returns
-returns c = rw (c.if-not-fit.false, c.if-within.false) refl

@@ -1,13 +1,15 @@
-use mathlib.Core.Path.{sym, ◌∙◌, ap}
+use Rattle.std.proofs.Common.{rules, Err}
+use mathlib.Core.Path.{◌≡◌, sym, ◌∙◌, ap}
 use Prim.Native.Nat.{ℕ, ◌*◌}
 use lib.ListN.{take, drop}
 use Rattle.ir_records.specs.Result.{Result, ok}
+use Rattle.ir_records.specs.Refusal.{judged}
 use Rattle.ir_records.specs.Record.{member_words, member_count, inner_of}
 use Rattle.ir_records.specs.Fields.{sources_located}
 use Rattle.ir_records.proofs.ResultLaws.{refused_twice, require_then}
 use Rattle.proc_type_methods.specs.TypeMethods.{try_size}
 use Rattle.proc_type_alignment.specs.TypeAlignment.{members_alignment, alignment_of}
-use Rattle.proc_type_alignment.specs.Serving.{layouts_in}
+use Rattle.proc_type_alignment.specs.Serving.{layouts_in, located_result}
 use Rattle.proc_type_layout.specs.TypeLayout.{sized_layout, layout_of}
 use Rattle.proc_type_layout.proofs.TypeLayoutLaws.{members-within, part-length}
 use Rattle.proc_type_layout.proofs.struct_record.Goals as goal
@@ -17,20 +19,31 @@ member_part-part-requires c =
     let a = c.args in
     members-within (member_count a.members.now) a.a a.b 0 a.d a.e (sym (c.struct_fields.ensures 0) ∙ c.if-struct_fields.true)
 
-pub members_alignment-located-requires : goal.members_alignment-located-requires
-members_alignment-located-requires c =
+pub members_alignment-requires-clause-part_len : goal.members_alignment-requires-clause-part_len
+members_alignment-requires-clause-part_len c =
     let a = c.args in
     let h = members-within (member_count a.members.now) a.a a.b 0 a.d a.e (sym (c.struct_fields.ensures 0) ∙ c.if-struct_fields.true) in
-    record { rows_len = c.requires; part_len = rw c.member_part-part.ensures (part-length a.members.now a.a a.b h) }
+    rw c.member_part-part.ensures (part-length a.members.now a.a a.b h)
+
+pub returns-in_err-located : goal.returns-in_err-located
+unfolding inner_of layout_of try_size alignment_of
+returns-in_err-located c =
+    let a = c.args in
+    let part = take (a.b * member_words) (drop (a.a * member_words) a.members.now) in
+    let located = rw c.member_part-part.ensures at c.members_alignment.ensures.result_value in
+    let same : c.from_residual.result ≡ Err c.in_err-located.field-0.0 = search rules in
+    λ n. rw (sym (c.struct_fields.ensures a.c) ∙ c.if-struct_fields.true)
+    (ap judged same ∙ ap (λ (o : Result ℕ). sized_layout o a.c) (ap located_result (sym c.in_err-located.was) ∙ located)
+    ∙ sym (require_then (sources_located part) 2 0 0 (members_alignment (layouts_in a.rows.now) a.i part a.b) (λ x. ok (record { size = a.c; alignment = x }))))
 
 pub returns-then-struct_fields : goal.returns-then-struct_fields
 unfolding inner_of layout_of try_size alignment_of
 returns-then-struct_fields c =
     let a = c.args in
     let part = take (a.b * member_words) (drop (a.a * member_words) a.members.now) in
-    let located = rw c.member_part-part.ensures at c.members_alignment-located.ensures.result_value in
+    let located = rw c.member_part-part.ensures at c.members_alignment.ensures.result_value in
     λ n. rw (sym (c.struct_fields.ensures a.c) ∙ c.if-struct_fields.true)
-    (c.with_alignment.ensures ∙ ap (λ (o : Result ℕ). sized_layout o a.c) (c.as_aligned.ensures ∙ located)
+    (ap (λ (o : Result ℕ). sized_layout o a.c) (ap located_result (sym c.in_ok-located.was) ∙ located)
     ∙ sym (require_then (sources_located part) 2 0 0 (members_alignment (layouts_in a.rows.now) a.i part a.b) (λ x. ok (record { size = a.c; alignment = x }))))
 
 -- a field outside its set

@@ -1,44 +1,20 @@
 -- `program_arguments::next_number` meets its contract: the next word, and the number that it is. Assumes nothing.
-use mathlib.Core.Path.{refl}
-use native.Mathlib.Omega.{arith}
+use Rattle.std.proofs.Common.{refl}
+use Rattle.std.proofs.lemmas.Result.{err_from_is_err_and}
 use Rattle.program_arguments.specs.Arguments.{numbers_of}
 use Rattle.program_arguments.proofs.next_number.Goals as goal
 
-pub slice_bounds-number_of-count : goal.slice_bounds-number_of-count
-slice_bounds-number_of-count c =
-    let w = rw c.in-Found.is at c.next_word.ensures in
-    omega (arith, w.0)
-
-pub slice_bounds-number_of-start : goal.slice_bounds-number_of-start
-slice_bounds-number_of-start c =
-    let w = rw c.in-Found.is at c.next_word.ensures in
-    omega (arith, w.0)
-
-pub slice_bounds-number_of-end : goal.slice_bounds-number_of-end
-slice_bounds-number_of-end c =
-    let w = rw c.in-Found.is at c.next_word.ensures in
-    w.1
-
-pub returns-in-End : goal.returns-in-End
-returns-in-End c = rw c.in-End.is at c.next_word.ensures
-
-pub returns-in-Value : goal.returns-in-Value
+pub returns-in_err-value : goal.returns-in_err-value
 unfolding numbers_of
-returns-in-Value c =
-    let w = rw c.in-Found.is at c.next_word.ensures in
-    let n = rw c.in-Value.is at c.number_of.ensures in
+returns-in_err-value c =
+    let w = rw c.in-Some.is at c.next_word.ensures in
+    let n = rw c.in_err-value.was at c.number_of.ensures in
+    let p = err_from_is_err_and c.from_residual.result c.from_residual.ensures.1 in
+    rw (p.1, p.2) (λ d left k. rw (w.2, ← n) refl)
+
+pub returns : goal.returns
+unfolding numbers_of
+returns c =
+    let w = rw c.in-Some.is at c.next_word.ensures in
+    let n = rw c.in_ok-value.was at c.number_of.ensures in
     (w.1, λ d left k. rw (w.2, ← n) refl)
-
-pub returns-in-NotANumber : goal.returns-in-NotANumber
-unfolding numbers_of
-returns-in-NotANumber c =
-    let w = rw c.in-Found.is at c.next_word.ensures in
-    let n = rw c.in-NotANumber.is at c.number_of.ensures in
-    λ d left k. rw (w.2, ← n) refl
-
-pub returns-in-TooLarge : goal.returns-in-TooLarge
-unfolding numbers_of
-returns-in-TooLarge c =
-    let w = rw c.in-Found.is at c.next_word.ensures in
-    let n = rw c.in-TooLarge.is at c.number_of.ensures in
-    λ d left k. rw (w.2, ← n) refl

@@ -9,6 +9,3 @@ use Rattle.program_arguments.proofs.read_numbers.Given as goal
 
 abbrev pub invariant-loop-k : goal.invariant-loop-k
 invariant-loop-k l = (l.k ≤ l.most) × (l.from ≤ length l.s) × (prepend (take l.k l.numbers) (numbers_of l.command (l.most - l.k) (l.k + 2) (words (drop l.from l.s))) ≡ numbers_of l.command l.most 2 (words (drop l.at l.s))) × (length l.numbers ≡ length l.initial.numbers)
-
-abbrev pub decreases-loop-k : goal.decreases-loop-k
-decreases-loop-k l = l.most - l.k

@@ -1,25 +1,17 @@
--- `program_commands::store` meets its contract. The invariant: the first i words are stored. Assumes nothing.
-use borrow.Author.Rules.{rules}
-use mathlib.Core.Path.{refl, sym, ◌∙◌, ap}
-use mathlib.Core.List.{List}
-use Prim.Native.Nat.{ℕ, ◌+◌}
+-- `program_commands::store` meets its contract: the words stand where they are copied. Assumes nothing.
+use mathlib.Core.Path.{◌≡◌, refl, sym, ◌∙◌}
+use Prim.Native.Nat.{◌+◌, ◌-◌}
 use native.Mathlib.Omega.{arith}
-use lib.ListN.{get_or, set}
-use lib.Seq.{take_all}
-use Rattle.program_commands.proofs.StoreLaws.{sets_more}
+use mathlib.Core.List.{append_assoc}
+use lib.ListN.{length, take, drop}
+use Rattle.std.proofs.lemmas.Slice.{put_mid-paste}
+use Rattle.std.proofs.lemmas.List.Edits.{paste_all, sets-eq}
 use Rattle.program_commands.proofs.store.Goals as goal
 
-pub loop-i-init : goal.loop-i-init
-loop-i-init c = (search rules, refl)
-
-pub loop-i-preserved : goal.loop-i-preserved
-loop-i-preserved c =
-    let l = c.loop-i in
-    let a = c.args in
-    let words = a.words.now in (
-      search rules,
-      ap (λ (x : List ℕ). set x (a.at + l.i) (get_or words l.i 0)) l.invariant.1 ∙ sym (sets_more words a.arena.now a.at l.i (omega arith)),
-    )
-
 pub returns : goal.returns
-returns c = let l = c.loop-i in rw (take_all l.i c.args.words.now c.loop-i-test.false) at l.invariant.1
+returns c =
+    let a = c.args in
+    let w = a.words.now in
+    let n : length w ≡ a.at + length w - a.at = omega arith in
+    put_mid-paste a.at (a.at + length w - a.at) a.arena.now c.copy_from_slice.new.self w (length w) c.copy_from_slice.ensures.after n refl
+    ∙ (paste_all a.arena.now a.at w (length w) refl ∙ sym (append_assoc (take a.at a.arena.now) w (drop (a.at + length w) a.arena.now)) ∙ sym (sets-eq w a.arena.now a.at (omega (arith, c.told-arena, c.requires))))

@@ -1,34 +1,22 @@
--- `program_input::keep_rest` meets its contract. The invariant: the bytes up to i are moved, and the others still there. Assumes nothing.
-use mathlib.Core.Path.{◌≡◌, refl}
-use Prim.Native.Nat.{◌-◌}
+-- `program_input::keep_rest` meets its contract: what is copied to the front is the rest. Assumes nothing.
+use mathlib.Core.Path.{◌≡◌, refl, subst}
+use Prim.Native.Nat.{ℕ, ◌+◌, ◌-◌}
 use native.Mathlib.Omega.{arith}
-use Rattle.program_input.proofs.KeepLaws.{moved_none, moved_more}
+use lib.ListN.{take, drop, length-drop}
+use Rattle.std.specs.List.{copy_within}
+use Rattle.std.proofs.lemmas.List.Edits.{take-paste}
 use Rattle.program_input.proofs.keep_rest.Goals as goal
 
-pub returns-then-from-eq0 : goal.returns-then-from-eq0
-returns-then-from-eq0 c = rw c.if-from-eq0.true refl
-
-pub loop-i-init : goal.loop-i-init
-loop-i-init c = let a = c.args in (omega arith, omega arith, moved_none a.buffer.now a.from)
-
-pub bounds-buffer-i : goal.bounds-buffer-i
-bounds-buffer-i c = omega (arith, c.loop-i.invariant.2.long)
-
-pub bounds-buffer-i-in-loop-i : goal.bounds-buffer-i-in-loop-i
-bounds-buffer-i-in-loop-i c = omega (arith, c.loop-i.invariant.2.long)
-
-pub loop-i-preserved : goal.loop-i-preserved
-loop-i-preserved c =
-    let l = c.loop-i in
+pub returns-then-from-end : goal.returns-then-from-end
+returns-then-from-end c =
     let a = c.args in
-    (omega arith, omega arith, moved_more a.buffer.now a.from l.buffer l.i (omega arith) l.invariant.0 (omega arith) l.invariant.2)
+    let was = a.buffer.now in
+    let n : 0 + (a.end - a.from) ≡ a.end - a.from = omega arith in
+    let front = take-paste was 0 (drop a.from was) (a.end - a.from) (omega arith) (omega (arith, length-drop a.from was)) in
+    rw c.copy_within.ensures.after (subst (λ (m : ℕ). take m (copy_within was a.from a.end 0) ≡ take (a.end - a.from) (drop a.from was)) n front)
 
-pub shape_of-buffer : goal.shape_of-buffer
-shape_of-buffer c = c.loop-i.invariant.2.long
-
-pub returns : goal.returns
-returns c =
-    let l = c.loop-i in
+pub returns-else-from-end : goal.returns-else-from-end
+returns-else-from-end c =
     let a = c.args in
-    let e : l.i - a.from ≡ a.end - a.from = omega arith in
-    rw e at l.invariant.2.front
+    let none : a.end - a.from ≡ 0 = omega arith in
+    rw none refl

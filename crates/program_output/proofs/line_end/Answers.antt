@@ -1,6 +1,8 @@
 -- `program_output::line_end` meets its contract. The invariant: the line is what was passed and what is left of it from i on. Assumes nothing.
 use borrow.Author.Rules.{rules}
+use mathlib.Core.Path.{◌≡◌}
 use native.Mathlib.Omega.{arith}
+use lib.ListN.{length}
 use lib.Seq.{slice_empty}
 use Rattle.program_output.proofs.TextLaws.{line_more, line_stop, line_done}
 use Rattle.program_output.proofs.line_end.Goals as goal
@@ -24,4 +26,5 @@ pub returns : goal.returns
 returns c =
     let l = c.loop-i in
     let a = c.args in
-    (omega arith, omega arith, line_done a.text.now l.i a.start l.invariant.0 c.requires c.loop-i-test.false l.invariant.2)
+    let e : l.i ≡ length a.text.now = omega arith in
+    (omega arith, omega arith, rw e at (line_done a.text.now l.i a.start l.invariant.0 c.requires c.loop-i-test.false l.invariant.2))

@@ -1,7 +1,8 @@
 -- `program_output::line_start` meets its contract. The invariant: what is left from i on holds the line. Assumes nothing.
 use borrow.Author.Rules.{rules}
-use mathlib.Core.Path.{refl, ◌∙◌}
+use mathlib.Core.Path.{◌≡◌, refl, ◌∙◌}
 use native.Mathlib.Omega.{arith}
+use lib.ListN.{length}
 use Rattle.program_output.proofs.TextLaws.{line_pass, line_none}
 use Rattle.program_output.proofs.line_start.Goals as goal
 
@@ -20,4 +21,6 @@ loop-i-preserved c =
 pub returns : goal.returns
 returns c =
     let l = c.loop-i in
-    (search rules, l.invariant.1 ∙ line_none c.args.text.now l.i l.left c.loop-i-test.false)
+    let text = c.args.text.now in
+    let e : l.i ≡ length text = omega arith in
+    (search rules, rw e at (l.invariant.1 ∙ line_none text l.i l.left c.loop-i-test.false))

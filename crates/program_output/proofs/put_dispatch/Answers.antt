@@ -2,8 +2,8 @@
 use Rattle.program_output.proofs.PutLaws.{puts_both}
 use Rattle.program_output.proofs.put_dispatch.Goals as goal
 
-pub returns-in-Accepted : goal.returns-in-Accepted
-returns-in-Accepted c = rw c.in-Accepted.is c.put_text.ensures
+pub returns-in-Ok : goal.returns-in-Ok
+returns-in-Ok c = rw c.in-Ok.is c.put_text.ensures
 
-pub returns-in-Refused : goal.returns-in-Refused
-returns-in-Refused c = rw c.in-Refused.is (puts_both c.put_refusal-end.ensures c.put_one.ensures)
+pub returns-in-Err : goal.returns-in-Err
+returns-in-Err c = rw c.in-Err.is (puts_both c.put_refusal-end.ensures c.put_one.ensures)

@@ -1,18 +1,21 @@
--- `program_output::put_numbers` meets its contract. The invariant: the first i numbers are put. Assumes nothing.
-use borrow.Author.Rules.{rules}
-use native.Mathlib.Nat.{le_antisymm}
+-- `program_output::put_numbers` meets its contract. The invariant: the numbers so far are put. Assumes nothing.
+use mathlib.Core.Path.{◌≡◌}
+use native.Mathlib.Omega.{arith}
+use lib.ListN.{length}
 use Rattle.program_output.specs.Bytes.{number_at}
 use Rattle.program_output.proofs.PutLaws.{puts_start, puts_more}
 use Rattle.program_output.proofs.put_numbers.Goals as goal
 
-pub loop-i-init : goal.loop-i-init
-loop-i-init c = (search rules, puts_start _ _ _)
+pub loop-word-init : goal.loop-word-init
+loop-word-init c = puts_start _ _ _
 
-pub loop-i-preserved : goal.loop-i-preserved
-loop-i-preserved c =
-    let l = c.loop-i in
-    let words = c.args.words.now in
-    (search rules, puts_more (number_at words) l.i l.invariant.1 (rw c.word_at.ensures at c.put_number-end.ensures))
+pub loop-word-preserved : goal.loop-word-preserved
+loop-word-preserved c =
+    let l = c.loop-word in
+    puts_more (number_at c.args.words.now) l.word-index l.invariant (rw c.from.ensures at c.put_number-end.ensures)
 
 pub returns : goal.returns
-returns c = let l = c.loop-i in rw (le_antisymm l.invariant.0 c.loop-i-test.false) at l.invariant.1
+returns c =
+    let l = c.loop-word in
+    let e : l.word-index ≡ length c.args.words.now = omega arith in
+    rw e at l.invariant

@@ -2,8 +2,8 @@
 use Rattle.program_output.proofs.PutLaws.{puts_both}
 use Rattle.program_output.proofs.put_outcome.Goals as goal
 
-pub returns-in-Accepted : goal.returns-in-Accepted
-returns-in-Accepted c = rw c.in-Accepted.is (puts_both c.put_text-end.ensures c.put_rows.ensures)
+pub returns-in-Ok : goal.returns-in-Ok
+returns-in-Ok c = rw c.in-Ok.is (puts_both c.put_text-end.ensures c.put_rows.ensures)
 
-pub returns-in-Refused : goal.returns-in-Refused
-returns-in-Refused c = rw c.in-Refused.is c.put_refusal.ensures
+pub returns-in-Err : goal.returns-in-Err
+returns-in-Err c = rw c.in-Err.is c.put_refusal.ensures

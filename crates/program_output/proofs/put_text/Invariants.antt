@@ -1,11 +1,7 @@
--- `program_output::put_text` meets its contract. The invariant: the first i bytes are put. Assumes nothing.
-use Prim.Native.Nat.{◌-◌, ◌≤◌}
-use lib.ListN.{length, take}
+-- `program_output::put_text` meets its contract. The invariant: the bytes so far are put. Assumes nothing.
+use lib.ListN.{take}
 use Rattle.program_output.specs.Bytes.{Puts}
 use Rattle.program_output.proofs.put_text.Given as goal
 
-abbrev pub invariant-loop-i : goal.invariant-loop-i
-invariant-loop-i l = (l.i ≤ length l.text) × Puts l.initial.out l.at (take l.i l.text) l.out l.end
-
-abbrev pub decreases-loop-i : goal.decreases-loop-i
-decreases-loop-i l = length l.text - l.i
+abbrev pub invariant-loop-b : goal.invariant-loop-b
+invariant-loop-b l = Puts l.initial.out l.at (take l.b-index l.text) l.out l.end

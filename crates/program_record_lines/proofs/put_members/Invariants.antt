@@ -6,6 +6,3 @@ use Rattle.program_record_lines.proofs.put_members.Given as goal
 
 abbrev pub invariant-loop-i : goal.invariant-loop-i
 invariant-loop-i l = (l.i ≤ l.n) × Puts l.initial.out l.at (joined (member_line l.members) l.i) l.out l.end
-
-abbrev pub decreases-loop-i : goal.decreases-loop-i
-decreases-loop-i l = l.n - l.i

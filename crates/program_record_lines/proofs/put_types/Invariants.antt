@@ -6,6 +6,3 @@ use Rattle.program_record_lines.proofs.put_types.Given as goal
 
 abbrev pub invariant-loop-i : goal.invariant-loop-i
 invariant-loop-i l = (l.i ≤ l.n) × Puts l.initial.out l.at (joined (type_line l.types) l.i) l.out l.end
-
-abbrev pub decreases-loop-i : goal.decreases-loop-i
-decreases-loop-i l = l.n - l.i

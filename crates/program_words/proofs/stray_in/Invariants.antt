@@ -7,6 +7,3 @@ use Rattle.program_words.proofs.stray_in.Given as goal
 
 abbrev pub invariant-loop-i : goal.invariant-loop-i
 invariant-loop-i l = (l.i ≤ length l.line) × (stray_from l.line (length l.line - l.i) l.i ≡ stray_in l.line)
-
-abbrev pub decreases-loop-i : goal.decreases-loop-i
-decreases-loop-i l = length l.line - l.i

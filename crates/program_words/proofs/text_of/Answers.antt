@@ -1,27 +1,40 @@
 -- `program_words::text_of` meets its contract, by the last byte of the line. Assumes nothing.
-use mathlib.Core.Path.{◌≡◌, refl}
-use Prim.Native.Nat.{◌-◌}
+use mathlib.Core.Path.{◌≡◌, refl, sym, ◌∙◌}
+use mathlib.Core.Bool.{Bool, true, false, ◌&&◌}
+use mathlib.Core.List.{List, [], ◌∷◌}
+use Prim.Native.Nat.{ℕ, ◌-◌, ◌≤◌}
 use native.Mathlib.Omega.{arith}
-use lib.ListN.{length, get_or, get_or-eq_default}
-use lib.Seq.{length-take-le}
-use borrow.Author.Tests.{ne_eqb}
+use lib.ListN.{length, get_or, drop, drop_of_length-le}
+use lib.Seq.{drop-cons}
+use lib.Pointwise.{pointwise}
+use Rattle.std.proofs.Common.{nat_eq}
+use Rattle.std.specs.Prelude.{eqb}
 use Rattle.program_words.specs.Words.{without_return}
 use Rattle.program_words.proofs.text_of.Goals as goal
 
-pub returns-then-n-eq0 : goal.returns-then-n-eq0
-unfolding without_return
-returns-then-n-eq0 c =
-    let a = c.args.line.now in
-    let none : get_or a (length a - 1) 0 ≡ 0 = get_or-eq_default a 0 (omega (arith, c.if-n-eq0.true)) in
-    rw (c.before_comment.ensures, none) refl
+and_true : (a : Bool) → (a && true) ≡ a
+and_true true = refl
+and_true false = refl
 
-pub slice_bounds-before_comment-end : goal.slice_bounds-before_comment-end
-slice_bounds-before_comment-end c = omega (arith, length-take-le (length c.args.line.now - 1) c.args.line.now (omega arith))
+-- the last byte is a carriage return
+last_is : (s : List ℕ) → pointwise nat_eq (drop (length s - 1) s) (13 ∷ []) ≡ eqb (get_or s (length s - 1) 0) 13
+last_is [] = refl
+last_is (b ∷ t) =
+    let e : drop (length t) (b ∷ t) ≡ get_or (b ∷ t) (length t) 0 ∷ [] =
+    drop-cons (b ∷ t) (length t) 0 (omega arith) ∙ let h : length t ≤ length t = omega arith in rw (drop_of_length-le t h) in
+    let n : length (b ∷ t) - 1 ≡ length t = omega arith in
+    rw (n, e) (and_true (eqb (get_or (b ∷ t) (length t) 0) 13))
 
-pub returns-then-line-last-eq-RETURN : goal.returns-then-line-last-eq-RETURN
+pub returns-in-Some : goal.returns-in-Some
 unfolding without_return
-returns-then-line-last-eq-RETURN c = rw (c.before_comment-then-line-last-eq-RETURN.ensures, c.if-line-last-eq-RETURN.true) refl
+returns-in-Some c =
+    let s = c.args.line.now in
+    let h = c.in-Some.ensures.cases in
+    rw (c.before_comment.ensures, h.1, sym (last_is s) ∙ h.0) refl
 
-pub returns : goal.returns
+pub returns-in-None : goal.returns-in-None
 unfolding without_return
-returns c = rw (c.before_comment-2.ensures, ne_eqb _ 13 c.if-line-last-eq-RETURN.false) refl
+returns-in-None c =
+    let s = c.args.line.now in
+    let h = c.in-None.ensures.cases in
+    rw (c.before_comment-in-None.ensures, sym (last_is s) ∙ h) refl

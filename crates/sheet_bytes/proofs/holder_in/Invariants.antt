@@ -6,6 +6,3 @@ use Rattle.sheet_bytes.proofs.holder_in.Given as goal
 
 abbrev pub invariant-loop-j : goal.invariant-loop-j
 invariant-loop-j l = (l.j ≤ l.count) × (holder_from l.part l.rows l.byte (l.count - l.j) l.j ≡ holder_of l.part l.rows l.count l.byte)
-
-abbrev pub decreases-loop-j : goal.decreases-loop-j
-decreases-loop-j l = l.count - l.j

@@ -1,26 +1,27 @@
 -- `sheet_places::place_of` meets its contract. The invariant: so many instructions further is the place. Assumes nothing.
-use Rattle.std.proofs.Common.{sym, refl, ◌∙◌}
+use Rattle.std.proofs.Common.{◌≡◌, ◌+◌, ◌-◌, rules, refl, sym, ◌∙◌, arith}
+use native.Mathlib.Nat.{sub-zero}
 use Rattle.sheet_places.proofs.PlaceLaws.{place_next, place_past, place_here}
 use Rattle.sheet_places.proofs.place_of.Goals as goal
 
-pub loop-left-init : goal.loop-left-init
-loop-left-init c =
-    refl
+pub loop-init : goal.loop-init
+loop-init c = (search rules, rw sub-zero)
 
 pub returns-then-words-at : goal.returns-then-words-at
 returns-then-words-at c =
-    let b = c in
-    let a = b.args in
-    sym (place_past a.words.now b.loop-left.at b.loop-left.left c.loop-left-test.true c.if-words-at.true) ∙ b.loop-left.invariant
+    let a = c.args in
+    let l = c.loop in
+    sym (place_past a.words.now l.at (a.k - l.counter) (omega arith) c.if-words-at.true) ∙ l.invariant.1
 
-pub loop-left-preserved : goal.loop-left-preserved
-loop-left-preserved c =
-    let b = c in
-    let a = b.args in
-    rw c.after_instruction-at.ensures.0 (sym (place_next a.words.now b.loop-left.at b.loop-left.left c.loop-left-test.true c.if-words-at.false) ∙ b.loop-left.invariant)
+pub loop-preserved : goal.loop-preserved
+loop-preserved c =
+    let a = c.args in
+    let l = c.loop in
+    let e : a.k - l.counter - 1 ≡ a.k - (l.counter + 1) = omega arith in
+    (search rules, rw (c.after_instruction-at.ensures.0, ← e) (sym (place_next a.words.now l.at (a.k - l.counter) (omega arith) c.if-words-at.false) ∙ l.invariant.1))
 
 pub returns : goal.returns
 returns c =
-    let b = c in
-    let a = b.args in
-    sym (place_here a.words.now b.loop-left.at b.loop-left.left c.loop-left-test.false) ∙ b.loop-left.invariant
+    let a = c.args in
+    let l = c.loop in
+    sym (place_here a.words.now l.at (a.k - l.counter) (omega arith)) ∙ l.invariant.1

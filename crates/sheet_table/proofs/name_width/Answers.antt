@@ -14,8 +14,8 @@ loop-j-init c =
 pub loop-j-preserved : goal.loop-j-preserved
 unfolding longest
 loop-j-preserved c =
-    (search rules, rw (add-one, c.larger-width.ensures, c.name_length.ensures, c.loop-j.invariant.1))
+    (search rules, rw (add-one, c.max-width.ensures, c.name_length.ensures, c.loop-j.invariant.1))
 
 pub returns : goal.returns
 returns c =
-    rw (c.smaller.ensures, c.loop-j.invariant.1, le_antisymm c.loop-j.invariant.0 c.loop-j-test.false)
+    rw (c.min.ensures, c.loop-j.invariant.1, le_antisymm c.loop-j.invariant.0 c.loop-j-test.false)

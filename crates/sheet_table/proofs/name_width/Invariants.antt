@@ -1,11 +1,8 @@
 -- `sheet_table::name_width` meets its contract. The invariant: the width is that of the names before member j. Assumes nothing.
 use mathlib.Core.Path.{◌≡◌}
-use Prim.Native.Nat.{◌-◌, ◌≤◌}
+use Prim.Native.Nat.{◌≤◌}
 use Rattle.sheet_table.specs.Width.{longest}
 use Rattle.sheet_table.proofs.name_width.Given as goal
 
 abbrev pub invariant-loop-j : goal.invariant-loop-j
-invariant-loop-j l = (l.j ≤ l.count) × (l.width ≡ longest l.text l.names l.types l.i l.j)
-
-abbrev pub decreases-loop-j : goal.decreases-loop-j
-decreases-loop-j l = l.count - l.j
+invariant-loop-j l = (l.j ≤ l.count) × (l.width ≡ longest l.named.text.now l.named.names.now l.named.types.now l.i l.j)

@@ -5,25 +5,25 @@ use native.Mathlib.Nat.{sub-zero}
 use Rattle.sheet_types.proofs.TypeLaws.{arrays_step, arrays_stop, arrays_done}
 use Rattle.sheet_types.proofs.inside.Goals as goal
 
-pub loop-k-init : goal.loop-k-init
-loop-k-init c =
+pub loop-init : goal.loop-init
+loop-init c =
     (search rules, rw sub-zero)
 
 pub returns-then-type_word-ne-ARRAY_KIND : goal.returns-then-type_word-ne-ARRAY_KIND
 returns-then-type_word-ne-ARRAY_KIND c =
     let b = c in
     let a = b.args in
-    sym (arrays_stop a.types.now a.depth b.loop-k.k b.loop-k.t c.loop-k-test.true (rw c.type_word.ensures at c.if-type_word-ne-ARRAY_KIND.true)) ∙ b.loop-k.invariant.1
+    sym (arrays_stop a.types.now a.depth b.loop.counter b.loop.t c.loop-test.true (rw c.type_word.ensures at c.if-type_word-ne-ARRAY_KIND.true)) ∙ b.loop.invariant.1
 
-pub loop-k-preserved : goal.loop-k-preserved
-loop-k-preserved c =
+pub loop-preserved : goal.loop-preserved
+loop-preserved c =
     let b = c in
     let a = b.args in
     let e = sym c.type_word.ensures ∙ c.if-type_word-ne-ARRAY_KIND.false in
-    (search rules, rw c.type_word-t.ensures (sym (arrays_step a.types.now a.depth b.loop-k.k b.loop-k.t c.loop-k-test.true e) ∙ b.loop-k.invariant.1))
+    (search rules, rw c.type_word-t.ensures (sym (arrays_step a.types.now a.depth b.loop.counter b.loop.t c.loop-test.true e) ∙ b.loop.invariant.1))
 
 pub returns : goal.returns
 returns c =
     let b = c in
     let a = b.args in
-    sym (arrays_done a.types.now a.depth b.loop-k.k b.loop-k.t c.loop-k-test.false) ∙ b.loop-k.invariant.1
+    sym (arrays_done a.types.now a.depth b.loop.counter b.loop.t c.loop-test.false) ∙ b.loop.invariant.1

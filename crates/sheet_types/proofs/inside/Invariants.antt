@@ -4,8 +4,5 @@ use Prim.Native.Nat.{◌-◌, ◌≤◌}
 use Rattle.sheet_types.specs.Types.{inside_arrays}
 use Rattle.sheet_types.proofs.inside.Given as goal
 
-abbrev pub invariant-loop-k : goal.invariant-loop-k
-invariant-loop-k l = (l.k ≤ l.depth) × (inside_arrays l.types (l.depth - l.k) l.t ≡ inside_arrays l.types l.depth l.ty)
-
-abbrev pub decreases-loop-k : goal.decreases-loop-k
-decreases-loop-k l = l.depth - l.k
+abbrev pub invariant-loop : goal.invariant-loop
+invariant-loop l = (l.counter ≤ l.depth) × (inside_arrays l.types (l.depth - l.counter) l.t ≡ inside_arrays l.types l.depth l.ty)

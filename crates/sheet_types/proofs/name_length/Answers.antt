@@ -11,13 +11,13 @@ pub returns-then-is_printable : goal.returns-then-is_printable
 returns-then-is_printable c =
     let b = c in
     let a = b.args in
-    let e = rw (b.member_entry.ensures, b.member_row-row.ensures) at b.name_at-name.ensures in
-    length_printed b.name_at-name.result.now a.j (sym c.is_printable.ensures ∙ c.if-is_printable.true) ∙ ap (λ (n : List ℕ). name_length n a.j) e
+    let e = b.member_name-name.ensures in
+    length_printed b.member_name-name.result.now a.j (sym c.is_printable.ensures ∙ c.if-is_printable.true) ∙ ap (λ (n : List ℕ). name_length n a.j) e
 
 pub returns : goal.returns
 returns c =
     let b = c in
     let s = b in
-    let e = rw (b.member_entry.ensures, b.member_row-row.ensures) at b.name_at-name.ensures in
-    length_numbered b.name_at-name.result.now s.args.j c.decimal.result (sym c.is_printable.ensures ∙ c.if-is_printable.false) c.decimal.ensures.len (omega (arith, s.ranges.j))
+    let e = b.member_name-name.ensures in
+    length_numbered b.member_name-name.result.now s.args.j c.decimal.result (sym c.is_printable.ensures ∙ c.if-is_printable.false) c.decimal.ensures.len (omega (arith, s.ranges.j))
     ∙ ap (λ (n : List ℕ). name_length n s.args.j) e

@@ -16,15 +16,3 @@ loop-p-preserved c =
 pub loop-p-init : goal.loop-p-init
 loop-p-init c =
     gives_first c.args.words.now
-
-pub returns-then-count-eq0 : goal.returns-then-count-eq0
-returns-then-count-eq0 c =
-    c.loop-p.invariant
-
-pub returns-then-may_give : goal.returns-then-may_give
-returns-then-may_give c =
-    c.loop-p.invariant
-
-pub returns : goal.returns
-returns c =
-    c.loop-p.invariant

@@ -9,7 +9,7 @@ use Rattle.spirv_ids.proofs.giver_of.Given as goal
 
 abbrev pub invariant-loop-p : goal.invariant-loop-p
 invariant-loop-p l =
-    (first (gives l.words l.id) (between l.words l.p l.at) ≡ giver l.words l.at l.id) × Stands l.words l.p × (l.number ≡ type_number l.words l.p)
+    (first (gives l.place.words.now l.id) (between l.place.words.now l.p l.place.at) ≡ giver l.place.words.now l.place.at l.id) × Stands l.place.words.now l.p × (l.number ≡ type_number l.place.words.now l.p)
 
 abbrev pub decreases-loop-p : goal.decreases-loop-p
-decreases-loop-p l = l.at - l.p
+decreases-loop-p l = l.place.at - l.p

@@ -1,11 +1,8 @@
 -- `spirv_members::column_step` meets its contract. The invariant: the step from k on is the step. Assumes nothing.
 use mathlib.Core.Path.{◌≡◌}
-use Prim.Native.Nat.{suc}
+use Prim.Native.Nat.{suc, ◌-◌}
 use Rattle.spirv_members.specs.Members.{column_step_in}
 use Rattle.spirv_members.proofs.column_step.Given as goal
 
-abbrev pub invariant-loop-factor : goal.invariant-loop-factor
-invariant-loop-factor l = column_step_in l.types (suc l.left) l.k ≡ column_step_in l.types (suc l.t) l.t
-
-abbrev pub decreases-loop-factor : goal.decreases-loop-factor
-decreases-loop-factor l = l.left
+abbrev pub invariant-loop : goal.invariant-loop
+invariant-loop l = column_step_in l.types (suc l.t - l.counter) l.k ≡ column_step_in l.types (suc l.t) l.t

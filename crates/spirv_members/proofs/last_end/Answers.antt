@@ -16,4 +16,4 @@ returns c =
     let a = b.args in
     let more : a.n ≡ suc (a.n - 1) = omega (arith, b.if-n-eq0.false) in
     rw (c.size_in-size.ensures.0, c.offset_of-offset.ensures, c.number_of-number.ensures, c.member_sort.ensures)
-    (ap (last_end a.words.now a.types.now a.at) (sym more))
+    (ap (last_end a.place.words.now a.types.now a.place.at) (sym more))

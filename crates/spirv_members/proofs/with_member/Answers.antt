@@ -1,5 +1,6 @@
 -- `spirv_members::with_member` meets its contract. Assumes nothing.
 use Rattle.spirv_members.specs.Members.{member_number, member_unsupported, member_sound}
+use Rattle.spirv_words.proofs.SearchLaws.{found_is}
 use Rattle.spirv_members.proofs.with_member.Goals as goal
 
 pub returns : goal.returns
@@ -17,6 +18,6 @@ returns c =
         number,
         sort,
       ),
-      rw (read, b.offset_at-offset.ensures, sort),
+      rw (read, b.is_some.ensures, b.offset_at-offset.ensures, found_is, sort),
       rw (b.larger-alignment.ensures, b.word_at-own.ensures, number, sort),
     )

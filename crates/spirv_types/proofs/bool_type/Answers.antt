@@ -1,13 +1,8 @@
 -- `spirv_types::bool_type` meets its contract. Assumes nothing.
-use native.Mathlib.Omega.{arith}
 use Rattle.ir_records.specs.Record.{inner_of}
 use Rattle.spirv_types.specs.Types.{bool_type}
 use Rattle.proc_type_alignment.specs.TypeAlignment.{alignment_of}
 use Rattle.spirv_types.proofs.bool_type.Goals as goal
-
-pub leaf_type-requires : goal.leaf_type-requires
-leaf_type-requires c =
-    record { factor_bound = omega arith; width_bound = λ u s. omega arith }
 
 pub returns : goal.returns
 unfolding bool_type alignment_of inner_of

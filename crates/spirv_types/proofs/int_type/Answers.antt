@@ -1,15 +1,8 @@
 -- `spirv_types::int_type` meets its contract. Assumes nothing.
-use native.Mathlib.Omega.{arith}
 use Rattle.ir_records.specs.Record.{inner_of}
-use Rattle.spirv_types.proofs.TypeLaws.{width_within}
 use Rattle.spirv_types.specs.Types.{int_type}
 use Rattle.proc_type_alignment.specs.TypeAlignment.{alignment_of}
 use Rattle.spirv_types.proofs.int_type.Goals as goal
-
-pub leaf_type-requires : goal.leaf_type-requires
-leaf_type-requires c =
-    let e = c.width_ok.ensures in
-    record { factor_bound = omega arith; width_bound = λ u s. width_within _ _ (rw e at u) }
 
 pub returns : goal.returns
 unfolding int_type alignment_of inner_of

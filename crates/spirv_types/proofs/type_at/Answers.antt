@@ -8,31 +8,31 @@ pub returns-in-20 : goal.returns-in-20
 unfolding type_at type_by
 returns-in-20 c =
     let a = c.args in
-    λ ms e. rw (sym c.opcode_of-op.ensures ∙ c.in-20.is, sym c.is_fresh-fresh.ensures) (c.bool_type.ensures a.alignments.now)
+    λ ms e. rw (sym c.opcode_of-op.ensures ∙ c.in-20.is, sym c.is_fresh-fresh.ensures) (c.bool_type.ensures a.tables.alignments.now)
 
 pub returns-in-21 : goal.returns-in-21
 unfolding type_at type_by
 returns-in-21 c =
     let a = c.args in
-    λ ms e. rw (sym c.opcode_of-op.ensures ∙ c.in-21.is, sym c.is_fresh-fresh.ensures) (c.int_type.ensures a.alignments.now)
+    λ ms e. rw (sym c.opcode_of-op.ensures ∙ c.in-21.is, sym c.is_fresh-fresh.ensures) (c.int_type.ensures a.tables.alignments.now)
 
 pub returns-in-22 : goal.returns-in-22
 unfolding type_at type_by
 returns-in-22 c =
     let a = c.args in
-    λ ms e. rw (sym c.opcode_of-op.ensures ∙ c.in-22.is, sym c.is_fresh-fresh.ensures) (c.float_type.ensures a.alignments.now)
+    λ ms e. rw (sym c.opcode_of-op.ensures ∙ c.in-22.is, sym c.is_fresh-fresh.ensures) (c.float_type.ensures a.tables.alignments.now)
 
 pub returns-in-23 : goal.returns-in-23
 unfolding type_at type_by
 returns-in-23 c =
     let a = c.args in
-    λ ms e. rw (sym c.opcode_of-op.ensures ∙ c.in-23.is, sym c.is_fresh-fresh.ensures) (c.vector_type.ensures a.alignments.now)
+    λ ms e. rw (sym c.opcode_of-op.ensures ∙ c.in-23.is, sym c.is_fresh-fresh.ensures) (c.vector_type.ensures a.tables.alignments.now)
 
 pub returns-in-24 : goal.returns-in-24
 unfolding type_at type_by
 returns-in-24 c =
     let a = c.args in
-    λ ms e. rw (sym c.opcode_of-op.ensures ∙ c.in-24.is, sym c.is_fresh-fresh.ensures) (c.matrix_type.ensures a.alignments.now)
+    λ ms e. rw (sym c.opcode_of-op.ensures ∙ c.in-24.is, sym c.is_fresh-fresh.ensures) (c.matrix_type.ensures a.tables.alignments.now)
 
 pub returns-in-28 : goal.returns-in-28
 unfolding type_at type_by

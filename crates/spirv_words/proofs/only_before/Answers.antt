@@ -1,47 +1,29 @@
 -- `spirv_words::only_before` meets its contract. Assumes nothing.
-use borrow.Author.Tests.{ne_eqb}
-use mathlib.Core.Path.{refl, sym, ◌∙◌}
+use mathlib.Core.Path.{sym}
 use Prim.Native.Nat.{◌-◌}
 use native.Mathlib.Omega.{arith}
 use Rattle.spirv_words.specs.Decorations.{passes}
-use Rattle.spirv_words.proofs.SearchLaws.{only_none, only_found, found_below}
+use Rattle.spirv_words.proofs.SearchLaws.{find_some, only_missing, only_one, found_below}
 use Rattle.spirv_words.proofs.only_before.Goals as goal
 
-pub returns-then-found-eq0 : goal.returns-then-found-eq0
-returns-then-found-eq0 c =
+pub returns-in_err-place : goal.returns-in_err-place
+returns-in_err-place c =
     let a = c.args in
-    sym (only_none a.words.now a.at (passes a.words.now a.wanted) (a.at - 5) 5 (sym c.first_between-found.ensures ∙ c.if-found-eq0.true) (omega arith))
+    rw (c.from_residual.ensures, only_missing a.words.now a.at (passes a.words.now a.wanted) c.in_err-place.ensures)
 
-pub word_count-count-requires : goal.word_count-count-requires
-word_count-count-requires c =
+pub word_count-requires : goal.word_count-requires
+word_count-requires c =
     let a = c.args in
-    let f = c.first_between-found.ensures in
-    let below = found_below a.words.now a.at (passes a.words.now a.wanted) (a.at - 5) 5 (omega (arith, f, c.if-found-eq0.false)) in
-    omega (arith, f, below.0)
+    let f = find_some a.words.now a.at (passes a.words.now a.wanted) 5 (omega arith) _ c.in_ok-place.ensures in
+    let below = found_below a.words.now a.at (passes a.words.now a.wanted) (a.at - 5) 5 (omega (arith, f.0, f.1)) in
+    omega (arith, f.0, below.0)
 
-pub overflow_add-next : goal.overflow_add-next
-overflow_add-next c =
+pub returns-then-is_some : goal.returns-then-is_some
+returns-then-is_some c =
     let a = c.args in
-    let f = c.first_between-found.ensures in
-    let below = found_below a.words.now a.at (passes a.words.now a.wanted) (a.at - 5) 5 (omega (arith, f, c.if-found-eq0.false)) in
-    omega (arith, f, below.0, c.word_count-count.ensures.1)
-
-pub returns-then-first_between-eq0 : goal.returns-then-first_between-eq0
-returns-then-first_between-eq0 c =
-    let b = c in
-    let a = b.args in
-    let f = b.first_between-found.ensures in
-    let ws = a.words.now in
-    let next = rw c.word_count-count.ensures.0 at (sym c.first_between.ensures ∙ c.if-first_between-eq0.true) in
-    sym (only_found ws a.at (passes ws a.wanted) (a.at - 5) 5 _ (omega arith) (sym f) (omega (arith, c.if-found-eq0.false))
-    ∙ rw next refl)
+    rw (only_one a.words.now a.at (passes a.words.now a.wanted) c.in_ok-place.place c.in_ok-place.ensures, sym c.word_count.ensures.0, sym c.first_between-2.ensures, sym c.is_some.ensures, c.if-is_some.true)
 
 pub returns : goal.returns
 returns c =
-    let b = c in
-    let a = b.args in
-    let f = b.first_between-found.ensures in
-    let ws = a.words.now in
-    let next = rw (c.first_between.ensures, c.word_count-count.ensures.0) at c.if-first_between-eq0.false in
-    sym (only_found ws a.at (passes ws a.wanted) (a.at - 5) 5 _ (omega arith) (sym f) (omega (arith, c.if-found-eq0.false))
-    ∙ simp (ne_eqb _ _ next))
+    let a = c.args in
+    rw (only_one a.words.now a.at (passes a.words.now a.wanted) c.in_ok-place.place c.in_ok-place.ensures, sym c.word_count.ensures.0, sym c.first_between-2.ensures, sym c.is_some.ensures, c.if-is_some.false)

@@ -1,3 +1,5 @@
+use Rattle.std.proofs.Common.{rules, Err}
+use Rattle.ir_records.specs.Refusal.{outcome_of}
 use mathlib.Core.Path.{◌≡◌, refl, sym, ap, ◌∙◌}
 use mathlib.Core.List.{List, ◌++◌}
 use Prim.Native.Nat.{ℕ, ◌*◌}
@@ -11,21 +13,21 @@ pub clear-requires : goal.clear-requires
 clear-requires c =
     let s = c in
     let f = tables_fitting _ _ _ s.requires.rows_value in
-    omega (arith, f.rows, s.requires.n_value, c.layout-before.auto.rows)
+    omega (arith, f.rows, s.requires.n_value, c.layout.auto.rows)
 
-pub returns-in-Accepted : goal.returns-in-Accepted
-returns-in-Accepted c =
-    let s = c in
-    let ts = s.args.types.now in let ms = s.args.members.now in let rows = s.args.rows.now in
-    let laid = c.layout-before in
-    let l = laid_out ts ms rows (sym laid.ensures.value ∙ c.in-Accepted.is) in
-    let rest : drop (s.args.n * 14) laid.new.rows ≡ drop (s.args.n * 14) rows = rw (s.requires.n_value, laid.ensures.rows_after) (laid_rest ts ms rows l) in
-    record { value = rw l.outcome refl; rows_after = c.clear.ensures ∙ ap (λ (words : List ℕ). replicate (s.args.n * 14) 0 ++ words) rest }
+pub returns-in_err-layout : goal.returns-in_err-layout
+returns-in_err-layout c =
+    let a = c.args in
+    let laid = c.layout in
+    let same : c.from_residual.result ≡ Err c.in_err-layout.field-0.0 = search rules in
+    let l = layout_refused a.types.now a.members.now a.rows.now c.requires.rows_value (sym laid.ensures.value ∙ ap outcome_of c.in_err-layout.was) in
+    record { value = rw l.0 (ap outcome_of same); rows_after = rw c.requires.n_value (laid.ensures.rows_after ∙ l.1) }
 
-pub returns-in-Refused : goal.returns-in-Refused
-returns-in-Refused c =
-    let s = c in
-    let laid = c.layout-before in
-    let e = c.in-Refused.is in
-    let l = layout_refused s.args.types.now s.args.members.now s.args.rows.now s.requires.rows_value (sym laid.ensures.value ∙ e) in
-    record { value = rw l.0 e; rows_after = rw s.requires.n_value (laid.ensures.rows_after ∙ l.1) }
+pub returns : goal.returns
+returns c =
+    let a = c.args in
+    let ts = a.types.now in let ms = a.members.now in let rows = a.rows.now in
+    let laid = c.layout in
+    let l = laid_out ts ms rows (sym laid.ensures.value ∙ ap outcome_of c.in_ok-layout.was) in
+    let rest : drop (a.n * 14) laid.new.rows ≡ drop (a.n * 14) rows = rw (c.requires.n_value, laid.ensures.rows_after) (laid_rest ts ms rows l) in
+    record { value = rw l.outcome refl; rows_after = c.clear.ensures ∙ ap (λ (words : List ℕ). replicate (a.n * 14) 0 ++ words) rest }

@@ -4,7 +4,7 @@ use Rattle.ir_records.specs.Record.{type_inner, Sourceless}
 use Rattle.valid_flags.specs.Flags.{bit}
 use Rattle.valid_width.specs.Width.{dual_source_blending}
 use Rattle.valid_type_info.specs.TypeInfo.{rows_in, row_flags}
-use Rattle.valid_blend.specs.Serving.{source_answer}
+use Rattle.ir_records.specs.Refusal.{judged}
 use Rattle.valid_blend.proofs.BlendLaws.{no_sources, no_blend}
 use Rattle.valid_blend.proofs.blended_flags.Goals as goal
 
@@ -15,13 +15,3 @@ returns-then-not-sourced c =
     let none : Sourceless a.part.now a.count = λ j h. p.sourceless (c.if-not-sourced.true) j (omega (arith, h, p.part_len)) in
     rw (no_sources (bit a.capabilities dual_source_blending) a.part.now a.count none)
     (sym (no_blend (type_inner a.types.now) (row_flags (rows_in a.rows.now)) a.part.now a.count a.flags none))
-
-pub returns-in-Fine : goal.returns-in-Fine
-returns-in-Fine c =
-    let passed = rw c.capable-dual.ensures at (sym c.sources_of.ensures ∙ ap source_answer c.in-Fine.is) in
-    rw passed c.struct_blend.ensures
-
-pub returns-in-Refused : goal.returns-in-Refused
-returns-in-Refused c =
-    let stopped = rw c.capable-dual.ensures at (sym c.sources_of.ensures ∙ ap source_answer c.in-Refused.is) in
-    rw stopped refl

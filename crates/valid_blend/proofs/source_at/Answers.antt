@@ -1,5 +1,6 @@
-use borrow.Author.Rules.{rules}
-use mathlib.Core.Path.{sym, ◌∙◌}
+use mathlib.Core.Path.{◌≡◌, sym, ◌∙◌}
+use Prim.Native.Nat.{suc, ◌-◌}
+use native.Mathlib.Omega.{arith}
 use Rattle.valid_blend.proofs.BlendLaws.{source_found, source_before, source_none}
 use Rattle.valid_blend.proofs.source_at.Goals as goal
 
@@ -7,16 +8,17 @@ pub returns-then-own_source-word : goal.returns-then-own_source-word
 returns-then-own_source-word c =
     let l = c.loop-j in
     let a = c.args in
-    sym (l.invariant.1 ∙ source_found a.part.now a.word l.j c.loop-j-test.true (sym c.own_source.ensures ∙ c.if-own_source-word.true))
+    let here : suc (l.j - 1) ≡ l.j = omega arith in
+    here ∙ sym (l.invariant ∙ source_found a.part.now a.word l.j c.loop-j-test.true (sym c.own_source.ensures ∙ c.if-own_source-word.true))
 
 pub loop-j-preserved : goal.loop-j-preserved
 loop-j-preserved c =
     let l = c.loop-j in
     let a = c.args in
-    (search rules, l.invariant.1 ∙ source_before a.part.now a.word l.j c.loop-j-test.true (λ e. c.if-own_source-word.false (c.own_source.ensures ∙ e)))
+    l.invariant ∙ source_before a.part.now a.word l.j c.loop-j-test.true (λ e. c.if-own_source-word.false (c.own_source.ensures ∙ e))
 
 pub returns : goal.returns
 returns c =
     let l = c.loop-j in
     let a = c.args in
-    sym (l.invariant.1 ∙ source_none a.part.now a.word l.j c.loop-j-test.false)
+    sym (l.invariant ∙ source_none a.part.now a.word l.j c.loop-j-test.false)

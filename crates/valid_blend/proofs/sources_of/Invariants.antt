@@ -1,13 +1,9 @@
 -- `valid_blend::sources_of` meets its contract. The invariant: the blend sources of the first j members pass.
 -- Assumes nothing.
 use mathlib.Core.Path.{◌≡◌}
-use Prim.Native.Nat.{◌≤◌, ◌-◌}
 use Rattle.ir_records.specs.Result.{ok}
 use Rattle.valid_blend.specs.Blend.{sources_after}
 use Rattle.valid_blend.proofs.sources_of.Given as goal
 
 abbrev pub invariant-loop-j : goal.invariant-loop-j
-invariant-loop-j l = (l.j ≤ l.n) × (sources_after l.dual l.part l.j ≡ ok tt)
-
-abbrev pub decreases-loop-j : goal.decreases-loop-j
-decreases-loop-j l = l.n - l.j
+invariant-loop-j l = sources_after l.dual l.part l.j ≡ ok tt

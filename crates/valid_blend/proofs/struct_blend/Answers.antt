@@ -1,50 +1,54 @@
-use mathlib.Core.Path.{sym, ◌∙◌}
-use Prim.Native.Nat.{◌-◌, ◌<◌}
+use mathlib.Core.Path.{◌≡◌, sym, ◌∙◌}
+use Prim.Native.Nat.{ℕ, suc, ◌<◌}
 use native.Mathlib.Omega.{arith}
+use Rattle.std.proofs.Common.{Some, None}
 use Rattle.ir_records.specs.Record.{type_inner}
 use Rattle.valid_type_info.specs.TypeInfo.{rows_in, row_flags}
-use Rattle.valid_blend.proofs.BlendLaws.{source_within, both_missing, second_alone, first_alone, both_there}
+use Rattle.valid_blend.proofs.BlendLaws.{source_within, blend_by}
 use Rattle.valid_blend.proofs.struct_blend.Goals as goal
 
-pub returns-then-second-eq0 : goal.returns-then-second-eq0
-returns-then-second-eq0 c =
+pub returns-in-None-None : goal.returns-in-None-None
+returns-in-None-None c =
     let a = c.args in
-    let first = c.source_at-first in
-    let second = c.source_at-second in
-    sym (both_missing (type_inner a.types.now) (row_flags (rows_in a.rows.now)) a.part.now a.count a.flags first.result second.result (sym first.ensures) (sym second.ensures) c.if-first-eq0.true c.if-second-eq0.true)
-
-pub returns-then-first-eq0 : goal.returns-then-first-eq0
-returns-then-first-eq0 c =
-    let a = c.args in
-    let first = c.source_at-first in
-    let second = c.source_at-second in
-    sym (second_alone (type_inner a.types.now) (row_flags (rows_in a.rows.now)) a.part.now a.count a.flags first.result second.result (sym first.ensures) (sym second.ensures) c.if-first-eq0.true (omega (arith, c.if-second-eq0.false)))
-
-pub returns-then-second-eq0-2 : goal.returns-then-second-eq0-2
-returns-then-second-eq0-2 c =
-    let a = c.args in
-    let first = c.source_at-first in
-    let second = c.source_at-second in
-    sym (first_alone (type_inner a.types.now) (row_flags (rows_in a.rows.now)) a.part.now a.count a.flags first.result second.result (sym first.ensures) (sym second.ensures) (omega (arith, c.if-first-eq0.false)) c.if-second-eq0-2.true)
+    let first = rw c.in-None-None.is-0 at c.source_at-first.ensures in
+    let second = rw c.in-None-None.is-1 at c.source_at-second.ensures in
+    sym (blend_by (type_inner a.types.now) (row_flags (rows_in a.rows.now)) a.part.now a.count a.flags None None first second)
 
 pub own_word-own-requires : goal.own_word-own-requires
-unfolding rows_in
 own_word-own-requires c =
     let a = c.args in
     let p = c.requires in
-    let first = c.source_at-first in
-    let below : first.result - 1 < a.count = omega (arith, c.if-first-eq0.false, first.ensures, source_within a.part.now 1 a.count) in
-    let earlier = p.by_index (first.result - 1) below in
+    let first = rw c.in-Some-Some.is-0 at c.source_at-first.ensures in
+    let below : c.in-Some-Some.a < a.count = omega (arith, first, source_within a.part.now 1 a.count) in
+    let earlier = p.by_index c.in-Some-Some.a below in
     rw c.member_type-s.ensures (omega (arith, earlier, p.rows_len))
 
 pub pair_of-requires : goal.pair_of-requires
 pair_of-requires c = omega (arith, c.requires.part_len)
 
-pub returns : goal.returns
+pub returns-in-Some-Some : goal.returns-in-Some-Some
 unfolding rows_in
-returns c =
+returns-in-Some-Some c =
     let a = c.args in
-    let first = c.source_at-first in
-    let second = c.source_at-second in
+    let w = c.in-Some-Some in
+    let first = rw w.is-0 at c.source_at-first.ensures in
+    let second = rw w.is-1 at c.source_at-second.ensures in
     let own = sym (rw c.member_type-s.ensures at c.own_word-own.ensures) in
-    c.pair_of.ensures (row_flags (rows_in a.rows.now)) own ∙ sym (both_there (type_inner a.types.now) (row_flags (rows_in a.rows.now)) a.part.now a.count a.flags first.result second.result (sym first.ensures) (sym second.ensures) (omega (arith, c.if-first-eq0.false)) (omega (arith, c.if-second-eq0-2.false)))
+    c.pair_of.ensures (row_flags (rows_in a.rows.now)) own
+    ∙ sym (blend_by (type_inner a.types.now) (row_flags (rows_in a.rows.now)) a.part.now a.count a.flags (Some w.a) (Some w.b) first second)
+
+pub returns-in-None-Some : goal.returns-in-None-Some
+returns-in-None-Some c =
+    let a = c.args in
+    let w = c.in-None-Some in
+    let first = rw w.is-0 at c.source_at-first.ensures in
+    let second = rw w.is-1 at c.source_at-second.ensures in
+    rw c.invalid.ensures (sym (blend_by (type_inner a.types.now) (row_flags (rows_in a.rows.now)) a.part.now a.count a.flags None (Some w.field-0-1) first second))
+
+pub returns-in-Some-None : goal.returns-in-Some-None
+returns-in-Some-None c =
+    let a = c.args in
+    let w = c.in-Some-None in
+    let first = rw w.is-0 at c.source_at-first.ensures in
+    let second = rw w.is-1 at c.source_at-second.ensures in
+    rw c.invalid-in-Some-None.ensures (sym (blend_by (type_inner a.types.now) (row_flags (rows_in a.rows.now)) a.part.now a.count a.flags (Some w.field-0-0) None first second))

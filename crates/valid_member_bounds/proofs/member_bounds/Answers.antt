@@ -4,22 +4,7 @@ use borrow.Author.Tests.{le-leb, lt-leb}
 use Rattle.valid_member_bounds.proofs.member_bounds.Goals as goal
 
 pub returns-then-not-is_member_data : goal.returns-then-not-is_member_data
-returns-then-not-is_member_data c = rw (sym c.is_member_data.ensures ∙ c.if-not-is_member_data.true)
-
-pub returns-then-not-is_apart : goal.returns-then-not-is_apart
-returns-then-not-is_apart c = rw (sym c.is_member_data.ensures ∙ c.if-not-is_member_data.false, sym c.is_apart.ensures ∙ c.if-not-is_apart.true)
-
-pub returns-then-sum-gt-MOST : goal.returns-then-sum-gt-MOST
-returns-then-sum-gt-MOST c = rw (sym c.is_member_data.ensures ∙ c.if-not-is_member_data.false, sym c.is_apart.ensures ∙ c.if-not-is_apart.false, lt-leb _ 4294967295 c.if-sum-gt-MOST.true)
-
-pub returns-then-span-next : goal.returns-then-span-next
-returns-then-span-next c = rw (sym c.is_member_data.ensures ∙ c.if-not-is_member_data.false, sym c.is_apart.ensures ∙ c.if-not-is_apart.false, le-leb _ 4294967295 c.if-sum-gt-MOST.false, lt-leb _ _ c.if-span-next.true)
-
-pub returns-then-not-within : goal.returns-then-not-within
-returns-then-not-within c = rw (sym c.is_member_data.ensures ∙ c.if-not-is_member_data.false, sym c.is_apart.ensures ∙ c.if-not-is_apart.false, le-leb _ 4294967295 c.if-sum-gt-MOST.false, le-leb _ _ c.if-span-next.false, c.if-not-within.true)
-
-pub returns-then-not-is_member_sized : goal.returns-then-not-is_member_sized
-returns-then-not-is_member_sized c = rw (sym c.is_member_data.ensures ∙ c.if-not-is_member_data.false, sym c.is_apart.ensures ∙ c.if-not-is_apart.false, le-leb _ 4294967295 c.if-sum-gt-MOST.false, le-leb _ _ c.if-span-next.false, c.if-not-within.false, sym c.is_member_sized.ensures ∙ c.if-not-is_member_sized.true)
+returns-then-not-is_member_data c = rw (sym c.is_member_data.ensures ∙ c.if-not-is_member_data.true, c.of_member.ensures)
 
 pub returns : goal.returns
 returns c = rw (sym c.is_member_data.ensures ∙ c.if-not-is_member_data.false, sym c.is_apart.ensures ∙ c.if-not-is_apart.false, le-leb _ 4294967295 c.if-sum-gt-MOST.false, le-leb _ _ c.if-span-next.false, c.if-not-within.false, sym c.is_member_sized.ensures ∙ c.if-not-is_member_sized.false, c.member_flags.ensures, c.both-joined.ensures) refl

@@ -1,5 +1,7 @@
 -- `valid_members::members_of` meets its contract. The invariant: state is what the definition has after j members. Assumes nothing.
-use mathlib.Core.Path.{sym}
+use Rattle.std.proofs.Common.{rules, Err, ◌≡◌}
+use Rattle.ir_records.specs.Refusal.{judged}
+use mathlib.Core.Path.{sym, ap, ◌∙◌}
 use Prim.Native.Nat.{◌+◌}
 use native.Mathlib.Nat.{le_antisymm}
 use native.Mathlib.Omega.{arith}
@@ -27,12 +29,13 @@ step-requires c =
     let s = c in
     record { rows_len = s.requires.rows_len; j_value = c.together-reached.ensures.taken_value s.args.rule c.loop-j.invariant.1 }
 
-pub returns-in-Refused : goal.returns-in-Refused
-returns-in-Refused c =
+pub returns-in_err-state : goal.returns-in_err-state
+returns-in_err-state c =
     let a = c.args in
     let o = c.together-reached in
-    let refused = rw c.in-Refused.is at (sym c.step.ensures) in
-    sym (state_refused (least_for a.rule) (type_inner a.types.now) (rows_in a.rows.now) a.i a.count a.span a.part.now (o.result.taken + 1) refused a.count (omega (arith, o.ensures.taken_le_count_2, c.if-at-count.false)))
+    let refused = rw c.in_err-state.was at (sym c.step.ensures) in
+    let same : c.from_residual.result ≡ Err c.in_err-state.field-0.0 = search rules in
+    ap judged same ∙ sym (state_refused (least_for a.rule) (type_inner a.types.now) (rows_in a.rows.now) a.i a.count a.span a.part.now (o.result.taken + 1) refused a.count (omega (arith, o.ensures.taken_le_count_2, c.if-at-count.false)))
 
 pub overflow_add-j : goal.overflow_add-j
 overflow_add-j c = omega (arith, c.together-reached.ensures.taken_le_count_2, c.if-at-count.false, c.ranges.count)
@@ -43,7 +46,7 @@ loop-j-smaller c = omega (arith, c.loop-j-test.true, c.together-reached.ensures.
 pub loop-j-preserved : goal.loop-j-preserved
 loop-j-preserved c =
     let o = c.together-reached in
-    (omega (arith, o.ensures.taken_le_count_2, c.if-at-count.false), rw c.in-Took.is at (sym c.step.ensures))
+    (omega (arith, o.ensures.taken_le_count_2, c.if-at-count.false), rw c.in_ok-state.was at (sym c.step.ensures))
 
 pub returns : goal.returns
 returns c =

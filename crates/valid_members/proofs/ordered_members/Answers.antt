@@ -1,5 +1,6 @@
 -- `valid_members::ordered_members` meets its contract. The invariant: state is what the definition has after j members, by either rule. Assumes nothing.
 use mathlib.Core.Path.{◌∙◌}
+use native.Mathlib.Nat.{le_antisymm, le_refl}
 use native.Mathlib.Numerals.{add-one}
 use native.Mathlib.Omega.{arith}
 use Rattle.ir_records.specs.Record.{type_inner}
@@ -22,14 +23,8 @@ ordered_member-requires c =
     let pre = c.requires in
     record { t_lt_i = rw (← c.own_type-t.ensures) at (pre.by_index c.loop-j.j c.loop-j-test.true); rows_len = pre.rows_len }
 
-pub returns-in-Other : goal.returns-in-Other
-returns-in-Other c = let l = c.loop-j in record { taken_le_taken = l.invariant.0; taken_le_count_2 = l.invariant.1; taken_value = l.invariant.2 }
-
-pub overflow_add-j : goal.overflow_add-j
-overflow_add-j c = omega (arith, c.loop-j-test.true, c.ranges.count)
-
-pub loop-j-smaller : goal.loop-j-smaller
-loop-j-smaller c = omega (arith, c.loop-j-test.true)
+pub returns-in-None : goal.returns-in-None
+returns-in-None c = let l = c.loop-j in record { taken_le_taken = l.invariant.0; taken_le_count_2 = l.invariant.1; taken_value = l.invariant.2 }
 
 pub loop-j-preserved : goal.loop-j-preserved
 loop-j-preserved c =
@@ -38,9 +33,12 @@ loop-j-preserved c =
       omega (arith, l.invariant.0),
       omega (arith, c.loop-j-test.true),
       λ rule e.
-          let step = rw (c.in-Took.is, c.own_offset-offset.ensures, c.own_type-t.ensures) at (c.ordered_member.ensures rule a.count) in
+          let step = rw (c.in-Some.is, c.own_offset-offset.ensures, c.own_type-t.ensures) at (c.ordered_member.ensures rule a.count) in
           rw add-one (state_step (least_for rule) (type_inner a.types.now) (rows_in a.rows.now) a.i a.count a.span a.part.now l.j l.state (l.invariant.2 rule e) ∙ step),
     )
 
 pub returns : goal.returns
-returns c = let l = c.loop-j in record { taken_le_taken = l.invariant.0; taken_le_count_2 = l.invariant.1; taken_value = l.invariant.2 }
+returns c =
+    let l = c.loop-j in
+    let whole = le_antisymm l.invariant.1 c.loop-j-test.false in
+    record { taken_le_taken = omega (arith, l.invariant.0, l.invariant.1); taken_le_count_2 = le_refl _; taken_value = λ rule e. rw whole at (l.invariant.2 rule e) }

@@ -15,6 +15,3 @@ invariant-loop-j l =
     × (l.j ≤ l.count)
     × ((rule : UniformRule) → state_after (least_for rule) (type_inner l.types) (rows_in l.rows) l.i l.count l.span l.part l.taken ≡ ok l.initial.state
     → state_after (least_for rule) (type_inner l.types) (rows_in l.rows) l.i l.count l.span l.part l.j ≡ ok l.state)
-
-abbrev pub decreases-loop-j : goal.decreases-loop-j
-decreases-loop-j l = l.count - l.j

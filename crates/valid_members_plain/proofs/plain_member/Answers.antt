@@ -19,8 +19,8 @@ returns c = λ rule count j before e.
     let clear = apart a.state.end a.offset a.i j before (rw e c.if-offset-state.false) (omega (arith, fits.offset)) in
     let keeps = kept row a.offset (sym c.keeps_verdicts.ensures ∙ c.if-not-keeps_verdicts.false) in (
       rw (end, c.both.ensures, c.own_word-flags.ensures) (bounds-step this row a.i count a.span j a.t a.offset before a.state plain clear inside (omega (arith, fits.span))),
-      rw (c.larger.ensures, c.own_word-2.ensures) (uniform_step this row a.i count a.span j a.t a.offset before a.state plain rule clear keeps),
-      rw (c.larger-2.ensures, c.own_word-3.ensures) (storage_step this row a.i count a.span j a.t a.offset before a.state plain keeps.storage_ok keeps.storage),
+      rw (c.max.ensures, c.own_word-2.ensures) (uniform_step this row a.i count a.span j a.t a.offset before a.state plain rule clear keeps),
+      rw (c.max-2.ensures, c.own_word-3.ensures) (storage_step this row a.i count a.span j a.t a.offset before a.state plain keeps.storage_ok keeps.storage),
       keeps.immediates,
       sym c.least_after.ensures,
     )

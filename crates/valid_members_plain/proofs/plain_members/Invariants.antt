@@ -16,6 +16,3 @@ invariant-loop-j l =
     × ((rule : UniformRule) (immediates : ℕ)
     → PlainAfter (least_for rule) (type_inner l.types) (rows_in l.rows) l.i l.count l.span l.part l.taken (ok_verdict l.initial.state.uniform) immediates l.initial.state
     → PlainAfter (least_for rule) (type_inner l.types) (rows_in l.rows) l.i l.count l.span l.part l.j (ok_verdict l.state.uniform) immediates l.state)
-
-abbrev pub decreases-loop-j : goal.decreases-loop-j
-decreases-loop-j l = l.count - l.j

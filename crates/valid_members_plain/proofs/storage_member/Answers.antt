@@ -20,7 +20,7 @@ returns c = λ rule u count j before failed e.
     let keeps = storage_kept row a.offset (sym c.keeps_storage.ensures ∙ c.if-not-keeps_storage.false) in (
       rw (end, c.both.ensures, c.own_word-flags.ensures) (bounds-step this row a.i count a.span j a.t a.offset before a.state plain clear inside (omega (arith, fits.span))),
       uniform_stays this row a.i count a.span j a.t a.offset before a.state plain rule u failed clear,
-      rw (c.larger.ensures, c.own_word-2.ensures) (storage_step this row a.i count a.span j a.t a.offset before a.state plain keeps.storage_ok keeps.storage),
+      rw (c.max.ensures, c.own_word-2.ensures) (storage_step this row a.i count a.span j a.t a.offset before a.state plain keeps.storage_ok keeps.storage),
       keeps.immediates,
       sym c.least_after.ensures,
     )

@@ -29,14 +29,8 @@ storage_member-requires c =
 pub overflow_cast-result : goal.overflow_cast-result
 overflow_cast-result c = omega (arith, c.loop-j-test.true, c.ranges.count)
 
-pub returns-in-Other : goal.returns-in-Other
-returns-in-Other c = let l = c.loop-j in record { taken_le_taken = l.invariant.0; taken_le_count_2 = l.invariant.1; plain_after = l.invariant.2 }
-
-pub overflow_add-j : goal.overflow_add-j
-overflow_add-j c = omega (arith, c.loop-j-test.true, c.ranges.count)
-
-pub loop-j-smaller : goal.loop-j-smaller
-loop-j-smaller c = omega (arith, c.loop-j-test.true)
+pub returns-in-None : goal.returns-in-None
+returns-in-None c = let l = c.loop-j in record { taken_le_taken = l.invariant.0; taken_le_count_2 = l.invariant.1; plain_after = l.invariant.2 }
 
 pub loop-j-preserved : goal.loop-j-preserved
 unfolding bounds_after uniform_after storage_after immediates_after previous_of
@@ -47,7 +41,7 @@ loop-j-preserved c =
       omega (arith, c.loop-j-test.true),
       λ rule u immediates failed p.
           let before = l.invariant.2 rule u immediates failed p in
-          let step = rw (c.in-Took.is, c.own_offset-offset.ensures, c.own_type-t.ensures) at (c.storage_member.ensures rule u a.count l.j (previous_of (type_inner a.types.now) a.part.now l.j) failed before.4) in
+          let step = rw (c.in-Some.is, c.own_offset-offset.ensures, c.own_type-t.ensures) at (c.storage_member.ensures rule u a.count l.j (previous_of (type_inner a.types.now) a.part.now l.j) failed before.4) in
           (rw (add-one, before.0) step.0, rw (add-one, before.1) step.1, rw (add-one, before.2) step.2, rw (add-one, before.3, step.3) refl, rw add-one step.4),
     )
 

@@ -19,6 +19,3 @@ invariant-loop-j l =
     × ((rule : UniformRule) (u : Verdict) (immediates : ℕ) → is_ok u ≡ false
     → PlainAfter (least_for rule) (type_inner l.types) (rows_in l.rows) l.i l.count l.span l.part l.taken u immediates l.initial.state
     → PlainAfter (least_for rule) (type_inner l.types) (rows_in l.rows) l.i l.count l.span l.part l.j u immediates l.state)
-
-abbrev pub decreases-loop-j : goal.decreases-loop-j
-decreases-loop-j l = l.count - l.j

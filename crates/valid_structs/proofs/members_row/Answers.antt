@@ -1,3 +1,4 @@
+use Rattle.std.proofs.Common.{rules, Err, ◌≡◌}
 use mathlib.Core.Path.{refl, sym, ◌∙◌, ap}
 use Prim.Native.Nat.{◌*◌, ◌<◌}
 use native.Mathlib.Omega.{arith}
@@ -8,14 +9,14 @@ use Rattle.ir_records.specs.Record.{type_inner}
 use Rattle.valid_flags.specs.Flags.{bit}
 use Rattle.valid_width.specs.Width.{dual_source_blending}
 use Rattle.valid_type_info.specs.TypeInfo.{rows_in, row_sizes, row_flags}
-use Rattle.valid_blend.specs.Serving.{source_answer, blend_answer}
+use Rattle.ir_records.specs.Refusal.{judged}
 use Rattle.valid_blend.proofs.BlendLaws.{blended_refused, flags_taken, flags_refused}
 use Rattle.valid_types.specs.ValidateType.{judge, flags_of, row_of, uniform_of, storage_of, immediates_of}
 use Rattle.valid_structs.proofs.members_row.Goals as goal
 
 pub returns-then-count-eq0 : goal.returns-then-count-eq0
 unfolding judge flags_of
-returns-then-count-eq0 c = rw c.if-count-eq0.true (refl, refl)
+returns-then-count-eq0 c = rw c.if-count-eq0.true (rw c.of.ensures refl, refl)
 
 pub slice_bounds-members_of-end-2 : goal.slice_bounds-members_of-end-2
 slice_bounds-members_of-end-2 c = let a = c.args in sym (length-take-le (a.i * 14) a.rows.now (omega (arith, c.requires.i_in_bounds)))
@@ -26,8 +27,8 @@ members_of-requires c =
     let p = c.requires in
     record { rows_len = length-take-le (a.i * 14) a.rows.now (omega (arith, p.i_in_bounds)); i_in_bounds = p.i_in_bounds_2; part_len = p.part_len; by_index = p.by_index }
 
-pub slice_bounds-blended_flags-end-in-Taken : goal.slice_bounds-blended_flags-end-in-Taken
-slice_bounds-blended_flags-end-in-Taken c = let a = c.args in sym (length-take-le (a.i * 14) a.rows.now (omega (arith, c.requires.i_in_bounds)))
+pub slice_bounds-blended_flags-end-in-Ok : goal.slice_bounds-blended_flags-end-in-Ok
+slice_bounds-blended_flags-end-in-Ok c = let a = c.args in sym (length-take-le (a.i * 14) a.rows.now (omega (arith, c.requires.i_in_bounds)))
 
 pub blended_flags-requires : goal.blended_flags-requires
 blended_flags-requires c =
@@ -42,57 +43,59 @@ pub source_before-requires : goal.source_before-requires
 source_before-requires c =
     let a = c.args in
     let p = c.requires in
-    let error = rw c.in-Refused.is at c.members_of.ensures in
+    let error = rw c.in-Err.is at c.members_of.ensures in
     let below = (blended_refused (bit a.capabilities dual_source_blending) (type_inner a.types.now) (row_sizes (rows_in (take (a.i * 14) a.rows.now))) (row_flags (rows_in (take (a.i * 14) a.rows.now))) a.count a.span a.part.now a.count _ _ _ error).0 in
     record { member_words_in_bounds = omega (arith, below, p.part_len); member_bound = omega (arith, below); sourceless = p.sourceless }
 
-pub returns-in-Flags : goal.returns-in-Flags
+pub returns-in_ok-flags-in-Ok : goal.returns-in_ok-flags-in-Ok
 unfolding judge flags_of row_of uniform_of storage_of immediates_of
-returns-in-Flags c =
+returns-in_ok-flags-in-Ok c =
     let a = c.args in
     let some : 0 < a.count = omega (arith, c.if-count-eq0.false) in
     let inner = type_inner a.types.now in
     let rows = rows_in (take (a.i * 14) a.rows.now) in
     let dual = bit a.capabilities dual_source_blending in
-    let parts = rw c.in-Taken.is at c.members_of.ensures in
-    let flags = flags_taken dual inner (row_sizes rows) (row_flags rows) a.count a.span a.part.now _ parts.0 ∙ sym c.blended_flags.ensures ∙ ap blend_answer c.in-Flags.is in
+    let parts = rw c.in-Ok.is at c.members_of.ensures in
+    let flags = flags_taken dual inner (row_sizes rows) (row_flags rows) a.count a.span a.part.now _ parts.0 ∙ sym c.blended_flags.ensures ∙ ap judged c.in_ok-flags-in-Ok.was in
     rw (lt-ltb 0 a.count some, flags, parts.1, parts.2, parts.3)
     (refl, rw (c.span_verdict-uniform.ensures, c.span_verdict-storage.ensures) at c.put.ensures)
 
-pub returns-in-Refused-blended_flags : goal.returns-in-Refused-blended_flags
+pub returns-in_err-flags-in-Ok : goal.returns-in_err-flags-in-Ok
 unfolding judge flags_of
-returns-in-Refused-blended_flags c =
+returns-in_err-flags-in-Ok c =
     let a = c.args in
     let some : 0 < a.count = omega (arith, c.if-count-eq0.false) in
     let inner = type_inner a.types.now in
     let rows = rows_in (take (a.i * 14) a.rows.now) in
     let dual = bit a.capabilities dual_source_blending in
-    let parts = rw c.in-Taken.is at c.members_of.ensures in
-    let flags = flags_taken dual inner (row_sizes rows) (row_flags rows) a.count a.span a.part.now _ parts.0 ∙ sym c.blended_flags.ensures ∙ ap blend_answer c.in-Refused-blended_flags.is in
-    rw (lt-ltb 0 a.count some, flags) (refl, refl)
+    let parts = rw c.in-Ok.is at c.members_of.ensures in
+    let flags = flags_taken dual inner (row_sizes rows) (row_flags rows) a.count a.span a.part.now _ parts.0 ∙ sym c.blended_flags.ensures ∙ ap judged c.in_err-flags-in-Ok.was in
+    let same : c.from_residual.result ≡ Err c.in_err-flags-in-Ok.field-0.0 = search rules in
+    rw (lt-ltb 0 a.count some, flags) (ap judged same, refl)
 
-pub returns-in-Fine : goal.returns-in-Fine
+pub returns-in_ok-source_before-in-Err : goal.returns-in_ok-source_before-in-Err
 unfolding judge flags_of
-returns-in-Fine c =
+returns-in_ok-source_before-in-Err c =
     let a = c.args in
     let some : 0 < a.count = omega (arith, c.if-count-eq0.false) in
     let inner = type_inner a.types.now in
     let rows = rows_in (take (a.i * 14) a.rows.now) in
     let dual = bit a.capabilities dual_source_blending in
-    let error = rw c.in-Refused.is at c.members_of.ensures in
-    let source = sym c.source_before.ensures ∙ ap source_answer c.in-Fine.is in
+    let error = rw c.in-Err.is at c.members_of.ensures in
+    let source = sym c.source_before.ensures ∙ ap judged c.in_ok-source_before-in-Err.was in
     let flags = flags_refused dual inner (row_sizes rows) (row_flags rows) a.count a.span a.part.now _ _ _ error in
     rw (lt-ltb 0 a.count some, flags, source) (refl, refl)
 
-pub returns-in-Refused-source_before : goal.returns-in-Refused-source_before
+pub returns-in_err-source_before-in-Err : goal.returns-in_err-source_before-in-Err
 unfolding judge flags_of
-returns-in-Refused-source_before c =
+returns-in_err-source_before-in-Err c =
     let a = c.args in
     let some : 0 < a.count = omega (arith, c.if-count-eq0.false) in
     let inner = type_inner a.types.now in
     let rows = rows_in (take (a.i * 14) a.rows.now) in
     let dual = bit a.capabilities dual_source_blending in
-    let error = rw c.in-Refused.is at c.members_of.ensures in
-    let source = sym c.source_before.ensures ∙ ap source_answer c.in-Refused-source_before.is in
+    let error = rw c.in-Err.is at c.members_of.ensures in
+    let source = sym c.source_before.ensures ∙ ap judged c.in_err-source_before-in-Err.was in
+    let same : c.from_residual-in_err-source_before-in-Err.result ≡ Err c.in_err-source_before-in-Err.field-0.0 = search rules in
     let flags = flags_refused dual inner (row_sizes rows) (row_flags rows) a.count a.span a.part.now _ _ _ error in
-    rw (lt-ltb 0 a.count some, flags, source) (refl, refl)
+    rw (lt-ltb 0 a.count some, flags, source) (ap judged same, refl)

@@ -1,3 +1,5 @@
+use Rattle.std.proofs.Common.{rules, Err, ◌≡◌}
+use Rattle.ir_records.specs.Refusal.{judged}
 use mathlib.Core.Path.{refl, sym, ◌∙◌, ap}
 use Prim.Native.Nat.{◌*◌}
 use native.Mathlib.Omega.{arith}
@@ -17,7 +19,7 @@ use Rattle.valid_structs.proofs.struct_row.Goals as goal
 pub returns-then-not-struct_fields : goal.returns-then-not-struct_fields
 returns-then-not-struct_fields c =
     let a = c.args in
-    λ n. rw (sym (c.struct_fields.ensures a.span) ∙ c.if-not-struct_fields.true, refused_twice 2 0 0 (sources_located (take (a.count * member_words) (drop (a.first * member_words) a.members.now)))) (refl, refl)
+    λ n. rw (sym (c.struct_fields.ensures a.span) ∙ c.if-not-struct_fields.true, refused_twice 2 0 0 (sources_located (take (a.count * member_words) (drop (a.first * member_words) a.members.now)))) (rw c.of.ensures refl, refl)
 
 pub member_part-part-requires : goal.member_part-part-requires
 member_part-part-requires c =
@@ -40,24 +42,25 @@ members_row-requires c =
     let h = members-within (member_count a.members.now) a.first a.count 0 a.d a.e (sym (c.struct_fields.ensures 0) ∙ c.if-not-struct_fields.false) in
     let part = c.member_part-part.result.now in
     let ls = layouts_in (take (a.i * 14) a.rows.now) in
-    let e = (required (sources_located part) 2 0 0 (members_alignment ls a.i part a.count) _ (sym c.members_alignment.ensures.result_value ∙ ap located_result c.in-To.is)).1 in
-    record { i_in_bounds = s.requires.i_in_bounds; i_in_bounds_2 = s.requires.i_in_bounds_2; part_len = rw c.member_part-part.ensures (part-length a.members.now a.first a.count h); by_index = members_earlier ls a.i part a.count _ e; sourceless = rw c.in-To.is at c.members_alignment.ensures.sources_told }
+    let e = (required (sources_located part) 2 0 0 (members_alignment ls a.i part a.count) _ (sym c.members_alignment.ensures.result_value ∙ ap located_result c.in_ok-located.was)).1 in
+    record { i_in_bounds = s.requires.i_in_bounds; i_in_bounds_2 = s.requires.i_in_bounds_2; part_len = rw c.member_part-part.ensures (part-length a.members.now a.first a.count h); by_index = members_earlier ls a.i part a.count _ e; sourceless = rw c.in_ok-located.was at c.members_alignment.ensures.sources_told }
 
-pub returns-in-To : goal.returns-in-To
-returns-in-To c =
+pub returns : goal.returns
+returns c =
     let a = c.args in
     let m = member_count a.members.now in
     let fit = sym (c.struct_fields.ensures a.span) ∙ c.if-not-struct_fields.false in
-    let e = rw c.member_part-part.ensures at (sym c.members_alignment.ensures.result_value ∙ ap located_result c.in-To.is) in
+    let e = rw c.member_part-part.ensures at (sym c.members_alignment.ensures.result_value ∙ ap located_result c.in_ok-located.was) in
     let part = take (a.count * member_words) (drop (a.first * member_words) a.members.now) in
     let r = required (sources_located part) 2 0 0 _ _ e in
     λ n. rw (T_true (sources_located part) r.0, struct_row_is (least_for a.rule) a.capabilities m n (type_inner a.types.now) (take (a.i * 14) a.rows.now) a.i a.first a.count a.span a.d a.e _ fit _ r.1)
     (rw c.member_part-part.ensures at c.members_row.ensures)
 
-pub returns-in-Refused : goal.returns-in-Refused
-returns-in-Refused c =
+pub returns-in_err-located : goal.returns-in_err-located
+returns-in_err-located c =
     let a = c.args in
     let m = member_count a.members.now in
     let fit = sym (c.struct_fields.ensures a.span) ∙ c.if-not-struct_fields.false in
-    let e = rw c.member_part-part.ensures at (sym c.members_alignment.ensures.result_value ∙ ap located_result c.in-Refused.is) in
-    λ n. rw (struct_row_refused (least_for a.rule) a.capabilities m n (type_inner a.types.now) (take (a.i * 14) a.rows.now) a.i a.first a.count a.span a.d a.e _ fit (sources_located (take (a.count * member_words) (drop (a.first * member_words) a.members.now))) e) (refl, refl)
+    let e = rw c.member_part-part.ensures at (sym c.members_alignment.ensures.result_value ∙ ap located_result c.in_err-located.was) in
+    let same : c.from_residual.result ≡ Err c.in_err-located.field-0.0 = search rules in
+    λ n. rw (struct_row_refused (least_for a.rule) a.capabilities m n (type_inner a.types.now) (take (a.i * 14) a.rows.now) a.i a.first a.count a.span a.d a.e _ fit (sources_located (take (a.count * member_words) (drop (a.first * member_words) a.members.now))) e) (ap judged same, refl)

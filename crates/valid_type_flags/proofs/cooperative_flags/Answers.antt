@@ -6,6 +6,3 @@ returns-then-not-capable c = rw (sym c.capable.ensures ∙ c.if-not-capable.true
 
 pub returns-then-kind-width : goal.returns-then-kind-width
 returns-then-kind-width c = rw (sym c.capable.ensures ∙ c.if-not-capable.false, c.if-kind-width.true, c.starting_flags.ensures) refl
-
-pub returns : goal.returns
-returns c = rw (sym c.capable.ensures ∙ c.if-not-capable.false, c.if-kind-width.false) c.refused.ensures

@@ -6,8 +6,8 @@ use Rattle.ir_records.proofs.ResultLaws.{ok_inj}
 use mathlib.Core.Path.{ap}
 use Rattle.valid_types.proofs.alignment_in.Goals as goal
 
-pub returns-in-Layout : goal.returns-in-Layout
-returns-in-Layout c = λ l e. ap (λ (x : TypeLayout). x.alignment) (ok_inj (rw c.in-Layout.is at e))
+pub returns-in-Ok : goal.returns-in-Ok
+returns-in-Ok c = λ l e. ap (λ (x : TypeLayout). x.alignment) (ok_inj (rw c.in-Ok.is at e))
 
-pub returns-in-Refused : goal.returns-in-Refused
-returns-in-Refused c = λ l e. let f = rw c.in-Refused.is at e in let z : ◌≡◌ {A = ℕ} 0 1 = cc in absurd (omega arith)
+pub returns-in-Err : goal.returns-in-Err
+returns-in-Err c = λ l e. let f = rw c.in-Err.is at e in let z : ◌≡◌ {A = ℕ} 0 1 = cc in absurd (omega arith)

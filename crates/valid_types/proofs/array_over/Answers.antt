@@ -11,7 +11,7 @@ pub row_at-element-requires : goal.row_at-element-requires
 row_at-element-requires c = let a = c.args in rw (length-take-le (a.i * 14) a.rows.now (omega (arith, c.requires))) (omega arith)
 
 pub returns-then-not-is_sized_data : goal.returns-then-not-is_sized_data
-returns-then-not-is_sized_data c = rw (← c.row_at-element.ensures, sym c.is_sized_data.ensures ∙ c.if-not-is_sized_data.true) (refl, refl)
+returns-then-not-is_sized_data c = rw (← c.row_at-element.ensures, sym c.is_sized_data.ensures ∙ c.if-not-is_sized_data.true) (rw c.of.ensures refl, refl)
 
 pub returns : goal.returns
 returns c =

@@ -46,7 +46,7 @@ returns-in_default c =
     let s = c in
     let a = s.args in let w = a.w in
     let r = c.in_default.in_default-own.rest in
-    λ least m i members.
-    let above = past 13 (past 12 (past 11 (past 10 (past 9 (past 8 (past 7 (past 6 (past 5 (past 4 (past 3 (past 2 (past 1 (past 0 {kind = w.kind} (omega arith) r.0.0.0.0.0.0.0.0.0.0.0.1) r.0.0.0.0.0.0.0.0.0.0.1) r.0.0.0.0.0.0.0.0.0.1) r.0.0.0.0.0.0.0.0.1) r.0.0.0.0.0.0.0.1) r.0.0.0.0.0.0.1) r.0.0.0.0.0.1) s.requires.fact) s.requires.fact_2) r.0.0.0.0.1) r.0.0.0.1) r.0.0.1) r.0.1) r.1 in
+    λ least m i members. rw c.of.ensures
+    (let above = past 13 (past 12 (past 11 (past 10 (past 9 (past 8 (past 7 (past 6 (past 5 (past 4 (past 3 (past 2 (past 1 (past 0 {kind = w.kind} (omega arith) r.0.0.0.0.0.0.0.0.0.0.0.1) r.0.0.0.0.0.0.0.0.0.0.1) r.0.0.0.0.0.0.0.0.0.1) r.0.0.0.0.0.0.0.0.1) r.0.0.0.0.0.0.0.1) r.0.0.0.0.0.0.1) r.0.0.0.0.0.1) s.requires.fact) s.requires.fact_2) r.0.0.0.0.1) r.0.0.0.1) r.0.0.1) r.0.1) r.1 in
     no_row least a.capabilities m (type_count a.types.now) (type_inner a.types.now) a.rows.now i members w.kind w.a w.b w.c w.d w.e
-    (no_kind m w.kind w.a w.b w.c w.d w.e above)
+    (no_kind m w.kind w.a w.b w.c w.d w.e above))

@@ -12,4 +12,4 @@ returns-then-kind-width c = rw (lt-leb _ 1 c.if-kind-le-UINT.false, c.if-kind-wi
 
 pub returns : goal.returns
 unfolding atomic_width
-returns c = rw (lt-leb _ 1 c.if-kind-le-UINT.false, c.if-kind-width.false)
+returns c = rw (lt-leb _ 1 c.if-kind-le-UINT.false, c.if-kind-width.false, c.of.ensures)

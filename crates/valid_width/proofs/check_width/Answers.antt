@@ -16,4 +16,4 @@ returns-then-kind-eq-BOOL c = rw (lt-leb _ 1 c.if-kind-le-UINT.false, ne_eqb _ 2
 
 pub returns : goal.returns
 unfolding check_width
-returns c = rw (lt-leb _ 1 c.if-kind-le-UINT.false, ne_eqb _ 2 c.if-kind-eq-FLOAT.false, ne_eqb _ 3 c.if-kind-eq-BOOL.false)
+returns c = rw (lt-leb _ 1 c.if-kind-le-UINT.false, ne_eqb _ 2 c.if-kind-eq-FLOAT.false, ne_eqb _ 3 c.if-kind-eq-BOOL.false, c.of.ensures)

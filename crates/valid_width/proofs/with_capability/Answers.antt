@@ -4,4 +4,4 @@ pub returns-then-capable : goal.returns-then-capable
 returns-then-capable c = rw c.if-capable.true
 
 pub returns-else-capable : goal.returns-else-capable
-returns-else-capable c = rw c.if-capable.false
+returns-else-capable c = rw (c.if-capable.false, c.with_detail.ensures)

@@ -1,16 +1,21 @@
+use Rattle.std.proofs.lemmas.Result.{err_from_is_err_and}
 use Rattle.wgsl_members.proofs.attribute_named.Goals as goal
 
-pub returns-in-Refused : goal.returns-in-Refused
-returns-in-Refused c = rw (c.if-aligned.true, ← c.value_at.ensures, c.in-Refused.is)
+pub returns-in_err-number : goal.returns-in_err-number
+returns-in_err-number c =
+    let p = err_from_is_err_and c.from_residual.result c.from_residual.ensures.1 in
+    rw (p.1, p.2, c.if-aligned.true, ← c.value_at.ensures, c.in_err-number.was)
 
-pub returns-in-Value : goal.returns-in-Value
-returns-in-Value c = rw (c.if-aligned.true, ← c.value_at.ensures, c.in-Value.is, c.again-more.ensures)
+pub returns-then-aligned : goal.returns-then-aligned
+returns-then-aligned c = rw (c.if-aligned.true, ← c.value_at.ensures, c.in_ok-number.was, c.again-more.ensures)
 
-pub returns-in-Refused-value_at : goal.returns-in-Refused-value_at
-returns-in-Refused-value_at c = rw (c.if-aligned.false, c.if-sized.true, ← c.value_at-then-sized.ensures, c.in-Refused-value_at.is)
+pub returns-in_err-number-2 : goal.returns-in_err-number-2
+returns-in_err-number-2 c =
+    let p = err_from_is_err_and c.from_residual-in_err-number-2.result c.from_residual-in_err-number-2.ensures.1 in
+    rw (p.1, p.2, c.if-aligned.false, c.if-sized.true, ← c.value_at-then-sized.ensures, c.in_err-number-2.was)
 
-pub returns-in-Value-value_at : goal.returns-in-Value-value_at
-returns-in-Value-value_at c = rw (c.if-aligned.false, c.if-sized.true, ← c.value_at-then-sized.ensures, c.in-Value-value_at.is, c.again-more-in-Value-value_at.ensures)
+pub returns-then-sized : goal.returns-then-sized
+returns-then-sized c = rw (c.if-aligned.false, c.if-sized.true, ← c.value_at-then-sized.ensures, c.in_ok-number-2.was, c.again-more-then-sized.ensures)
 
 pub returns : goal.returns
 returns c = rw (c.if-aligned.false, c.if-sized.false)

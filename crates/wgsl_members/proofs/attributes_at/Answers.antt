@@ -1,35 +1,36 @@
 -- `wgsl_members::attributes_at` meets its contract. The invariant: what is left gives what the whole gives. Assumes nothing.
-use mathlib.Core.Path.{◌≡◌, refl, sym, ◌∙◌}
+use mathlib.Core.Path.{◌≡◌, sym, ◌∙◌}
+use Prim.Native.Nat.{◌-◌}
 use native.Mathlib.Omega.{arith}
+use lib.ListN.{length}
+use Rattle.std.proofs.lemmas.Result.{err_from_is_err_and}
 use Rattle.wgsl_tokens.specs.Tokens.{from}
 use Rattle.wgsl_members.specs.Members.{attributes_of}
 use Rattle.wgsl_members.proofs.MemberLaws.{attributes_step}
 use Rattle.wgsl_members.proofs.attributes_at.Goals as goal
 
-pub loop-left-init : goal.loop-left-init
-loop-left-init c = refl
+pub returns-in_default : goal.returns-in_default
+returns-in_default c =
+    let l = c.loop-turn in
+    let step = attributes_step (length c.args.s.now) l._turn l.given (from c.args.s.now l.next) c.loop-turn-test.true in
+    rw c.in_default.ensures at (sym step ∙ l.invariant)
 
-pub returns-in-Refused : goal.returns-in-Refused
-returns-in-Refused c =
-    let l = c.loop-left in
-    let step = attributes_step l.left l.given (from c.args.s.now l.next) c.loop-left-test.true in
-    rw (c.expect.ensures, c.in-Refused.is) at (sym step ∙ l.invariant)
+pub returns-in_err-more : goal.returns-in_err-more
+returns-in_err-more c =
+    let l = c.loop-turn in
+    let step = attributes_step (length c.args.s.now) l._turn l.given (from c.args.s.now l.next) c.loop-turn-test.true in
+    let p = err_from_is_err_and c.from_residual.result c.from_residual.ensures.1 in
+    rw (p.1, p.2) (rw (c.in-Ok.ensures, ← c.attribute_at.ensures, c.in_err-more.was) at (sym step ∙ l.invariant))
 
-pub returns-in-Refused-attribute_at : goal.returns-in-Refused-attribute_at
-returns-in-Refused-attribute_at c =
-    let l = c.loop-left in
-    let step = attributes_step l.left l.given (from c.args.s.now l.next) c.loop-left-test.true in
-    rw (c.expect.ensures, c.in-At.is, ← c.attribute_at.ensures, c.in-Refused-attribute_at.is) at (sym step ∙ l.invariant)
-
-pub loop-left-preserved : goal.loop-left-preserved
-loop-left-preserved c =
-    let l = c.loop-left in
-    let step = attributes_step l.left l.given (from c.args.s.now l.next) c.loop-left-test.true in
-    rw (c.expect.ensures, c.in-At.is, ← c.attribute_at.ensures, c.in-Given.is) at (sym step ∙ l.invariant)
+pub loop-turn-preserved : goal.loop-turn-preserved
+loop-turn-preserved c =
+    let l = c.loop-turn in
+    let step = attributes_step (length c.args.s.now) l._turn l.given (from c.args.s.now l.next) c.loop-turn-test.true in
+    rw (c.in-Ok.ensures, ← c.attribute_at.ensures, c.in_ok-more.was) at (sym step ∙ l.invariant)
 
 pub returns : goal.returns
 unfolding attributes_of
 returns c =
-    let l = c.loop-left in
-    let none_left : l.left ≡ 0 = omega (arith, c.loop-left-test.false) in
+    let l = c.loop-turn in
+    let none_left : length c.args.s.now - l._turn ≡ 0 = omega (arith, c.loop-turn-test.false) in
     rw none_left at l.invariant

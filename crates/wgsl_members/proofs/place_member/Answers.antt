@@ -13,7 +13,7 @@ returns c =
     let named : b.names * 2 + 2 ≤ length c.args.names.now = omega (arith, c.requires.named, c.requires.name_room) in
     record {
       is = λ s words. rw (c.put_name.ensures, c.put_member.ensures, c.written.ensures, c.larger.ensures, c.round_up-offset.ensures.0, c.given_or-align.ensures, c.given_or-size.ensures)
-          (place_is s words c.args.names.now c.args.members.now b c.args.attributes c.args.shape c.args.types c.args.start c.args.end c.args.at named c.requires.room);
+          (place_is s words c.args.names.now c.args.members.now b c.args.attributes c.args.shape c.args.types c.args.name c.args.at named c.requires.room);
       types_made = refl;
       members_made = refl;
       named = refl;

@@ -1,10 +1,13 @@
+use Rattle.std.proofs.lemmas.Result.{err_from_is_err_and}
 use Rattle.wgsl_members.specs.Members.{member_of}
 use Rattle.wgsl_members.proofs.read_member.Goals as goal
 
-pub returns-in-Refused : goal.returns-in-Refused
+pub returns-in_err-given : goal.returns-in_err-given
 unfolding member_of
-returns-in-Refused c = rw (← c.attributes_at.ensures, c.in-Refused.is)
+returns-in_err-given c =
+    let p = err_from_is_err_and c.from_residual.result c.from_residual.ensures.1 in
+    rw (p.1, p.2, ← c.attributes_at.ensures, c.in_err-given.was)
 
-pub returns-in-Given : goal.returns-in-Given
+pub returns : goal.returns
 unfolding member_of
-returns-in-Given c = rw (← c.attributes_at.ensures, c.in-Given.is) c.named_member.ensures
+returns c = rw (← c.attributes_at.ensures, c.in_ok-given.was) c.named_member.ensures

@@ -1,12 +1,7 @@
 -- `wgsl_messages::line_and_column` meets its contract. The invariant: line and column are those of byte i. Assumes nothing.
 use mathlib.Core.Path.{◌≡◌}
-use Prim.Native.Nat.{◌-◌, ◌≤◌}
 use Rattle.wgsl_messages.specs.Position.{line_of, column_of}
 use Rattle.wgsl_messages.proofs.line_and_column.Given as goal
 
 abbrev pub invariant-loop-i : goal.invariant-loop-i
-invariant-loop-i l =
-    (l.i ≤ l.end) × (l.line ≡ line_of l.text l.i) × (l.column ≡ column_of l.text l.i)
-
-abbrev pub decreases-loop-i : goal.decreases-loop-i
-decreases-loop-i l = l.end - l.i
+invariant-loop-i l = (l.line ≡ line_of l.text l.i) × (l.column ≡ column_of l.text l.i)

@@ -4,4 +4,4 @@ use Rattle.wgsl_messages.proofs.put_sentence.Goals as goal
 
 pub returns : goal.returns
 unfolding reasons
-returns c = c.put_line_of.ensures
+returns c = rw c.line_number.ensures at c.put_line_of.ensures

@@ -1,16 +1,13 @@
-use mathlib.Core.Path.{refl, sym, ap, ◌∙◌}
-use Prim.Native.Nat.{ℕ}
-use lib.ListN.{replicate}
-use Rattle.wgsl_read.proofs.TextLaws.{all_cleared}
+use mathlib.Core.Path.{sym}
+use borrow.Author.Rules.{rules}
 use Rattle.wgsl_read.proofs.read_at.Goals as goal
 
-pub returns-in-Declared : goal.returns-in-Declared
-returns-in-Declared c =
-    let f = rw c.in-Declared.is at c.fill-found.ensures in
+pub returns-in-Ok : goal.returns-in-Ok
+returns-in-Ok c =
+    let f = rw c.in-Ok.is at c.fill-found.ensures in
     record { result_value = sym f.0; types_after = f.1; members_after = f.2 }
 
-pub returns-in-Refused : goal.returns-in-Refused
-returns-in-Refused c =
-    let f = rw c.in-Refused.is at c.fill-found.ensures in
-    let t = c.fill-found.auto.types in
-    let m = c.fill-found.auto.members in record { result_value = rw f; types_after = rw f (c.clear.ensures ∙ all_cleared c.fill-found.new.types _ refl ∙ ap (λ (n : ℕ). replicate n 0) t); members_after = rw f (c.clear-in-Refused.ensures ∙ all_cleared c.fill-found.new.members _ refl ∙ ap (λ (n : ℕ). replicate n 0) m) }
+pub returns-in-Err : goal.returns-in-Err
+returns-in-Err c =
+    let f = c.in-Err.ensures in
+    record { result_value = rw f; types_after = rw f (search rules); members_after = rw f (search rules) }

@@ -54,7 +54,7 @@ returns c =
     let shaped : c.args.state.structs * 4 + 4 ≤ length c.args.shapes.now = omega (arith, t.1, c.requires.fewer, c.requires.shaped) in
     let room : c.args.body.types * type_words + type_words ≤ length c.args.types.now = omega (arith, t.2) in (
       λ s names members rows. rw (c.put_name.ensures, c.put_shape.ensures, c.put_type.ensures, c.record_of-w.ensures, ← c.round_up-span.ensures.0, le-leb c.round_up-span.result 4294967295 c.if-span-gt-MOST.false, lt-ltb c.args.body.types c.args.room free, c.round_up-span.ensures.0)
-          (ap read (sym (struct_is s c.args.structs.now c.args.shapes.now names c.args.types.now members c.args.state c.args.body c.args.start c.args.end named shaped room))),
+          (ap read (sym (struct_is s c.args.structs.now c.args.shapes.now names c.args.types.now members c.args.state c.args.body c.args.name named shaped room))),
       refl,
       refl,
       omega arith,

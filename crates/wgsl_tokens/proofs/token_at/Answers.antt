@@ -14,14 +14,14 @@ pub word_at-requires : goal.word_at-requires
 word_at-requires c = (search rules, c.requires, sym c.starts_word.ensures ∙ c.if-starts_word.true)
 
 pub number_at-requires : goal.number_at-requires
-number_at-requires c = (search rules, c.requires, sym c.starts_word.ensures ∙ c.if-starts_word.false, c.if-c.true)
+number_at-requires c = (search rules, c.requires, sym c.starts_word.ensures ∙ c.if-starts_word.false, sym c.is_digit.ensures ∙ c.if-is_digit.true)
 
 pub returns-then-is_mark : goal.returns-then-is_mark
 returns-then-is_mark c =
     let inside : c.args.start < length c.args.s.now = omega (arith, c.if-s-start.false) in
-    mark_token c.args.s.now c.args.start inside c.requires (sym c.starts_word.ensures ∙ c.if-starts_word.false) c.if-c.false (sym c.is_mark.ensures ∙ c.if-is_mark.true)
+    mark_token c.args.s.now c.args.start inside c.requires (sym c.starts_word.ensures ∙ c.if-starts_word.false) (sym c.is_digit.ensures ∙ c.if-is_digit.false) (sym c.is_mark.ensures ∙ c.if-is_mark.true)
 
 pub returns : goal.returns
 returns c =
     let inside : c.args.start < length c.args.s.now = omega (arith, c.if-s-start.false) in
-    bad_token c.args.s.now c.args.start inside c.requires (sym c.starts_word.ensures ∙ c.if-starts_word.false) c.if-c.false (sym c.is_mark.ensures ∙ c.if-is_mark.false)
+    bad_token c.args.s.now c.args.start inside c.requires (sym c.starts_word.ensures ∙ c.if-starts_word.false) (sym c.is_digit.ensures ∙ c.if-is_digit.false) (sym c.is_mark.ensures ∙ c.if-is_mark.false)

@@ -1,6 +1,7 @@
 -- `wgsl_tokens::token_start` meets its contract. The invariant: the tokens from `at` on are those from i on. Assumes nothing.
 use mathlib.Core.Path.{refl, sym, ◌∙◌}
 use native.Mathlib.Omega.{arith}
+use Rattle.std.proofs.lemmas.Result.{err_from_is_err_and}
 use Rattle.wgsl_tokens.proofs.GapLaws.{past_gap}
 use Rattle.wgsl_tokens.proofs.token_start.Goals as goal
 
@@ -13,19 +14,20 @@ returns-then-not-starts_gap c = (sym c.starts_gap.ensures ∙ c.if-not-starts_ga
 pub gap_end-requires : goal.gap_end-requires
 gap_end-requires c = (c.loop-i-test.true, sym c.starts_gap.ensures ∙ c.if-not-starts_gap.false)
 
-pub returns-in-Broken : goal.returns-in-Broken
-returns-in-Broken c =
-    let b = rw c.in-Broken.is at c.gap_end.ensures in
-    (b.0, c.loop-i.invariant ∙ b.1)
+pub returns-in_err-i : goal.returns-in_err-i
+returns-in_err-i c =
+    let b = c.in_err-i.ensures in
+    let p = err_from_is_err_and c.from_residual.result c.from_residual.ensures.1 in
+    rw p.1 (b.0, c.loop-i.invariant ∙ b.1)
 
 pub loop-i-smaller : goal.loop-i-smaller
 loop-i-smaller c =
-    let b = rw c.in-At.is at c.gap_end.ensures in
+    let b = c.in_ok-i.ensures in
     omega arith
 
 pub loop-i-preserved : goal.loop-i-preserved
 loop-i-preserved c =
-    let b = rw c.in-At.is at c.gap_end.ensures in
+    let b = c.in_ok-i.ensures in
     c.loop-i.invariant ∙ b.2
 
 pub returns : goal.returns

@@ -1,10 +1,10 @@
 use Rattle.wgsl_types.specs.Types.{comma_count}
 use Rattle.wgsl_types.proofs.comma_count.Goals as goal
 
-pub returns-in-At : goal.returns-in-At
+pub returns-in-Ok : goal.returns-in-Ok
 unfolding comma_count
-returns-in-At c = rw (c.expect.ensures, c.in-At.is)
+returns-in-Ok c = rw (c.expect.ensures, c.in-Ok.is)
 
-pub returns-in-Refused : goal.returns-in-Refused
+pub returns-in-Err : goal.returns-in-Err
 unfolding comma_count
-returns-in-Refused c = rw (c.expect.ensures, c.in-Refused.is) c.number_count.ensures
+returns-in-Err c = rw (c.expect.ensures, c.in-Err.is) c.number_count.ensures

@@ -1,14 +1,17 @@
+use Rattle.std.proofs.lemmas.Result.{err_from_is_err_and}
 use Rattle.wgsl_types.specs.Types.{count_of}
 use Rattle.wgsl_types.proofs.count_at.Goals as goal
 
-pub returns-in-At : goal.returns-in-At
+pub returns-in-Ok : goal.returns-in-Ok
 unfolding count_of
-returns-in-At c = rw (c.expect.ensures, c.in-At.is)
+returns-in-Ok c = rw (c.expect.ensures, c.in-Ok.is)
 
-pub returns-in-Refused-expect : goal.returns-in-Refused-expect
+pub returns-in_err-next-in-Err : goal.returns-in_err-next-in-Err
 unfolding count_of
-returns-in-Refused-expect c = rw (c.expect.ensures, c.in-Refused.is, c.expect-in-Refused.ensures, c.in-Refused-expect.is)
+returns-in_err-next-in-Err c =
+    let p = err_from_is_err_and c.from_residual.result c.from_residual.ensures.1 in
+    rw (p.1, p.2, c.expect.ensures, c.in-Err.is, c.expect-in-Err.ensures, c.in_err-next-in-Err.was)
 
-pub returns-in-At-expect : goal.returns-in-At-expect
+pub returns-in_ok-next-in-Err : goal.returns-in_ok-next-in-Err
 unfolding count_of
-returns-in-At-expect c = rw (c.expect.ensures, c.in-Refused.is, c.expect-in-Refused.ensures, c.in-At-expect.is) c.comma_count.ensures
+returns-in_ok-next-in-Err c = rw (c.expect.ensures, c.in-Err.is, c.expect-in-Err.ensures, c.in_ok-next-in-Err.was) c.comma_count.ensures

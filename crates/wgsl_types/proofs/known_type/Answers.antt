@@ -7,7 +7,7 @@ use Rattle.wgsl_types.proofs.known_type.Goals as goal
 pub shape_at-requires : goal.shape_at-requires
 shape_at-requires c =
     let s = c.args.s.now in
-    let inside = entry_within s (part s c.args.start c.args.end) c.args.names.now c.args.n c.in-At.i (sym c.entry_of.ensures ∙ c.in-At.is) in
+    let inside = entry_within s (part s c.args.name.start c.args.name.end) c.args.structs.names.now c.args.structs.count c.in-Some.i (sym c.entry_of.ensures ∙ c.in-Some.is) in
     omega (arith, c.requires.3)
 
 pub returns-in-OfScalar : goal.returns-in-OfScalar
@@ -19,12 +19,12 @@ returns-in-OfTemplate c = rw (sym c.predeclared.ensures ∙ c.in-OfTemplate.is)
 pub returns-in-Array : goal.returns-in-Array
 returns-in-Array c = rw (sym c.predeclared.ensures ∙ c.in-Array.is)
 
-pub returns-in-At : goal.returns-in-At
-returns-in-At c =
+pub returns-in-Some : goal.returns-in-Some
+returns-in-Some c =
     let s = c.args.s.now in
-    rw (sym c.predeclared.ensures ∙ c.in-Unknown.is, lookup_entry s (part s c.args.start c.args.end) c.args.names.now c.args.shapes.now c.args.n, sym c.entry_of.ensures ∙ c.in-At.is, c.shape_at.ensures)
+    rw (sym c.predeclared.ensures ∙ c.in-Unknown.is, lookup_entry s (part s c.args.name.start c.args.name.end) c.args.structs.names.now c.args.structs.shapes.now c.args.structs.count, sym c.entry_of.ensures ∙ c.in-Some.is, c.shape_at.ensures)
 
-pub returns-in-Nothing : goal.returns-in-Nothing
-returns-in-Nothing c =
+pub returns-in-None : goal.returns-in-None
+returns-in-None c =
     let s = c.args.s.now in
-    rw (sym c.predeclared.ensures ∙ c.in-Unknown.is, lookup_entry s (part s c.args.start c.args.end) c.args.names.now c.args.shapes.now c.args.n, sym c.entry_of.ensures ∙ c.in-Nothing.is)
+    rw (sym c.predeclared.ensures ∙ c.in-Unknown.is, lookup_entry s (part s c.args.name.start c.args.name.end) c.args.structs.names.now c.args.structs.shapes.now c.args.structs.count, sym c.entry_of.ensures ∙ c.in-None.is)

@@ -1,8 +1,0 @@
-use mathlib.Core.Path.{refl}
-use Rattle.proc_type_alignment.proofs.as_aligned.Goals as goal
-
-pub returns-in-To : goal.returns-in-To
-returns-in-To c = rw c.in-To.is refl
-
-pub returns-in-Refused : goal.returns-in-Refused
-returns-in-Refused c = rw c.in-Refused.is refl

@@ -1,9 +1,0 @@
--- `sheet_picture::run_end` is safe and ends. Assumes nothing.
-use Prim.Native.Nat.{◌-◌}
-use Rattle.sheet_picture.proofs.run_end.Given as goal
-
-abbrev pub invariant-loop-b : goal.invariant-loop-b
-invariant-loop-b l = Unit {0}
-
-abbrev pub decreases-loop-b : goal.decreases-loop-b
-decreases-loop-b l = l.limit - l.b

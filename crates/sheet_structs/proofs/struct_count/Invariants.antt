@@ -1,9 +1,0 @@
--- `sheet_structs::struct_count` is safe and ends. Assumes nothing.
-use Rattle.std.proofs.Common.{◌-◌}
-use Rattle.sheet_structs.proofs.struct_count.Given as goal
-
-abbrev pub invariant-loop-i : goal.invariant-loop-i
-invariant-loop-i l = Unit {0}
-
-abbrev pub decreases-loop-i : goal.decreases-loop-i
-decreases-loop-i l = 1024 - l.i
