@@ -30,6 +30,7 @@ pub fn wuldazin_layout(types: &[u32], members: &[u32], rows: &mut [u32], answer:
     doors_words::put_answer(answer, &outcome);
 }
 
+// Kept: `wuldazin_check` and `wuldazin_judge` are exported calls, and differ in the call that each makes; its contract is that of each.
 // The arena check.
 pub fn wuldazin_check(
     types: &[u32],
@@ -66,6 +67,7 @@ pub fn wuldazin_judge(
     doors_words::put_answer(answer, &outcome);
 }
 
+// Kept: `wuldazin_range` and `wuldazin_plain` are exported calls over answers of their own.
 // The slots of a range given as two numbers: those touched, and those covered only in part.
 pub fn wuldazin_range(offset: u32, size: u32, mask: &mut [u64], answer: &mut [u32])
     ensures mask_after { mask.new ≡ with_masks mask.old (part_answer (range_slots offset size)) }
@@ -76,6 +78,7 @@ pub fn wuldazin_range(offset: u32, size: u32, mask: &mut [u64], answer: &mut [u3
     doors_words::put_answer(answer, &found);
 }
 
+// Kept: `wuldazin_slots` and `wuldazin_place` are exported calls; each makes its own, and puts an answer of its own.
 // The slots of a type of an arena from an offset on: those touched, and those that a part covers only in part.
 pub fn wuldazin_slots(
     types: &[u32],
@@ -143,6 +146,7 @@ pub fn wuldazin_place(
     doors_words::put_answer(answer, &found);
 }
 
+// Kept: the parameters are those of the C interface.
 // The same by three words for each type.
 pub fn wuldazin_place_short(
     types: &[u32],
@@ -305,6 +309,7 @@ fn part_start(types: &[u32], ty: u32, count: usize) -> u64
     (ir_records::type_word(types, ty, 1) as u64) * (ir_records::MEMBER_WORDS as u64)
 }
 
+// Kept: `wuldazin_read_spirv` and `wuldazin_read_wgsl` are exported calls over readers with definitions of their own.
 // The type section of a SPIR-V module, into lent type and member records; how many of each.
 pub fn wuldazin_read_spirv(
     words: &[u32],
@@ -341,6 +346,7 @@ pub fn wuldazin_read_wgsl(
     doors_words::put_read(answer, found);
 }
 
+// Kept: the parameters are those of the C interface, which lends a table with its length and says how many of its records are in use.
 // The first order of the wanted types that has at most the span, as a struct behind the records in use.
 pub fn wuldazin_order(
     types: &mut [u32],

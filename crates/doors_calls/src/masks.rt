@@ -1,6 +1,7 @@
 // Ranges, and the masks as sets: "`contains`, `difference` and union follow the Rust".
 
 // M12: "(300, 0) gives 0; (3, 2) gives 3; (252, 4) gives bit 63 alone; (252, 5) gives 25"
+// Kept: `ranges`, and `plain` of this program, are lists of calls with numbers of their own.
 fn ranges() {
     doors_lent::range(b"range 300 0", 300, 0);
     doors_lent::range(b"range 3 2", 3, 2);
@@ -16,13 +17,13 @@ fn one_if(holds: bool) -> u64 {
 fn sets(this: u64, other: u64) {
     // "Returns true if `self` contains all bits in `other`."
     let contains = [this, other, one_if(doors::wuldazin_contains(this, other))];
-    doors_lent::three(b"contains", &contains);
+    doors_lent::words(b"contains", &contains);
     // "Returns the bits in `self` that are not set in `other`."
     let difference = [this, other, doors::wuldazin_difference(this, other)];
-    doors_lent::three(b"difference", &difference);
+    doors_lent::words(b"difference", &difference);
     // `self.0 | rhs.0`
     let union = [this, other, doors::wuldazin_union(this, other)];
-    doors_lent::three(b"union", &union);
+    doors_lent::words(b"union", &union);
 }
 
 pub fn run() {

@@ -1,6 +1,7 @@
 // "The member rows of a struct are handed back as that part of the caller's table; an empty part for a number that is no struct or
 // whose rows reach past it." embed/wuldazin.h: the part's first word and how many words it has.
 
+// Kept: `whole`, and `slots` of this program, are lists of calls with arguments of their own.
 fn whole() {
     doors_lent::members_m1(b"members of struct 2", 18, 8, 2);
     // no struct; no type

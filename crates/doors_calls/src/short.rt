@@ -1,6 +1,8 @@
 // embed/wuldazin.h: "An answer, place, numbers or part buffer that is too short for its words is left as it was", and of a mask
 // "A buffer of one word gets the first mask alone." A buffer here is the first words of a longer one, which is printed whole.
 
+ghost use Rattle.std.specs.Prelude.{◌≤◌};
+
 // The rows are those of the accepted arena all the same.
 fn answer_of_check() {
     let mut rows = [9u32; 44];
@@ -13,49 +15,38 @@ fn answer_of_check() {
         &mut rows,
         &mut answer[..3],
     );
-    doors_lent::five(b"an answer of 3 words", &answer);
+    doors_lent::words(b"an answer of 3 words", &answer);
     doors_lent::words(b"rows", &rows);
 }
 
-// The refusal is told by the mask alone.
-fn answer_of_range() {
+// The slots of a range, with so many words of the mask and of the answer lent; the answer is printed, and the mask is given.
+fn range_within(name: &[u8], offset: u32, size: u32, masks: usize, words: usize) -> [u64; 3]
+    requires { (masks ≤ 3) × (words ≤ 5) }
+{
     let mut mask = [9u64; 3];
     let mut answer = [9u32; 5];
-    doors::wuldazin_range(252, 5, &mut mask, &mut answer[..3]);
-    doors_lent::five(b"an answer of 3 words, 25", &answer);
-    doors_lent::three(b"mask", &mask);
+    doors::wuldazin_range(offset, size, &mut mask[..masks], &mut answer[..words]);
+    doors_lent::words(name, &answer);
+    mask
 }
 
-fn whole_answer() {
-    let mut mask = [9u64; 3];
-    let mut answer = [9u32; 5];
-    doors::wuldazin_range(252, 5, &mut mask, &mut answer[..4]);
-    doors_lent::five(b"an answer of 4 words, 25", &answer);
+fn ranges() {
+    // The refusal is told by the mask alone.
+    let mask = range_within(b"an answer of 3 words, 25", 252, 5, 3, 3);
+    doors_lent::words(b"mask", &mask);
+    range_within(b"an answer of 4 words, 25", 252, 5, 3, 4);
 }
 
 // (3, 2) has the masks 3 and 3.
-fn no_mask() {
-    let mut mask = [9u64; 3];
-    let mut answer = [9u32; 5];
-    doors::wuldazin_range(3, 2, &mut mask[..0], &mut answer);
-    doors_lent::five(b"a mask of 0 words", &answer);
-    doors_lent::three(b"mask", &mask);
-}
-
-fn one_mask(name: &[u8], offset: u32, size: u32) {
-    let mut mask = [9u64; 3];
-    let mut answer = [9u32; 5];
-    doors::wuldazin_range(offset, size, &mut mask[..1], &mut answer);
-    doors_lent::five(name, &answer);
-    doors_lent::three(b"mask", &mask);
-}
-
-fn two_masks() {
-    let mut mask = [9u64; 3];
-    let mut answer = [9u32; 5];
-    doors::wuldazin_range(3, 2, &mut mask[..2], &mut answer);
-    doors_lent::five(b"a mask of 2 words", &answer);
-    doors_lent::three(b"mask", &mask);
+fn masks() {
+    let none = range_within(b"a mask of 0 words", 3, 2, 0, 5);
+    doors_lent::words(b"mask", &none);
+    let one = range_within(b"a mask of 1 word", 3, 2, 1, 5);
+    doors_lent::words(b"mask", &one);
+    let refused = range_within(b"a mask of 1 word, 25", 252, 5, 1, 5);
+    doors_lent::words(b"mask", &refused);
+    let two = range_within(b"a mask of 2 words", 3, 2, 2, 5);
+    doors_lent::words(b"mask", &two);
 }
 
 fn place() {
@@ -73,32 +64,28 @@ fn place() {
         &mut place[..1],
         &mut answer,
     );
-    doors_lent::five(b"a place of 1 word", &answer);
-    doors_lent::three(b"place", &place);
+    doors_lent::words(b"a place of 1 word", &answer);
+    doors_lent::words(b"place", &place);
 }
 
 fn part() {
     let mut part = [9u64; 3];
     doors::wuldazin_members(&doors_lent::TYPES, &doors_lent::MEMBERS, 2, &mut part[..1]);
-    doors_lent::three(b"a part of 1 word", &part);
+    doors_lent::words(b"a part of 1 word", &part);
 }
 
 fn numbers() {
     let mut numbers = [9u32; 5];
     let mut answer = [9u32; 5];
     doors::wuldazin_plain(5, 4, &mut numbers[..2], &mut answer);
-    doors_lent::five(b"numbers of 2 words", &answer);
-    doors_lent::five(b"numbers", &numbers);
+    doors_lent::words(b"numbers of 2 words", &answer);
+    doors_lent::words(b"numbers", &numbers);
 }
 
 pub fn run() {
     answer_of_check();
-    answer_of_range();
-    whole_answer();
-    no_mask();
-    one_mask(b"a mask of 1 word", 3, 2);
-    one_mask(b"a mask of 1 word, 25", 252, 5);
-    two_masks();
+    ranges();
+    masks();
     place();
     part();
     numbers();

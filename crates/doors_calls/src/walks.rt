@@ -1,9 +1,6 @@
 // "Numbers 26 (no such type), then 25 or 26 met on the way, come later and keep the accepted rows."
 // embed/wuldazin.h: the words of a mask and of a place are zeros on a refusal.
 
-// M1's struct with a span of 15: M6, which is 19.
-const M6: [u32; 18] = [0, 2, 4, 0, 0, 0, 1, 3, 2, 4, 0, 0, 8, 0, 2, 15, 0, 0];
-
 fn slots() {
     // M2: "M1's struct, slots from 0: 15."
     doors_lent::slots_m1(b"slots from 0", 18, 2, 0);
@@ -22,7 +19,7 @@ fn other_slots() {
         4294967295,
     );
     // "judge the arena first, and pass on its refusal"
-    doors_lent::slots(b"slots of M6", &M6, 2, 0);
+    doors_lent::slots(b"slots of M6", &doors_lent::M6, 2, 0);
 }
 
 fn places() {
@@ -39,7 +36,7 @@ fn other_places() {
     // "Another start": no such type
     doors_lent::place_m1(b"place from type 3", 0, 3, &[]);
     // "judge the arena first, and pass on its refusal"
-    doors_lent::place(b"place in M6", &M6, 0, 2, &[1]);
+    doors_lent::place(b"place in M6", &doors_lent::M6, 0, 2, &[1]);
 }
 
 pub fn run() {

@@ -2,6 +2,8 @@
 // The calls, by the older uniform rule. Each word of a lent buffer is 9 before its call, and all of them are printed after it, those past the call's own too.
 #![tactic(auto)]
 
+ghost use Rattle.std.specs.Prelude.{◌≤◌};
+
 const STDOUT: i32 = 1;
 
 // A line begins with a name.
@@ -19,49 +21,24 @@ fn put_end() {
     io::write_all(STDOUT, b"\n");
 }
 
-// The words of a buffer.
-pub fn words(name: &[u8], words: &[u32]) {
+/// The words of a buffer.
+pub fn words<T: Copy + Into<u64>>(name: &[u8], words: &[T]) {
     put_name(name);
     for word in words {
-        put_number(*word as u64);
+        put_number((*word).into());
     }
     put_end();
 }
 
-// The same of a buffer that was lent in part: an array of a known length asks for no proof of it.
-pub fn five(name: &[u8], five: &[u32; 5]) {
-    words(name, five);
-}
-
-pub fn ten(name: &[u8], ten: &[u32; 10]) {
-    words(name, ten);
-}
-
-// The answer of an arena that is made for a number.
+/// The answer of an arena that is made for a number.
 pub fn refusal(number: u32, answer: &[u32; 5]) {
     io::write_all(STDOUT, b"made for");
     put_number(number as u64);
     words(b"", answer);
 }
 
-// The words of a buffer of 64-bit words.
-fn long_words(name: &[u8], words: &[u64]) {
-    put_name(name);
-    for word in words {
-        put_number(*word);
-    }
-    put_end();
-}
-
-pub fn three(name: &[u8], three: &[u64; 3]) {
-    long_words(name, three);
-}
-
-pub fn seven(name: &[u8], seven: &[u64; 7]) {
-    long_words(name, seven);
-}
-
-// How many words of a long buffer are n.
+// Kept: n is a word that is looked for, and no length.
+/// How many words of a long buffer are n.
 pub fn count(name: &[u8], words: &[u32], n: u32) {
     let found = words.iter().filter(|word| **word == n).count();
     put_name(name);
@@ -69,17 +46,43 @@ pub fn count(name: &[u8], words: &[u32], n: u32) {
     put_end();
 }
 
-// M1 of 01: E, V, S{V at 0, E at 12} span 16.
+/// M1 of 01: E, V, S{V at 0, E at 12} span 16.
 pub const TYPES: [u32; 18] = [0, 2, 4, 0, 0, 0, 1, 3, 2, 4, 0, 0, 8, 0, 2, 16, 0, 0];
 
 pub const MEMBERS: [u32; 8] = [1, 0, 0, 0, 0, 12, 0, 0];
 
+/// M1's struct with a span of 15: M6, which is 19, member 1.
+pub const M6: [u32; 18] = [0, 2, 4, 0, 0, 0, 1, 3, 2, 4, 0, 0, 8, 0, 2, 15, 0, 0];
+
+// Kept: this is the function that cuts a table.
 // The first n words; none where there are fewer.
 fn first(words: &[u32], n: usize) -> &[u32] {
-    if words.len() < n {
-        return &words[..0];
-    }
-    &words[0..n]
+    words.get(..n).unwrap_or(&[])
+}
+
+// Kept: each function that takes a closure asks that it may be called.
+/// A call with rows for three types and two words more, and with an answer: both are printed after it.
+pub fn with_rows<F: FnOnce(&mut [u32], &mut [u32])>(name: &[u8], call: F)
+    requires { F.IsAlwaysCallable call }
+{
+    let mut rows = [9u32; 44];
+    let mut answer = [9u32; 5];
+    call(&mut rows, &mut answer);
+    words(name, &answer);
+    words(b"rows", &rows);
+}
+
+/// The same with two words more that the call has, and a third behind them.
+pub fn with_two<F: FnOnce(&mut [u32], &mut [u64], &mut [u32])>(name: &[u8], two: &[u8], call: F)
+    requires { F.IsAlwaysCallable call }
+{
+    let mut rows = [9u32; 44];
+    let mut found = [9u64; 3];
+    let mut answer = [9u32; 5];
+    call(&mut rows, &mut found, &mut answer);
+    words(name, &answer);
+    words(two, &found);
+    words(b"rows", &rows);
 }
 
 pub fn check(name: &[u8], types: &[u32], members: &[u32], capabilities: u32, rows: &mut [u32]) {
@@ -89,13 +92,13 @@ pub fn check(name: &[u8], types: &[u32], members: &[u32], capabilities: u32, row
     words(b"rows", rows);
 }
 
-// With rows for three types, and two words more.
 pub fn check_three(name: &[u8], types: &[u32], members: &[u32], capabilities: u32) {
-    let mut rows = [9u32; 44];
-    check(name, types, members, capabilities, &mut rows);
+    with_rows(name, |rows, answer| {
+        doors::wuldazin_check(types, members, capabilities, 0, rows, answer)
+    });
 }
 
-// The first words of M1's types and members.
+/// The first words of M1's types and members.
 pub fn check_m1(name: &[u8], types: usize, members: usize, capabilities: u32) {
     check_three(
         name,
@@ -110,49 +113,25 @@ pub fn check_m1_rows(name: &[u8], rows: &mut [u32]) {
 }
 
 pub fn layout(name: &[u8], types: &[u32], members: &[u32]) {
-    let mut rows = [9u32; 44];
-    let mut answer = [9u32; 5];
-    doors::wuldazin_layout(types, members, &mut rows, &mut answer);
-    words(name, &answer);
-    words(b"rows", &rows);
+    with_rows(name, |rows, answer| {
+        doors::wuldazin_layout(types, members, rows, answer)
+    });
 }
 
 pub fn layout_m1(name: &[u8], types: usize, members: usize) {
     layout(name, first(&TYPES, types), first(&MEMBERS, members));
 }
 
-// With M1's members, and rows for three types and two words more.
+/// With M1's members.
 pub fn judge(name: &[u8], types: &[u32]) {
-    let mut rows = [9u32; 44];
-    let mut answer = [9u32; 5];
-    doors::wuldazin_judge(types, &MEMBERS, 0, 0, &mut rows, &mut answer);
-    words(name, &answer);
-    words(b"rows", &rows);
+    with_rows(name, |rows, answer| {
+        doors::wuldazin_judge(types, &MEMBERS, 0, 0, rows, answer)
+    });
 }
 
-// With M1's members, and a report for three types and a word more.
-pub fn report(name: &[u8], types: &[u32]) {
-    let mut rows = [9u32; 44];
-    let mut report = [9u64; 7];
-    let mut totals = [9u64; 3];
-    let mut answer = [9u32; 5];
-    doors::wuldazin_report(
-        types,
-        &MEMBERS,
-        0,
-        0,
-        &mut rows,
-        &mut report,
-        &mut totals,
-        &mut answer,
-    );
-    words(name, &answer);
-    seven(b"report", &report);
-    three(b"totals", &totals);
-}
-
-// With a report of one word too few for three types.
-pub fn report_short(name: &[u8], types: &[u32]) {
+// Kept: the count is that of the report, which is made here.
+/// With M1's members, and so many words of a report for three types and a word more.
+pub fn report(name: &[u8], types: &[u32], count: usize) {
     let mut rows = [9u32; 44];
     let mut report = [9u64; 7];
     let mut totals = [9u64; 3];
@@ -163,71 +142,54 @@ pub fn report_short(name: &[u8], types: &[u32]) {
         0,
         0,
         &mut rows,
-        &mut report[..5],
+        &mut report[..count.min(7)],
         &mut totals,
         &mut answer,
     );
     words(name, &answer);
-    seven(b"report", &report);
-    three(b"totals", &totals);
+    words(b"report", &report);
+    words(b"totals", &totals);
 }
 
-// With M1's members.
+/// With M1's members.
 pub fn slots(name: &[u8], types: &[u32], ty: u32, offset: u32) {
-    let mut rows = [9u32; 44];
-    let mut mask = [9u64; 3];
-    let mut answer = [9u32; 5];
-    doors::wuldazin_slots(
-        types,
-        &MEMBERS,
-        0,
-        0,
-        &mut rows,
-        ty,
-        offset,
-        &mut mask,
-        &mut answer,
-    );
-    words(name, &answer);
-    three(b"mask", &mask);
-    words(b"rows", &rows);
+    with_two(name, b"mask", |rows, mask, answer| {
+        doors::wuldazin_slots(types, &MEMBERS, 0, 0, rows, ty, offset, mask, answer)
+    });
 }
 
 pub fn slots_m1(name: &[u8], types: usize, ty: u32, offset: u32) {
     slots(name, first(&TYPES, types), ty, offset);
 }
 
-// With M1's members.
+/// With M1's members.
 pub fn place(name: &[u8], types: &[u32], capabilities: u32, start: u32, steps: &[u32]) {
-    let mut rows = [9u32; 44];
-    let mut place = [9u64; 3];
-    let mut answer = [9u32; 5];
-    doors::wuldazin_place(
-        types,
-        &MEMBERS,
-        capabilities,
-        0,
-        &mut rows,
-        start,
-        steps,
-        &mut place,
-        &mut answer,
-    );
-    words(name, &answer);
-    three(b"place", &place);
-    words(b"rows", &rows);
+    with_two(name, b"place", |rows, place, answer| {
+        doors::wuldazin_place(
+            types,
+            &MEMBERS,
+            capabilities,
+            0,
+            rows,
+            start,
+            steps,
+            place,
+            answer,
+        )
+    });
 }
 
 pub fn place_m1(name: &[u8], capabilities: u32, start: u32, steps: &[u32]) {
     place(name, &TYPES, capabilities, start, steps);
 }
 
+// Kept: `range` and `plain` lend buffers of other types to another call, and name them by other words.
 pub fn range(name: &[u8], offset: u32, size: u32) {
     let mut mask = [9u64; 3];
     let mut answer = [9u32; 5];
     doors::wuldazin_range(offset, size, &mut mask, &mut answer);
     words(name, &answer);
-    three(b"mask", &mask);
+    words(b"mask", &mask);
 }
 
 pub fn plain(name: &[u8], shape: u32, width: u32) {
@@ -238,13 +200,48 @@ pub fn plain(name: &[u8], shape: u32, width: u32) {
     words(b"numbers", &numbers);
 }
 
-// The part of the first words of M1's members.
+/// The part of the first words of M1's members.
 pub fn members(name: &[u8], types: &[u32], members: usize, ty: u32) {
     let mut part = [9u64; 3];
     doors::wuldazin_members(types, first(&MEMBERS, members), ty, &mut part);
-    three(name, &part);
+    words(name, &part);
 }
 
 pub fn members_m1(name: &[u8], types: usize, rows: usize, ty: u32) {
     members(name, first(&TYPES, types), rows, ty);
+}
+
+/// How many words of each buffer are lent to a reader.
+#[derive(Clone, Copy, Debug, PartialEq, Eq)]
+pub struct Room {
+    pub types: usize,
+    pub members: usize,
+    pub counts: usize,
+    pub answer: usize,
+}
+
+/// A call of a reader, with so many words of each buffer; all words of them are printed after it.
+pub fn read<const TYPES: usize, F: FnOnce(&mut [u32], &mut [u32], &mut [u32], &mut [u32])>(
+    name: &[u8],
+    counts_name: &[u8],
+    room: Room,
+    call: F,
+)
+    requires within { (TYPES ≤ 26) × (room.types ≤ TYPES) × (room.members ≤ 10) × (room.counts ≤ 3) × (room.answer ≤ 5) }
+    requires callable { F.IsAlwaysCallable call }
+{
+    let mut types = [9u32; TYPES];
+    let mut members = [9u32; 10];
+    let mut counts = [9u32; 3];
+    let mut answer = [9u32; 5];
+    call(
+        &mut types[..room.types],
+        &mut members[..room.members],
+        &mut counts[..room.counts],
+        &mut answer[..room.answer],
+    );
+    words(name, &answer);
+    words(counts_name, &counts);
+    words(b"types", &types);
+    words(b"members", &members);
 }

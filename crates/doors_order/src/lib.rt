@@ -7,6 +7,7 @@ ghost use Rattle.doors_words.specs.Words.{with_answer};
 ghost use Rattle.order_call.specs.Call.{ordered};
 ghost use Rattle.order_words.specs.Words.{order_outcome, with_found};
 
+// Kept: the parameters are those of the C call, one by one.
 pub fn order_into(
     types: &mut [u32],
     n: u32,

@@ -218,8 +218,8 @@ fn short_found() {
         &mut found[..8],
         &mut answer[..3],
     );
-    doors_lent::five(b"3 words of answer", &answer);
-    doors_lent::ten(b"8 words of found", &found);
+    doors_lent::words(b"3 words of answer", &answer);
+    doors_lent::words(b"8 words of found", &found);
     doors_lent::words(b"types", &types);
 }
 

@@ -4,14 +4,11 @@
 // number 1, before everything else." Each pass here is the first words of a longer buffer, which is printed whole.
 #![tactic(auto)]
 
-// M1's struct with a span of 15: M6, which is 19.
-const M6: [u32; 18] = [0, 2, 4, 0, 0, 0, 1, 3, 2, 4, 0, 0, 8, 0, 2, 15, 0, 0];
-
 fn set(name: &[u8], pass: &mut [u64; 7], offset: u32, size: u32) {
     let mut answer = [9u32; 5];
     doors::wuldazin_pass_set(pass, offset, size, &mut answer);
     doors_lent::words(name, &answer);
-    doors_lent::seven(b"pass", pass);
+    doors_lent::words(b"pass", pass);
 }
 
 // By a type of M1.
@@ -29,7 +26,7 @@ fn choose(name: &[u8], pass: &mut [u64; 7], ty: u32) {
         &mut answer,
     );
     doors_lent::words(name, &answer);
-    doors_lent::seven(b"pass", pass);
+    doors_lent::words(b"pass", pass);
     doors_lent::words(b"rows", &rows);
 }
 
@@ -38,14 +35,14 @@ fn dispatch(name: &[u8], pass: &[u64; 7]) {
     let mut answer = [9u32; 5];
     doors::wuldazin_pass_dispatch(pass, &mut missing, &mut answer);
     doors_lent::words(name, &answer);
-    doors_lent::three(b"missing", &missing);
+    doors_lent::words(b"missing", &missing);
 }
 
 // M1's struct needs slots 0 to 3: 15 (M2).
 fn accepted() {
     let mut pass = [9u64; 7];
     doors::wuldazin_pass_start(&mut pass);
-    doors_lent::seven(b"pass", &pass);
+    doors_lent::words(b"pass", &pass);
     // bytes 0 to 11: slots 0 to 2
     set(b"set 0 12", &mut pass, 0, 12);
     // "36, dispatch with no pipeline or slots missing", "0 without a pipeline"
@@ -74,15 +71,15 @@ fn refused() {
 fn short_start() {
     let mut pass = [5u64, 6, 7, 9, 9, 9, 9];
     doors::wuldazin_pass_start(&mut pass[..2]);
-    doors_lent::seven(b"start of 2 words", &pass);
+    doors_lent::words(b"start of 2 words", &pass);
 }
 
 fn short_set() {
     let mut pass = [5u64, 6, 7, 9, 9, 9, 9];
     let mut answer = [9u32; 5];
     doors::wuldazin_pass_set(&mut pass[..2], 2, 4, &mut answer);
-    doors_lent::five(b"set, 2 words", &answer);
-    doors_lent::seven(b"pass", &pass);
+    doors_lent::words(b"set, 2 words", &answer);
+    doors_lent::words(b"pass", &pass);
 }
 
 fn short_choose() {
@@ -90,7 +87,7 @@ fn short_choose() {
     let mut rows = [9u32; 44];
     let mut answer = [9u32; 5];
     doors::wuldazin_pass_choose(
-        &M6,
+        &doors_lent::M6,
         &doors_lent::MEMBERS,
         0,
         0,
@@ -99,8 +96,8 @@ fn short_choose() {
         &mut pass[..2],
         &mut answer,
     );
-    doors_lent::five(b"choose, 2 words", &answer);
-    doors_lent::seven(b"pass", &pass);
+    doors_lent::words(b"choose, 2 words", &answer);
+    doors_lent::words(b"pass", &pass);
     doors_lent::words(b"rows", &rows);
 }
 
@@ -109,8 +106,8 @@ fn short_dispatch() {
     let mut missing = [9u64; 3];
     let mut answer = [9u32; 5];
     doors::wuldazin_pass_dispatch(&pass[..2], &mut missing, &mut answer);
-    doors_lent::five(b"dispatch, 2 words", &answer);
-    doors_lent::three(b"missing", &missing);
+    doors_lent::words(b"dispatch, 2 words", &answer);
+    doors_lent::words(b"missing", &missing);
 }
 
 fn main() {

@@ -5,8 +5,7 @@
 // M1 of 01: E, V, S{V at 0, E at 12} span 16; sizes 4, 12, 16, alignments 4, 16, 16, flags 255, 255, 247.
 #![tactic(auto)]
 
-// M1's struct with a span of 15: M6, which is 19, member 1.
-const M6: [u32; 18] = [0, 2, 4, 0, 0, 0, 1, 3, 2, 4, 0, 0, 8, 0, 2, 15, 0, 0];
+ghost use Rattle.std.specs.Prelude.{◌≤◌};
 
 // From the struct to its member 1 and to a member 2 that it has not, and from E with no step.
 const RUNS: [u32; 8] = [2, 1, 1, 2, 1, 2, 0, 0];
@@ -14,50 +13,26 @@ const RUNS: [u32; 8] = [2, 1, 1, 2, 1, 2, 0, 0];
 // The second run has two steps and one word for them.
 const CUT: [u32; 6] = [2, 1, 1, 2, 2, 0];
 
-// A scratch that was lent in part: an array of a known length asks for no proof of it.
-fn put_scratch(scratch: &[u32; 11]) {
-    doors_lent::words(b"scratch", scratch);
-}
-
-fn short(name: &[u8], types: &[u32; 18], capabilities: u32, step: u32) {
+// A place by one step from the struct, with so many words of the scratch lent.
+fn short(name: &[u8], types: &[u32; 18], capabilities: u32, step: u32, words: usize)
+    requires { words ≤ 11 }
+{
     let mut scratch = [9u32; 11];
     let mut place = [9u64; 3];
     let mut answer = [9u32; 5];
-    let steps = [step];
     doors::wuldazin_place_short(
         types,
         &doors_lent::MEMBERS,
         capabilities,
-        &mut scratch,
+        &mut scratch[..words],
         2,
-        &steps,
+        &[step],
         &mut place,
         &mut answer,
     );
     doors_lent::words(name, &answer);
-    doors_lent::three(b"place", &place);
+    doors_lent::words(b"place", &place);
     doors_lent::words(b"scratch", &scratch);
-}
-
-// A word too few for three types.
-fn short_scratch() {
-    let mut scratch = [9u32; 11];
-    let mut place = [9u64; 3];
-    let mut answer = [9u32; 5];
-    let steps = [1u32];
-    doors::wuldazin_place_short(
-        &doors_lent::TYPES,
-        &doors_lent::MEMBERS,
-        0,
-        &mut scratch[..8],
-        2,
-        &steps,
-        &mut place,
-        &mut answer,
-    );
-    doors_lent::five(b"short, scratch of 8 words", &answer);
-    doors_lent::three(b"place", &place);
-    put_scratch(&scratch);
 }
 
 // A place of one word and an answer of three are left.
@@ -65,22 +40,31 @@ fn short_place() {
     let mut scratch = [9u32; 11];
     let mut place = [9u64; 3];
     let mut answer = [9u32; 5];
-    let steps = [1u32];
     doors::wuldazin_place_short(
         &doors_lent::TYPES,
         &doors_lent::MEMBERS,
         0,
         &mut scratch,
         2,
-        &steps,
+        &[1],
         &mut place[..1],
         &mut answer[..3],
     );
-    doors_lent::five(b"short, place of 1 word, answer of 3", &answer);
-    doors_lent::three(b"place", &place);
+    doors_lent::words(b"short, place of 1 word, answer of 3", &answer);
+    doors_lent::words(b"place", &place);
 }
 
-fn many(name: &[u8], types: &[u32; 18], capabilities: u32, runs: &[u32]) {
+// The places of runs, with so many words of the scratch and of the places lent.
+fn many(
+    name: &[u8],
+    types: &[u32; 18],
+    capabilities: u32,
+    runs: &[u32],
+    words: usize,
+    places: usize,
+)
+    requires { (words ≤ 11) × (places ≤ 7) }
+{
     let mut scratch = [9u32; 11];
     let mut found = [9u64; 7];
     let mut answer = [9u32; 5];
@@ -88,86 +72,55 @@ fn many(name: &[u8], types: &[u32; 18], capabilities: u32, runs: &[u32]) {
         types,
         &doors_lent::MEMBERS,
         capabilities,
-        &mut scratch,
+        &mut scratch[..words],
         runs,
-        &mut found,
+        &mut found[..places],
         &mut answer,
     );
     doors_lent::words(name, &answer);
-    doors_lent::seven(b"places", &found);
+    doors_lent::words(b"places", &found);
     doors_lent::words(b"scratch", &scratch);
 }
 
-fn many_scratch() {
-    let mut scratch = [9u32; 11];
-    let mut found = [9u64; 7];
-    let mut answer = [9u32; 5];
-    doors::wuldazin_places(
-        &doors_lent::TYPES,
-        &doors_lent::MEMBERS,
-        0,
-        &mut scratch[..8],
-        &RUNS,
-        &mut found,
-        &mut answer,
-    );
-    doors_lent::five(b"places, scratch of 8 words", &answer);
-    doors_lent::seven(b"places", &found);
-    put_scratch(&scratch);
-}
-
-// A word too few for three runs.
-fn few_places() {
-    let mut scratch = [9u32; 11];
-    let mut found = [9u64; 7];
-    let mut answer = [9u32; 5];
-    doors::wuldazin_places(
-        &doors_lent::TYPES,
-        &doors_lent::MEMBERS,
-        0,
-        &mut scratch,
-        &RUNS,
-        &mut found[..5],
-        &mut answer,
-    );
-    doors_lent::five(b"places, 5 words for 3 runs", &answer);
-    doors_lent::seven(b"places", &found);
-    doors_lent::words(b"scratch", &scratch);
-}
-
-fn main() {
-    short(b"short 2 1", &doors_lent::TYPES, 0, 1);
-    short(b"short 2 2", &doors_lent::TYPES, 0, 2);
-    short(b"short, M6", &M6, 0, 1);
-    short(
-        b"short, a capability bit above 13",
-        &doors_lent::TYPES,
-        16384,
-        1,
-    );
-    short_scratch();
+fn places() {
+    let types = &doors_lent::TYPES;
+    short(b"short 2 1", types, 0, 1, 11);
+    short(b"short 2 2", types, 0, 2, 11);
+    short(b"short, M6", &doors_lent::M6, 0, 1, 11);
+    short(b"short, a capability bit above 13", types, 16384, 1, 11);
+    // a word too few for three types
+    short(b"short, scratch of 8 words", types, 0, 1, 8);
     short_place();
-    many(b"places, 3 runs", &doors_lent::TYPES, 0, &RUNS);
-    many(b"places, no run", &doors_lent::TYPES, 0, &RUNS[..0]);
-    many(b"places, M6", &M6, 0, &RUNS);
-    many(
-        b"places, a run cut in its steps",
-        &doors_lent::TYPES,
-        0,
-        &CUT,
-    );
+}
+
+fn runs() {
+    let types = &doors_lent::TYPES;
+    many(b"places, 3 runs", types, 0, &RUNS, 11, 7);
+    many(b"places, no run", types, 0, &RUNS[..0], 11, 7);
+    many(b"places, M6", &doors_lent::M6, 0, &RUNS, 11, 7);
+    many(b"places, a run cut in its steps", types, 0, &CUT, 11, 7);
     many(
         b"places, a run cut before its count",
-        &doors_lent::TYPES,
+        types,
         0,
         &CUT[..4],
+        11,
+        7,
     );
     many(
         b"places, a capability bit above 13",
-        &doors_lent::TYPES,
+        types,
         16384,
         &RUNS,
+        11,
+        7,
     );
-    many_scratch();
-    few_places();
+    many(b"places, scratch of 8 words", types, 0, &RUNS, 8, 7);
+    // a word too few for three runs
+    many(b"places, 5 words for 3 runs", types, 0, &RUNS, 11, 5);
+}
+
+fn main() {
+    places();
+    runs();
 }

@@ -100,12 +100,7 @@ fn members() {
         0,
     );
     // "member out of bounds": M6, span 15
-    refuse(
-        19,
-        &[0, 2, 4, 0, 0, 0, 1, 3, 2, 4, 0, 0, 8, 0, 2, 15, 0, 0],
-        &[1, 0, 0, 0, 0, 12, 0, 0],
-        0,
-    );
+    refuse(19, &doors_lent::M6, &doors_lent::MEMBERS, 0);
 }
 
 fn last_members() {

@@ -10,62 +10,31 @@ const TYPES: [u32; 18] = [0, 2, 4, 0, 0, 0, 8, 0, 1, 4, 0, 0, 8, 1, 2, 16, 0, 0]
 
 const MEMBERS: [u32; 12] = [0, 0, 0, 0, 1, 0, 0, 0, 0, 4, 0, 0];
 
+// Kept: `check` and `judge` make two calls; what they share is `doors_lent::with_rows`.
 fn check(name: &[u8], rule: u32) {
-    let mut rows = [9u32; 44];
-    let mut answer = [9u32; 5];
-    doors::wuldazin_check(&TYPES, &MEMBERS, 0, rule, &mut rows, &mut answer);
-    doors_lent::words(name, &answer);
-    doors_lent::words(b"rows", &rows);
+    doors_lent::with_rows(name, |rows, answer| {
+        doors::wuldazin_check(&TYPES, &MEMBERS, 0, rule, rows, answer)
+    });
 }
 
 fn judge(name: &[u8], rule: u32) {
-    let mut rows = [9u32; 44];
-    let mut answer = [9u32; 5];
-    doors::wuldazin_judge(&TYPES, &MEMBERS, 0, rule, &mut rows, &mut answer);
-    doors_lent::words(name, &answer);
-    doors_lent::words(b"rows", &rows);
+    doors_lent::with_rows(name, |rows, answer| {
+        doors::wuldazin_judge(&TYPES, &MEMBERS, 0, rule, rows, answer)
+    });
 }
 
 // E at 0 and at 4: slots 0 and 1.
 fn slots(name: &[u8], rule: u32) {
-    let mut rows = [9u32; 44];
-    let mut mask = [9u64; 3];
-    let mut answer = [9u32; 5];
-    doors::wuldazin_slots(
-        &TYPES,
-        &MEMBERS,
-        0,
-        rule,
-        &mut rows,
-        2,
-        0,
-        &mut mask,
-        &mut answer,
-    );
-    doors_lent::words(name, &answer);
-    doors_lent::three(b"mask", &mask);
-    doors_lent::words(b"rows", &rows);
+    doors_lent::with_two(name, b"mask", |rows, mask, answer| {
+        doors::wuldazin_slots(&TYPES, &MEMBERS, 0, rule, rows, 2, 0, mask, answer)
+    });
 }
 
 // Member 1 is E at 4.
 fn place(name: &[u8], rule: u32) {
-    let mut rows = [9u32; 44];
-    let mut place = [9u64; 3];
-    let mut answer = [9u32; 5];
-    doors::wuldazin_place(
-        &TYPES,
-        &MEMBERS,
-        0,
-        rule,
-        &mut rows,
-        2,
-        &[1],
-        &mut place,
-        &mut answer,
-    );
-    doors_lent::words(name, &answer);
-    doors_lent::three(b"place", &place);
-    doors_lent::words(b"rows", &rows);
+    doors_lent::with_two(name, b"place", |rows, place, answer| {
+        doors::wuldazin_place(&TYPES, &MEMBERS, 0, rule, rows, 2, &[1], place, answer)
+    });
 }
 
 // S{E}: 4 bytes carried of 4; the struct: 8 of 16.
@@ -85,8 +54,8 @@ fn report(name: &[u8], rule: u32) {
         &mut answer,
     );
     doors_lent::words(name, &answer);
-    doors_lent::seven(b"report", &report);
-    doors_lent::three(b"totals", &totals);
+    doors_lent::words(b"report", &report);
+    doors_lent::words(b"totals", &totals);
     doors_lent::words(b"rows", &rows);
 }
 
@@ -106,10 +75,11 @@ fn choose(name: &[u8], rule: u32) {
         &mut answer,
     );
     doors_lent::words(name, &answer);
-    doors_lent::seven(b"pass", &pass);
+    doors_lent::words(b"pass", &pass);
     doors_lent::words(b"rows", &rows);
 }
 
+// Kept: `checks`, `walks` and `others` are lists of calls, each with its own name and rule.
 fn checks() {
     check(b"check by rule 0", 0);
     check(b"check by rule 1", 1);

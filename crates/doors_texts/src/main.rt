@@ -4,24 +4,31 @@
 // word of both tables." Buffers that are lent in part are printed whole.
 #![tactic(auto)]
 
+ghost use Rattle.std.specs.Prelude.{◌≤◌};
+
+use doors_lent::Room;
+
 // M1 of 01 as text. The f32 of the vector is a type written, so there are four types, and two members.
 const M1: [u8; 33] = *b"struct S { v: vec3<f32>, e: f32 }";
 
-fn show(name: &[u8], types: &[u32; 26], members: &[u32; 10], counts: &[u32; 3], answer: &[u32; 5]) {
-    doors_lent::words(name, answer);
-    doors_lent::words(b"counts", counts);
-    doors_lent::words(b"types", types);
-    doors_lent::words(b"members", members);
+// Room for four types and two members, and two words more of each.
+const WHOLE: Room = Room {
+    types: 26,
+    members: 10,
+    counts: 3,
+    answer: 5,
+};
+
+fn read_within(name: &[u8], text: &[u8], room: Room)
+    requires { (room.types ≤ 26) × (room.members ≤ 10) × (room.counts ≤ 3) × (room.answer ≤ 5) }
+{
+    doors_lent::read::<26, _>(name, b"counts", room, |types, members, counts, answer| {
+        doors::wuldazin_read_wgsl(text, types, members, counts, answer)
+    });
 }
 
-// Room for four types and two members, and two words more of each.
 fn read(name: &[u8], text: &[u8]) {
-    let mut types = [9u32; 26];
-    let mut members = [9u32; 10];
-    let mut counts = [9u32; 3];
-    let mut answer = [9u32; 5];
-    doors::wuldazin_read_wgsl(text, &mut types, &mut members, &mut counts, &mut answer);
-    show(name, &types, &members, &counts, &answer);
+    read_within(name, text, WHOLE);
 }
 
 // The refusals stand after records that are made.
@@ -36,51 +43,26 @@ fn whole() {
     );
 }
 
-// 23 words have room for three types: 1 at the struct's close.
-fn three_types() {
-    let mut types = [9u32; 26];
-    let mut members = [9u32; 10];
-    let mut counts = [9u32; 3];
-    let mut answer = [9u32; 5];
-    doors::wuldazin_read_wgsl(
-        &M1,
-        &mut types[..23],
-        &mut members,
-        &mut counts,
-        &mut answer,
-    );
-    show(b"room for three types", &types, &members, &counts, &answer);
-}
-
-// 7 words have room for one member: 1 at the second one.
-fn one_member() {
-    let mut types = [9u32; 26];
-    let mut members = [9u32; 10];
-    let mut counts = [9u32; 3];
-    let mut answer = [9u32; 5];
-    doors::wuldazin_read_wgsl(&M1, &mut types, &mut members[..7], &mut counts, &mut answer);
-    show(b"room for one member", &types, &members, &counts, &answer);
-}
-
-// One word for the counts, three for the answer: neither is written.
-fn short() {
-    let mut types = [9u32; 26];
-    let mut members = [9u32; 10];
-    let mut counts = [9u32; 3];
-    let mut answer = [9u32; 5];
-    doors::wuldazin_read_wgsl(
-        &M1,
-        &mut types,
-        &mut members,
-        &mut counts[..1],
-        &mut answer[..3],
-    );
-    show(b"short answer", &types, &members, &counts, &answer);
+fn lent_in_part() {
+    // 23 words have room for three types: 1 at the struct's close
+    let three_types = Room { types: 23, ..WHOLE };
+    read_within(b"room for three types", &M1, three_types);
+    // 7 words have room for one member: 1 at the second one
+    let one_member = Room {
+        members: 7,
+        ..WHOLE
+    };
+    read_within(b"room for one member", &M1, one_member);
+    // one word for the counts, three for the answer: neither is written
+    let short = Room {
+        counts: 1,
+        answer: 3,
+        ..WHOLE
+    };
+    read_within(b"short answer", &M1, short);
 }
 
 fn main() {
     whole();
-    three_types();
-    one_member();
-    short();
+    lent_in_part();
 }

@@ -84,10 +84,6 @@ pub totals_or : (r : std.Result Totals Refusal) (zero : Totals) → zero.carried
 totals_or (std.Ok t) zero a b = (refl, refl)
 totals_or (std.Err e) zero a b = (a, b)
 
-pub records_or : (r : std.Result Records Fault) → result_unwrap_or r (record { types = 0; members = 0 }) ≡ records_of r
-records_or (std.Ok x) = refl
-records_or (std.Err e) = refl
-
 -- ---- an accepted step leaves the pass after it, a refused one the words
 pub accepted_words : {A : Type 0} (r : std.Result A Refusal) → is_ok r ≡ true → (after before : List ℕ) → kept_words (outcome_of r) after before ≡ after
 accepted_words (std.Ok a) e after before = refl

@@ -110,6 +110,10 @@ abbrev pub part_length : (ts ms : List ℕ) → ℕ → ℕ
 part_length ts ms ty = length (struct_members ts ms ty)
 
 -- ---- lent words with an answer in the first ones
+-- other words at the front, where there is room for them
+abbrev pub with_front : {A : Type 0} → List A → List A → List A
+with_front words front = pick (leb (length front) (length words)) (front ++ drop (length front) words) words
+
 unfoldable pub with_answer : List ℕ → Outcome → List ℕ
 with_answer words outcome = pick (leb 4 (length words)) (answer_words outcome ++ drop 4 words) words
 

@@ -9,7 +9,7 @@ ghost use Rattle.immediates_pass.specs.Pass.{tried_of};
 ghost use Rattle.place_lookup.specs.Answer.{place_answer_of};
 ghost use Rattle.place_report.specs.Answer.{report_answer_of};
 ghost use Rattle.proc_plain_types.specs.PlainTypes.{plain_answer_of};
-ghost use Rattle.doors_words.specs.Words.{byte_of, leaf_of, carried_of, wasted_of, with_answer, with_two, with_numbers, with_masks, pass_of, chosen_word, with_pass, with_tried, with_one};
+ghost use Rattle.doors_words.specs.Words.{byte_of, leaf_of, carried_of, wasted_of, with_front, with_answer, with_two, with_numbers, with_masks, pass_of, chosen_word, with_pass, with_tried, with_one};
 ghost use Rattle.doors_words.specs.Read.{read_outcome, records_of};
 
 use immediates_pass::{Pass, Tried};
@@ -19,46 +19,43 @@ use place_descent::Place;
 use place_report::Totals;
 use proc_plain_types::PlainLayout;
 
-fn put_four(answer: &mut [u32], a: u32, b: u32, c: u32, d: u32)
-    requires { 4 ≤ length answer.old }
-    ensures { answer.new ≡ a ∷ b ∷ c ∷ d ∷ drop 4 answer.old }
+// The words stand at the front of a buffer; one of fewer words is left as it was.
+fn put_front<T: Copy, const N: usize>(words: &mut [T], front: [T; N])
+    ensures { words.new ≡ with_front words.old front }
 {
-    answer[0] = a;
-    answer[1] = b;
-    answer[2] = c;
-    answer[3] = d;
+    if N <= words.len() {
+        words[..N].copy_from_slice(&front);
+    }
 }
 
-// The answer as four words; an answer buffer of fewer is left as it was.
+/// The answer as four words; an answer buffer of fewer is left as it was.
+#[tactic(auto, unfolding(crate::specs::Words::with_answer))]
 pub fn put_answer<T>(answer: &mut [u32], outcome: &Result<T, Refusal>)
     ensures { answer.new ≡ with_answer answer.old (outcome_of outcome.now) }
 {
-    if answer.len() < 4 {
-        return;
-    }
     match outcome {
-        Ok(_) => put_four(answer, 0, 0, 0, 0),
-        Err(refusal) => put_four(
+        Ok(_) => put_front(answer, [0; 4]),
+        Err(refusal) => put_front(
             answer,
-            u32::from(refusal.fault),
-            refusal.ty,
-            refusal.member,
-            refusal.detail,
+            [
+                u32::from(refusal.fault),
+                refusal.ty,
+                refusal.member,
+                refusal.detail,
+            ],
         ),
     }
 }
 
+/// A buffer of fewer than two words is left as it was.
+#[tactic(auto, unfolding(crate::specs::Words::with_two))]
 pub fn put_two(words: &mut [u64], a: u64, b: u64)
     ensures { words.new ≡ with_two words.old a b }
 {
-    if words.len() < 2 {
-        return;
-    }
-    words[0] = a;
-    words[1] = b;
+    put_front(words, [a, b]);
 }
 
-// Both masks, zeros on a refusal; a buffer of one word gets the first.
+/// Both masks, zeros on a refusal; a buffer of one word gets the first.
 pub fn put_masks(mask: &mut [u64], found: Result<Slots, Refusal>)
     ensures { mask.new ≡ with_masks mask.old (slots_answer_of found) }
 {
@@ -76,7 +73,8 @@ pub fn put_masks(mask: &mut [u64], found: Result<Slots, Refusal>)
     mask[1] = slots.partly;
 }
 
-// A leaf's byte place and its type, zeros on a refusal.
+/// A leaf's byte place and its type, zeros on a refusal.
+// Kept: `put_place`, `put_totals` and `put_records` differ in the struct whose two fields are told, and in the definitions of both.
 pub fn put_place(words: &mut [u64], found: Result<Place, Refusal>)
     ensures { words.new ≡ with_two words.old (byte_of (place_answer_of found)) (leaf_of (place_answer_of found)) }
 {
@@ -84,7 +82,7 @@ pub fn put_place(words: &mut [u64], found: Result<Place, Refusal>)
     put_two(words, place.byte, place.leaf as u64);
 }
 
-// The bytes carried and wasted, zeros on a refusal.
+/// The bytes carried and wasted, zeros on a refusal.
 pub fn put_totals(words: &mut [u64], found: Result<Totals, Refusal>)
     ensures { words.new ≡ with_two words.old (carried_of (report_answer_of found)) (wasted_of (report_answer_of found)) }
 {
@@ -95,25 +93,14 @@ pub fn put_totals(words: &mut [u64], found: Result<Totals, Refusal>)
     put_two(words, totals.carried, totals.wasted);
 }
 
-fn put_three(words: &mut [u32], a: u32, b: u32, c: u32)
-    requires { 3 ≤ length words.old }
-    ensures { words.new ≡ a ∷ b ∷ c ∷ drop 3 words.old }
-{
-    words[0] = a;
-    words[1] = b;
-    words[2] = c;
-}
-
-// Size, alignment and column step, zeros on a refusal; a buffer of fewer words is left as it was.
+/// Size, alignment and column step, zeros on a refusal; a buffer of fewer words is left as it was.
+#[tactic(auto, unfolding(crate::specs::Words::with_numbers))]
 pub fn put_numbers(numbers: &mut [u32], found: Result<PlainLayout, Refusal>)
     ensures { numbers.new ≡ with_numbers numbers.old (plain_answer_of found) }
 {
-    if numbers.len() < 3 {
-        return;
-    }
     match found {
-        Ok(plain) => put_three(numbers, plain.size, plain.alignment, plain.step),
-        Err(_) => put_three(numbers, 0, 0, 0),
+        Ok(plain) => put_front(numbers, [plain.size, plain.alignment, plain.step]),
+        Err(_) => put_front(numbers, [0; 3]),
     }
 }
 
@@ -138,16 +125,12 @@ fn chosen_word(chosen: bool) -> u64
     0
 }
 
-// Fewer than three words are left as they were.
+/// Fewer than three words are left as they were.
+#[tactic(auto, unfolding(crate::specs::Words::with_pass))]
 pub fn put_pass(words: &mut [u64], pass: Pass)
     ensures { words.new ≡ with_pass words.old pass }
 {
-    if words.len() < 3 {
-        return;
-    }
-    words[0] = pass.set;
-    words[1] = pass.needed;
-    words[2] = chosen_word(pass.chosen);
+    put_front(words, [pass.set, pass.needed, chosen_word(pass.chosen)]);
 }
 
 // The pass after an accepted step; a refused one leaves the words as they were.
@@ -185,7 +168,8 @@ pub fn put_read(answer: &mut [u32], read: Result<Records, Fault>)
     }
 }
 
-// How many records were read, none on a refusal.
+/// How many records were read, none on a refusal. Fewer than two words are left as they were.
+#[tactic(auto, unfolding(crate::specs::Words::with_two))]
 pub fn put_records(words: &mut [u32], read: Result<Records, Fault>)
     ensures { words.new ≡ with_two words.old (records_of read).types (records_of read).members }
 {
@@ -193,16 +177,5 @@ pub fn put_records(words: &mut [u32], read: Result<Records, Fault>)
         types: 0,
         members: 0,
     });
-    put_counts(words, records.types, records.members);
-}
-
-// Fewer than two words are left as they were.
-pub fn put_counts(words: &mut [u32], a: u32, b: u32)
-    ensures { words.new ≡ with_two words.old a b }
-{
-    if words.len() < 2 {
-        return;
-    }
-    words[0] = a;
-    words[1] = b;
+    put_front(words, [records.types, records.members]);
 }

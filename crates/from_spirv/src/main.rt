@@ -4,12 +4,12 @@
 
 ghost use Rattle.std.specs.Prelude.{◌≡◌, ◌≤◌, length};
 ghost use Rattle.io.specs.Counts.{IsPrefixLen};
-ghost use Rattle.program_output.specs.Bytes.{Puts};
+ghost use Rattle.program_output.specs.Bytes.{Adds};
 ghost use Rattle.from_spirv.specs.Serving.{HeldWithin};
 ghost use Rattle.from_spirv.specs.Lines.{module_lines};
 
 use ir_records::Refusal;
-use program_output::Buffer;
+use program_output::Output;
 use std::io::Read;
 use std::rt::{Env, Files};
 
@@ -22,29 +22,32 @@ enum InputError {
     Long,
 }
 
+impl InputError {
+    fn message(self) -> &'static [u8] {
+        match self {
+            InputError::Odd => b"the module is no whole number of words\n",
+            InputError::Long => b"the module is longer than 1048576 words\n",
+        }
+    }
+}
+
 // What is written of a module.
-fn put_answer(out: &mut Buffer, at: usize, words: &[u32]) -> usize
-    ensures { Puts out.old at (module_lines words.now) out.new result }
+#[tactic(auto, unfolding(crate::specs::Lines::module_lines))]
+fn put_answer(out: &mut Output, words: &[u32])
+    ensures { Adds out.old (module_lines words.now) out.new }
 {
     let mut types = [0u32; 6144];
     let mut members = [0u32; 16384];
     match spirv_reader::read_module(words, &mut types, &mut members) {
-        Ok(records) => program_record_lines::put_records(
-            out,
-            at,
-            &types,
-            records.types,
-            &members,
-            records.members,
-        ),
-        Err(fault) => program_output::put_refusal(out, at, Refusal::of(fault)),
+        Ok(read) => program_record_lines::put_records(out, &types, &members, read),
+        Err(fault) => out.put_refusal(Refusal::of(fault)),
     }
 }
 
 fn answer(words: &[u32]) {
-    let mut out = [0u8; 1114112];
-    let end = put_answer(&mut out, 0, words);
-    program_output::write_out(&out, end);
+    let mut out = Output::new();
+    put_answer(&mut out, words);
+    out.write_out();
 }
 
 // What is held with the bytes of one read.
@@ -91,6 +94,8 @@ fn read_more<S: Read>(source: &mut S, words: &mut [u32], held: usize) -> Result<
 }
 
 // All words of the input.
+// Kept: program_files::read_all reads bytes. Here each full buffer is made words at once, since a program has no room for the bytes of a module
+// and its words.
 fn read_all<S: Read>(source: &mut S, words: &mut [u32]) -> Result<usize, InputError>
     ensures { HeldWithin 0 (length words.old) result }
 {
@@ -105,23 +110,6 @@ fn read_all<S: Read>(source: &mut S, words: &mut [u32]) -> Result<usize, InputEr
     }
 }
 
-// The module in the words that are held.
-fn answer_held(words: &[u32], held: Result<usize, InputError>) {
-    match held {
-        Ok(n) => {
-            if n <= words.len() {
-                answer(&words[..n]);
-            }
-        }
-        Err(InputError::Odd) => {
-            program_files::tell(b"the module is no whole number of words\n");
-        }
-        Err(InputError::Long) => {
-            program_files::tell(b"the module is longer than 1048576 words\n");
-        }
-    }
-}
-
 // 1,048,576 zeros.
 fn no_words() -> [u32; 1048576]
     ensures { 1048576 ≡ length result }
@@ -131,8 +119,10 @@ fn no_words() -> [u32; 1048576]
 
 fn read_and_answer<S: Read>(source: &mut S) {
     let mut words = no_words();
-    let held = read_all(source, &mut words);
-    answer_held(&words, held);
+    match read_all(source, &mut words) {
+        Ok(held) => answer(&words[..held]),
+        Err(error) => program_files::tell(error.message()),
+    }
 }
 
 // The name of a file as a comment.

@@ -6,18 +6,12 @@ ghost use Rattle.std.specs.Prelude.{◌≡◌, length};
 
 use program_files::ReadError;
 
-fn answer(text: &[u8]) {
-    let mut out = [0u8; 1114112];
-    let end = wgsl_lines::put_answer(&mut out, 0, text);
-    program_output::write_out(&out, end);
-}
-
 // The text in the bytes that are held.
 fn answer_held(bytes: &[u8], held: Result<usize, ReadError>) {
     match held {
         Ok(n) => {
-            if n <= bytes.len() {
-                answer(&bytes[..n]);
+            if let Some(text) = bytes.get(..n) {
+                wgsl_lines::answer(text);
             }
         }
         Err(ReadError::Long) => {

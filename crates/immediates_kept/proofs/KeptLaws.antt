@@ -26,12 +26,6 @@ same_part a b ty low same =
     (rw zeroth refl, rw (zeroth, first, second, third) refl)
 
 module _ (kept : List ℕ) (ty low : ℕ) where
-  -- as many words stand there after
-  pub kept_length : (part : Part) → length (with_kept kept ty low part) ≡ length kept
-  unfolding with_kept
-  kept_length (Within touched partly room) = simp length-set refl
-  kept_length Past = length-set kept (ty * 16 + low * 4) 1
-
   -- a word of another type or remainder stays
   stays : (part : Part) (at : ℕ) → (at ≡ ty * 16 + low * 4 → ⊥) → (at ≡ ty * 16 + low * 4 + 1 → ⊥) → (at ≡ ty * 16 + low * 4 + 2 → ⊥) → (at ≡ ty * 16 + low * 4 + 3 → ⊥)
       → get_or (with_kept kept ty low part) at 0 ≡ get_or kept at 0

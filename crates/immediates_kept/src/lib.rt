@@ -12,6 +12,8 @@ const TYPE_WORDS: usize = 16;
 
 const PART_WORDS: usize = 4;
 // The first word: 0 where nothing is kept.
+// Kept: words for what an Option of an Option would say, since a walk zeroes up to 16,384 of them at once, where items of an enum are written one
+// by one.
 const KEPT_PAST: u64 = 1;
 
 const KEPT_WITHIN: u64 = 2;
@@ -24,6 +26,9 @@ fn place(ty: u32, low: u32) -> usize
 }
 
 // Whether a part of type ty is kept.
+// Kept: three functions ask for the words of a type and a remainder below 4; a struct of the two would be made at each of their three calls, and
+// the length still be asked of each, since one of them writes.
+#[tactic(auto, unfolding(crate::specs::Kept::is_kept))]
 pub fn is_kept(kept: &[u64], ty: u32, low: u32) -> bool
     requires ty_in_bounds { ty * 16 + 16 ≤ length kept.now }
     requires low_bound { low < 4 }
@@ -34,6 +39,7 @@ pub fn is_kept(kept: &[u64], ty: u32, low: u32) -> bool
 }
 
 // The part of type ty that is kept; None is kept as 25.
+#[tactic(auto, unfolding(crate::specs::Kept::kept_part))]
 pub fn kept_part(kept: &[u64], ty: u32, low: u32) -> Option<Part>
     requires ty_in_bounds { ty * 16 + 16 ≤ length kept.now }
     requires low_bound { low < 4 }
@@ -64,6 +70,7 @@ fn store(kept: &mut [u64], at: usize, part: Part)
 }
 
 // Keeps a part of type ty.
+#[tactic(auto, unfolding(crate::specs::Kept::with_kept))]
 pub fn keep(kept: &mut [u64], ty: u32, low: u32, part: Option<Part>)
     requires ty_in_bounds { ty * 16 + 16 ≤ length kept.old }
     requires low_bound { low < 4 }

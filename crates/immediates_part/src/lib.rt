@@ -16,6 +16,7 @@ const SLOT_BYTES: u64 = 256;
 
 impl Part {
     /// No slot: only 32 bits end its room.
+    #[tactic(auto, unfolding(crate::specs::Part::nothing_at))]
     pub fn nothing_at(offset: u32) -> Part
         ensures { part_in result ≡ nothing_at offset }
     {
@@ -73,6 +74,7 @@ fn range_room(offset: u32, size: u32) -> u64
 }
 
 /// The part of the bytes from offset on; None as of `immediates_ranges::range_slots`.
+#[tactic(auto, unfolding(crate::specs::Part::range_part))]
 pub fn range_part(offset: u32, size: u32) -> Option<Part>
     ensures { part_found result ≡ range_part offset size }
 {
@@ -84,6 +86,7 @@ pub fn range_part(offset: u32, size: u32) -> Option<Part>
 }
 
 // A mask n slots further on; a shift by 64 or more is none of the machine's.
+#[tactic(auto, unfolding(crate::specs::Part::raised))]
 fn raise(mask: u64, n: u32) -> u64
     ensures { result ≡ raised mask n }
 {

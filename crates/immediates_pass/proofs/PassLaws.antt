@@ -24,9 +24,6 @@ use Rattle.immediates_pass.specs.History.{after, SetIn, now, before, or_earlier,
 pub clash {ℓ} : {A : Type ℓ} {n t m d touched partly : ℕ} → answer.Refused n t m d ≡ answer.Slots touched partly → A
 clash {n = n} {t = t} {m = m} {d = d} {touched = touched} {partly = partly} e = let z : ◌≡◌ {A = ℕ} 0 1 = cc in absurd (omega arith)
 
-slots_inj : {a b p q : ℕ} → answer.Slots a p ≡ answer.Slots b q → a ≡ b
-slots_inj {a} {b} {p} {q} e = cc
-
 -- masks that are answered are the part's
 pub part_mask : (s : Slots) (touched partly : ℕ) → part_answer s ≡ answer.Slots touched partly → s ≡ Mask touched partly
 part_mask (Mask x y) touched partly e = let q : x ≡ touched = cc in let r : y ≡ partly = cc in rw (q, r) refl

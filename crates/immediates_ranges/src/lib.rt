@@ -44,6 +44,7 @@ fn cut_slot(border: u64) -> u64
 
 /// from_range: the slots of the bytes from offset on, and those that one of their two borders lies inside. None where a nonempty part ends
 /// past byte 256 or an offset sum leaves 32 bits.
+#[tactic(auto, unfolding(crate::specs::Slots::range_slots))]
 pub fn range_slots(offset: u32, size: u32) -> Option<Slots>
     ensures { slots_found result ≡ range_slots offset size }
 {

@@ -6,15 +6,15 @@
 // types and 4,096 member rows takes 17 million member steps at the most.
 #![tactic(auto)]
 
-ghost use Rattle.std.specs.Prelude.{◌≡◌, List, ℕ, ◌+◌, ◌*◌, ◌≤◌, ◌<◌, length, IfSome, MatchOption};
+ghost use Rattle.std.specs.Prelude.{◌≡◌, ◌+◌, ◌*◌, ◌≤◌, ◌<◌, length, IfSome, MatchOption};
 ghost use Rattle.ir_records.specs.Record.{decoded, type_word, struct_kind, struct_members, member_type, member_offset};
-ghost use Rattle.ir_records.specs.Table.{table};
 ghost use Rattle.proc_alignment.specs.Alignment.{most};
 ghost use Rattle.immediates_ranges.specs.Slots.{slots_found};
 ghost use Rattle.immediates_part.specs.Part.{Past, part_in, part_found};
 ghost use Rattle.immediates_kept.specs.Kept.{Keeps};
 ghost use Rattle.immediates_walk.specs.Walk.{slots_at};
-ghost use Rattle.immediates_walk.specs.Parts.{Sizes, no_part, part_step, members_part, part_at};
+ghost use Rattle.immediates_walk.specs.Parts.{Sizes, part_at};
+ghost use Rattle.immediates_walk.specs.Serving.{members_at};
 
 use immediates_part::Part;
 use immediates_ranges::Slots;
@@ -26,76 +26,79 @@ pub struct Taken {
     pub part: Part,
 }
 
-// The members from one on, up to the first that is a struct; None where one before it is refused. own: the struct's member rows;
-// rows: those of the arena check, where sizes stand.
-fn plain_from(
-    types: &[u32],
-    rows: &[u32],
-    own: &[u32],
+// A struct of an arena at an offset; rows: those of the arena check, where sizes stand.
+#[derive(Clone, Copy)]
+struct StructAt<'a> {
+    types: &'a [u32],
+    members: &'a [u32],
+    rows: &'a [u32],
     ty: u32,
     offset: u32,
     count: u32,
-    from: u32,
-    before: Part,
-) -> Option<Taken>
-    requires sizes { Sizes types.now rows.now ty }
-    requires from_le_count { from ≤ count }
-    ensures from_le_taken { IfSome result (λ t. (from ≤ t.taken) × (t.taken ≤ count)) }
-    ensures taken_bound { IfSome result (λ t. t.taken < count → (member_type own.now t.taken < ty) × (offset + member_offset own.now t.taken ≤ most) × (type_word types.now (member_type own.now t.taken) 0 ≡ struct_kind)) }
-    ensures by_index { (ms : List ℕ) → part_in before ≡ members_part (table no_part (part_step (decoded types.now ms)) ty) own.now offset from → MatchOption result (Past ≡ members_part (table no_part (part_step (decoded types.now ms)) ty) own.now offset count) (λ t. part_in t.part ≡ members_part (table no_part (part_step (decoded types.now ms)) ty) own.now offset t.taken) }
+    ghost sizes: { Sizes types.now rows.now ty },
+}
+
+// A walk of its members, up to one of them.
+#[derive(Clone, Copy)]
+struct Walk<'a> {
+    of: StructAt<'a>,
+    from: Taken,
+    ghost within: { from.taken ≤ of.count },
+    ghost so_far: { part_in from.part ≡ members_at of.types.now of.members.now of.ty of.offset from.taken },
+}
+
+// The members from where a walk stands, up to the first that is a struct; None where one before it is refused.
+fn plain_from(walk: Walk) -> Option<Taken>
+    ensures from_le_taken { IfSome result (λ t. (walk.entry.from.taken ≤ t.taken) × (t.taken ≤ walk.entry.of.count)) }
+    ensures taken_bound { IfSome result (λ t. t.taken < walk.entry.of.count → (member_type (struct_members walk.entry.of.types.now walk.entry.of.members.now walk.entry.of.ty) t.taken < walk.entry.of.ty) × (walk.entry.of.offset + member_offset (struct_members walk.entry.of.types.now walk.entry.of.members.now walk.entry.of.ty) t.taken ≤ most) × (type_word walk.entry.of.types.now (member_type (struct_members walk.entry.of.types.now walk.entry.of.members.now walk.entry.of.ty) t.taken) 0 ≡ struct_kind)) }
+    ensures value { MatchOption result (Past ≡ members_at walk.entry.of.types.now walk.entry.of.members.now walk.entry.of.ty walk.entry.of.offset walk.entry.of.count) (λ t. part_in t.part ≡ members_at walk.entry.of.types.now walk.entry.of.members.now walk.entry.of.ty walk.entry.of.offset t.taken) }
 {
-    let mut part = before;
-    for j in from..count {
+    let own = ir_records::struct_members(walk.of.types, walk.of.members, walk.of.ty);
+    let mut part = walk.from.part;
+    for j in walk.from.taken..walk.of.count {
         let t = ir_records::member_type(own, j);
-        let sum = (offset as u64) + (ir_records::member_offset(own, j) as u64);
-        if (proc_alignment::MOST < sum) | (ty <= t) {
+        let sum = (walk.of.offset as u64) + (ir_records::member_offset(own, j) as u64);
+        if (proc_alignment::MOST < sum) | (walk.of.ty <= t) {
             return None;
         }
-        if ir_records::type_word(types, t, 0) == ir_records::STRUCT_KIND {
+        if ir_records::type_word(walk.of.types, t, 0) == ir_records::STRUCT_KIND {
             return Some(Taken { taken: j, part });
         }
         let at = sum as u32;
-        let size = ir_rows::row_word(rows, t, ir_rows::SIZE as u32);
+        let size = ir_rows::row_word(walk.of.rows, t, ir_rows::SIZE as u32);
         let whole = immediates_part::range_part(at, size)?;
         part = part.join(whole);
     }
-    Some(Taken { taken: count, part })
+    Some(Taken {
+        taken: walk.of.count,
+        part,
+    })
 }
 
-// The members of struct ty, which stands at offset, from one on.
+// All members from where a walk stands.
 #[cycle(members_part_struct_part)]
-fn members_part(
-    types: &[u32],
-    members: &[u32],
-    rows: &[u32],
-    kept: &mut [u64],
-    ty: u32,
-    offset: u32,
-    count: u32,
-    from: u32,
-    before: Part,
-) -> Option<Part>
-    requires sizes { Sizes types.now rows.now ty }
-    requires ty_in_bounds { ty * 16 ≤ length kept.old }
-    requires keeps { Keeps (part_at (decoded types.now members.now)) kept.old }
-    requires from_le_count { from ≤ count }
-    requires before_value { part_in before ≡ members_part (table no_part (part_step (decoded types.now members.now)) ty) (struct_members types.now members.now ty) offset from }
-    ensures value { part_found result ≡ members_part (table no_part (part_step (decoded types.now members.now)) ty) (struct_members types.now members.now ty) offset count }
-    ensures keeps_2 { Keeps (part_at (decoded types.now members.now)) kept.new }
+fn members_part(walk: Walk, kept: &mut [u64]) -> Option<Part>
+    requires ty_in_bounds { walk.of.ty * 16 ≤ length kept.old }
+    requires keeps { Keeps (part_at (decoded walk.of.types.now walk.of.members.now)) kept.old }
+    ensures value { part_found result ≡ members_at walk.entry.of.types.now walk.entry.of.members.now walk.entry.of.ty walk.entry.of.offset walk.entry.of.count }
+    ensures keeps_2 { Keeps (part_at (decoded walk.entry.of.types.now walk.entry.of.members.now)) kept.new }
 {
-    let own = ir_records::struct_members(types, members, ty);
-    let mut part = before;
-    let mut j = from;
+    let own = ir_records::struct_members(walk.of.types, walk.of.members, walk.of.ty);
+    let mut part = walk.from.part;
+    let mut j = walk.from.taken;
     // Kept: each step goes past all the members that plain_from took, which no range counts.
-    while j < count {
-        let plain = plain_from(types, rows, own, ty, offset, count, j, part)?;
+    while j < walk.of.count {
+        let plain = plain_from(Walk {
+            of: walk.of,
+            from: Taken { taken: j, part },
+        })?;
         let taken = plain.taken;
-        if count <= taken {
+        if walk.of.count <= taken {
             return Some(plain.part);
         }
         let t = ir_records::member_type(own, taken);
-        let at = offset + ir_records::member_offset(own, taken);
-        let nested = struct_part(types, members, rows, kept, t, at)?;
+        let at = walk.of.offset + ir_records::member_offset(own, taken);
+        let nested = struct_part(walk.of.types, walk.of.members, walk.of.rows, kept, t, at)?;
         part = plain.part.join(nested);
         j = taken + 1;
     }
@@ -124,64 +127,51 @@ fn struct_part(
     if immediates_kept::is_kept(kept, ty, low) {
         return immediates_kept::kept_part(kept, ty, low)?.moved(further);
     }
-    let count = ir_records::type_word(types, ty, 2);
-    let nothing = Part::nothing_at(low);
-    let walked = members_part(types, members, rows, kept, ty, low, count, 0, nothing);
+    let own = StructAt {
+        types,
+        members,
+        rows,
+        ty,
+        offset: low,
+        count: ir_records::type_word(types, ty, 2),
+    };
+    let walk = Walk {
+        of: own,
+        from: Taken {
+            taken: 0,
+            part: Part::nothing_at(low),
+        },
+    };
+    let walked = members_part(walk, kept);
     immediates_kept::keep(kept, ty, low, walked);
     walked?.moved(further)
 }
 
 // The members of a struct that has a struct among them, with N words to keep parts in.
-fn nested_in<const N: usize>(
-    types: &[u32],
-    members: &[u32],
-    rows: &[u32],
-    ty: u32,
-    offset: u32,
-    count: u32,
-    from: u32,
-    before: Part,
-) -> Option<Part>
-    requires sizes { Sizes types.now rows.now ty }
-    requires words_fit { ty * 16 ≤ N }
+fn nested_in<const N: usize>(walk: Walk) -> Option<Part>
+    requires words_fit { walk.of.ty * 16 ≤ N }
     requires words_bound { N ≤ 16384 }
-    requires from_le_count { from ≤ count }
-    requires before_value { part_in before ≡ members_part (table no_part (part_step (decoded types.now members.now)) ty) (struct_members types.now members.now ty) offset from }
-    ensures { part_found result ≡ members_part (table no_part (part_step (decoded types.now members.now)) ty) (struct_members types.now members.now ty) offset count }
+    ensures { part_found result ≡ members_at walk.entry.of.types.now walk.entry.of.members.now walk.entry.of.ty walk.entry.of.offset walk.entry.of.count }
 {
     let mut kept = [0u64; N];
-    members_part(
-        types, members, rows, &mut kept, ty, offset, count, from, before,
-    )
+    members_part(walk, &mut kept)
 }
 
 // The same with sixteen words for each type before it. Zeroing them takes time, so there are no more than needed, within four times.
-fn nested_part(
-    types: &[u32],
-    members: &[u32],
-    rows: &[u32],
-    ty: u32,
-    offset: u32,
-    count: u32,
-    from: u32,
-    before: Part,
-) -> Option<Part>
-    requires sizes { Sizes types.now rows.now ty }
-    requires ty_bound { ty ≤ 1024 }
-    requires from_le_count { from ≤ count }
-    requires before_value { part_in before ≡ members_part (table no_part (part_step (decoded types.now members.now)) ty) (struct_members types.now members.now ty) offset from }
-    ensures { part_found result ≡ members_part (table no_part (part_step (decoded types.now members.now)) ty) (struct_members types.now members.now ty) offset count }
+fn nested_part(walk: Walk) -> Option<Part>
+    requires { walk.of.ty ≤ 1024 }
+    ensures { part_found result ≡ members_at walk.entry.of.types.now walk.entry.of.members.now walk.entry.of.ty walk.entry.of.offset walk.entry.of.count }
 {
-    if ty <= 8 {
-        nested_in::<128>(types, members, rows, ty, offset, count, from, before)
-    } else if ty <= 32 {
-        nested_in::<512>(types, members, rows, ty, offset, count, from, before)
-    } else if ty <= 128 {
-        nested_in::<2048>(types, members, rows, ty, offset, count, from, before)
-    } else if ty <= 512 {
-        nested_in::<8192>(types, members, rows, ty, offset, count, from, before)
+    if walk.of.ty <= 8 {
+        nested_in::<128>(walk)
+    } else if walk.of.ty <= 32 {
+        nested_in::<512>(walk)
+    } else if walk.of.ty <= 128 {
+        nested_in::<2048>(walk)
+    } else if walk.of.ty <= 512 {
+        nested_in::<8192>(walk)
     } else {
-        nested_in::<16384>(types, members, rows, ty, offset, count, from, before)
+        nested_in::<16384>(walk)
     }
 }
 
@@ -195,25 +185,32 @@ fn type_part(types: &[u32], members: &[u32], rows: &[u32], ty: u32, offset: u32)
         let size = ir_rows::row_word(rows, ty, ir_rows::SIZE as u32);
         return immediates_part::range_part(offset, size);
     }
-    let count = ir_records::type_word(types, ty, 2);
-    let own = ir_records::struct_members(types, members, ty);
-    let nothing = Part::nothing_at(offset);
-    let plain = plain_from(types, rows, own, ty, offset, count, 0, nothing)?;
-    if count <= plain.taken {
-        return Some(plain.part);
-    }
-    nested_part(
+    let own = StructAt {
         types,
         members,
         rows,
         ty,
         offset,
-        count,
-        plain.taken,
-        plain.part,
-    )
+        count: ir_records::type_word(types, ty, 2),
+    };
+    let walk = Walk {
+        of: own,
+        from: Taken {
+            taken: 0,
+            part: Part::nothing_at(offset),
+        },
+    };
+    let plain = plain_from(walk)?;
+    if walk.of.count <= plain.taken {
+        return Some(plain.part);
+    }
+    nested_part(Walk {
+        of: walk.of,
+        from: plain,
+    })
 }
 
+// Kept: the sizes that the rows have are asked of this, of type_part and of struct_part, which take a type; in a walk they are a ghost field.
 /// from_type: the slots of a type at an offset; None as of `immediates_ranges::range_slots`.
 pub fn type_slots(
     types: &[u32],

@@ -2,63 +2,68 @@
 #![tactic(auto)]
 
 use program_commands::Session;
+use program_output::Output;
 
-fn stop_at(s: Session, line: &[u8]) {
+fn stop_at(mut s: Session, line: &[u8]) {
     let mut arena = [0u32; 22528];
     let mut numbers = [0u32; 1025];
-    let mut out = [0u8; 1114112];
-    let read = program_lines::read_line(line, &mut numbers);
-    let stopped = program_commands::change(read, s, &mut arena);
-    program_commands::flushed(stopped, &mut out);
+    let mut out = Output::new();
+    match program_lines::read_line(line, &mut numbers) {
+        Ok(read) => s = program_commands::change(read, s, &mut arena),
+        Err(reason) => s = program_commands::stop(s, reason),
+    }
+    program_commands::flushed(s, &mut out);
 }
 
 fn stop(line: &[u8]) {
     stop_at(program_commands::start(), line);
 }
 
+fn stop_each(lines: &[&[u8]]) {
+    for line in lines {
+        stop(line);
+    }
+}
+
 // A byte order mark in UTF-8 and in UTF-16 of either order, a NUL, a carriage return that is not the last byte.
 fn bytes() {
-    stop(b"\xef\xbb\xbfcheck");
-    stop(b"# \xff\xfe");
-    stop(b"# \xfe\xff");
-    stop(b"type 0 2 4\0");
-    stop(b"check\rclear\r");
+    stop_each(&[
+        b"\xef\xbb\xbfcheck",
+        b"# \xff\xfe",
+        b"# \xfe\xff",
+        b"type 0 2 4\0",
+        b"check\rclear\r",
+    ]);
 }
 
 fn words() {
-    stop(b"type 0 2 -4");
-    stop(b"caps 4294967296");
-    stop(b"help");
+    stop_each(&[b"type 0 2 -4", b"caps 4294967296", b"help"]);
 }
 
 // Too few numbers, or too many.
 fn usage() {
-    stop(b"caps");
-    stop(b"rule");
-    stop(b"type");
-    stop(b"member 0");
-    stop(b"layout 0");
-    stop(b"judge 0");
-    stop(b"check 0");
-    stop(b"members");
-}
-
-fn later_usage() {
-    stop(b"slots 0");
-    stop(b"range 0");
-    stop(b"place");
-    stop(b"short");
-    stop(b"report 0");
-    stop(b"plain 0 4 0");
-}
-
-fn last_usage() {
-    stop(b"pass 0");
-    stop(b"set 0");
-    stop(b"choose");
-    stop(b"run 0");
-    stop(b"clear 0");
-    stop(b"order");
+    stop_each(&[
+        b"caps",
+        b"rule",
+        b"type",
+        b"member 0",
+        b"layout 0",
+        b"judge 0",
+        b"check 0",
+        b"members",
+        b"slots 0",
+        b"range 0",
+        b"place",
+        b"short",
+        b"report 0",
+        b"plain 0 4 0",
+        b"pass 0",
+        b"set 0",
+        b"choose",
+        b"run 0",
+        b"clear 0",
+        b"order",
+    ]);
 }
 
 // Tables that are full: 1,024 types, 4,096 members.
@@ -75,7 +80,5 @@ fn main(rt: HostRuntime) {
     bytes();
     words();
     usage();
-    later_usage();
-    last_usage();
     full();
 }

@@ -1,5 +1,5 @@
 // Refusals 2 and 3: the sets that the fields of a type record lie in.
-#![tactic(auto)]
+#![tactic(auto, unfolding(ir_records::specs::Fields::fields_ok))]
 
 ghost use Rattle.std.specs.Prelude.{◌≡◌, ◌&&◌, ℕ, ◌+◌, ◌*◌, ◌/◌, ◌≤◌, ◌<◌};
 ghost use Rattle.ir_records.specs.Record.{scalar_kind, vector_kind, matrix_kind, cooperative_matrix_kind, pointer_kind, value_pointer_kind, array_kind, struct_kind, image_kind, sampler_kind, acceleration_structure_kind, binding_array_kind};
@@ -7,7 +7,7 @@ ghost use Rattle.ir_records.specs.Fields.{fields_ok, base_within, fields_at, rec
 ghost use Rattle.ir_records.specs.Table.{first_refusal};
 ghost use Rattle.ir_records.specs.Refusal.{judged, outcome_of};
 
-use ir_records::{Fault, Refusal, TypeRefusal};
+use ir_records::{Fault, Kind, Refusal, TypeRefusal, Words};
 
 // The sets, by their largest number.
 const MOST_SCALAR_KIND: u32 = 5;
@@ -24,107 +24,114 @@ const MOST_ROLE: u32 = 2;
 
 // Number 2, by kind: the words after the kind lie in their sets, and those that it does not name are 0.
 // The sets of atomics are the same.
-pub fn scalar_fields(a: u32, b: u32, c: u32, d: u32, e: u32) -> bool
-    ensures { (m : ℕ) → result ≡ fields_ok m scalar_kind a b c d e }
+pub fn scalar_fields(w: Words) -> bool
+    ensures { (m : ℕ) → result ≡ fields_ok m scalar_kind w.a w.b w.c w.d w.e }
 {
-    (a <= MOST_SCALAR_KIND) & (b <= MOST_WIDTH) & (c == 0) & (d == 0) & (e == 0)
+    (w.a <= MOST_SCALAR_KIND) & (w.b <= MOST_WIDTH) & (w.c == 0) & (w.d == 0) & (w.e == 0)
 }
 
-pub fn vector_fields(a: u32, b: u32, c: u32, d: u32, e: u32) -> bool
-    ensures { (m : ℕ) → result ≡ fields_ok m vector_kind a b c d e }
+pub fn vector_fields(w: Words) -> bool
+    ensures { (m : ℕ) → result ≡ fields_ok m vector_kind w.a w.b w.c w.d w.e }
 {
-    ((2 <= a) & (a <= 4)) & ((b <= MOST_SCALAR_KIND) & (c <= MOST_WIDTH)) & (d == 0) & (e == 0)
+    ((2 <= w.a) & (w.a <= 4))
+        & ((w.b <= MOST_SCALAR_KIND) & (w.c <= MOST_WIDTH))
+        & (w.d == 0)
+        & (w.e == 0)
 }
 
-pub fn matrix_fields(a: u32, b: u32, c: u32, d: u32, e: u32) -> bool
-    ensures { (m : ℕ) → result ≡ fields_ok m matrix_kind a b c d e }
+pub fn matrix_fields(w: Words) -> bool
+    ensures { (m : ℕ) → result ≡ fields_ok m matrix_kind w.a w.b w.c w.d w.e }
 {
-    ((2 <= a) & (a <= 4))
-        & ((2 <= b) & (b <= 4))
-        & ((c <= MOST_SCALAR_KIND) & (d <= MOST_WIDTH))
-        & (e == 0)
+    ((2 <= w.a) & (w.a <= 4))
+        & ((2 <= w.b) & (w.b <= 4))
+        & ((w.c <= MOST_SCALAR_KIND) & (w.d <= MOST_WIDTH))
+        & (w.e == 0)
 }
 
-pub fn cooperative_fields(a: u32, b: u32, c: u32, d: u32, e: u32) -> bool
-    ensures { (m : ℕ) → result ≡ fields_ok m cooperative_matrix_kind a b c d e }
+pub fn cooperative_fields(w: Words) -> bool
+    ensures { (m : ℕ) → result ≡ fields_ok m cooperative_matrix_kind w.a w.b w.c w.d w.e }
 {
-    ((a == 8) | (a == 16))
-        & ((b == 8) | (b == 16))
-        & ((c <= MOST_SCALAR_KIND) & (d <= MOST_WIDTH))
-        & (e <= MOST_ROLE)
+    ((w.a == 8) | (w.a == 16))
+        & ((w.b == 8) | (w.b == 16))
+        & ((w.c <= MOST_SCALAR_KIND) & (w.d <= MOST_WIDTH))
+        & (w.e <= MOST_ROLE)
 }
 
-pub fn pointer_fields(b: u32, c: u32, d: u32, e: u32) -> bool
-    ensures { (m a : ℕ) → result ≡ fields_ok m pointer_kind a b c d e }
+pub fn pointer_fields(w: Words) -> bool
+    ensures { (m a : ℕ) → result ≡ fields_ok m pointer_kind a w.b w.c w.d w.e }
 {
-    (b <= MOST_SPACE) & (c == 0) & (d == 0) & (e == 0)
+    (w.b <= MOST_SPACE) & (w.c == 0) & (w.d == 0) & (w.e == 0)
 }
 
-pub fn value_pointer_fields(a: u32, b: u32, c: u32, d: u32, e: u32) -> bool
-    ensures { (m : ℕ) → result ≡ fields_ok m value_pointer_kind a b c d e }
+pub fn value_pointer_fields(w: Words) -> bool
+    ensures { (m : ℕ) → result ≡ fields_ok m value_pointer_kind w.a w.b w.c w.d w.e }
 {
-    ((a <= MOST_SCALAR_KIND) & (b <= MOST_WIDTH)) & (c <= MOST_SPACE) & (d == 0) & (e == 0)
+    ((w.a <= MOST_SCALAR_KIND) & (w.b <= MOST_WIDTH))
+        & (w.c <= MOST_SPACE)
+        & (w.d == 0)
+        & (w.e == 0)
 }
 
-pub fn array_fields(b: u32, c: u32, e: u32) -> bool
-    ensures { (m a d : ℕ) → result ≡ fields_ok m array_kind a b c d e }
+pub fn array_fields(w: Words) -> bool
+    ensures { (m a d : ℕ) → result ≡ fields_ok m array_kind a w.b w.c d w.e }
 {
-    ((b == 0) & (1 <= c) | (b == 1) & (c == 0)) & (e == 0)
+    ((w.b == 0) & (1 <= w.c) | (w.b == 1) & (w.c == 0)) & (w.e == 0)
 }
 
 // rows: how many rows the member table has.
-pub fn struct_fields(rows: usize, a: u32, b: u32, d: u32, e: u32) -> bool
-    ensures { (c : ℕ) → result ≡ fields_ok rows struct_kind a b c d e }
+pub fn struct_fields(rows: usize, w: Words) -> bool
+    ensures { (c : ℕ) → result ≡ fields_ok rows struct_kind w.a w.b c w.d w.e }
 {
-    let last = a as usize + b as usize;
-    (last <= rows) & (d == 0) & (e == 0)
+    let last = w.a as usize + w.b as usize;
+    (last <= rows) & (w.d == 0) & (w.e == 0)
 }
 
-pub fn image_fields(a: u32, b: u32, c: u32, d: u32, e: u32) -> bool
-    ensures { (m : ℕ) → result ≡ fields_ok m image_kind a b c d e }
+pub fn image_fields(w: Words) -> bool
+    ensures { (m : ℕ) → result ≡ fields_ok m image_kind w.a w.b w.c w.d w.e }
 {
-    (a <= MOST_DIM) & (b <= 1) & (c <= MOST_CLASS) & (d == 0) & (e == 0)
+    (w.a <= MOST_DIM) & (w.b <= 1) & (w.c <= MOST_CLASS) & (w.d == 0) & (w.e == 0)
 }
 
-pub fn sampler_fields(a: u32, b: u32, c: u32, d: u32, e: u32) -> bool
-    ensures { (m : ℕ) → result ≡ fields_ok m sampler_kind a b c d e }
+pub fn sampler_fields(w: Words) -> bool
+    ensures { (m : ℕ) → result ≡ fields_ok m sampler_kind w.a w.b w.c w.d w.e }
 {
-    (a == 0) & (b == 0) & (c == 0) & (d == 0) & (e == 0)
+    (w.a == 0) & (w.b == 0) & (w.c == 0) & (w.d == 0) & (w.e == 0)
 }
 
 // The sets of ray queries are the same.
-pub fn acceleration_fields(a: u32, b: u32, c: u32, d: u32, e: u32) -> bool
-    ensures { (m : ℕ) → result ≡ fields_ok m acceleration_structure_kind a b c d e }
+pub fn acceleration_fields(w: Words) -> bool
+    ensures { (m : ℕ) → result ≡ fields_ok m acceleration_structure_kind w.a w.b w.c w.d w.e }
 {
-    (a <= 1) & (b == 0) & (c == 0) & (d == 0) & (e == 0)
+    (w.a <= 1) & (w.b == 0) & (w.c == 0) & (w.d == 0) & (w.e == 0)
 }
 
-pub fn binding_array_fields(b: u32, c: u32, d: u32, e: u32) -> bool
-    ensures { (m a : ℕ) → result ≡ fields_ok m binding_array_kind a b c d e }
+pub fn binding_array_fields(w: Words) -> bool
+    ensures { (m a : ℕ) → result ≡ fields_ok m binding_array_kind a w.b w.c w.d w.e }
 {
-    ((b == 0) & (1 <= c) | (b == 1) & (c == 0)) & (d == 0) & (e == 0)
+    ((w.b == 0) & (1 <= w.c) | (w.b == 1) & (w.c == 0)) & (w.d == 0) & (w.e == 0)
 }
 
 // Number 2. rows: how many rows the member table has.
-fn fields_ok(rows: usize, kind: u32, a: u32, b: u32, c: u32, d: u32, e: u32) -> bool
-    ensures { result ≡ fields_ok rows kind a b c d e }
+#[tactic(auto)]
+fn fields_ok(rows: usize, w: Words) -> bool
+    ensures { result ≡ fields_ok rows w.kind w.a w.b w.c w.d w.e }
 {
-    match kind {
-        0 => scalar_fields(a, b, c, d, e),
-        1 => vector_fields(a, b, c, d, e),
-        2 => matrix_fields(a, b, c, d, e),
-        3 => cooperative_fields(a, b, c, d, e),
-        4 => scalar_fields(a, b, c, d, e),
-        5 => pointer_fields(b, c, d, e),
-        6 => value_pointer_fields(a, b, c, d, e),
-        7 => array_fields(b, c, e),
-        8 => struct_fields(rows, a, b, d, e),
-        9 => image_fields(a, b, c, d, e),
-        10 => sampler_fields(a, b, c, d, e),
-        11 => acceleration_fields(a, b, c, d, e),
-        12 => acceleration_fields(a, b, c, d, e),
-        13 => binding_array_fields(b, c, d, e),
-        _ => false,
+    match Kind::try_from(w.kind) {
+        Ok(Kind::Scalar) => scalar_fields(w),
+        Ok(Kind::Vector) => vector_fields(w),
+        Ok(Kind::Matrix) => matrix_fields(w),
+        Ok(Kind::CooperativeMatrix) => cooperative_fields(w),
+        Ok(Kind::Atomic) => scalar_fields(w),
+        Ok(Kind::Pointer) => pointer_fields(w),
+        Ok(Kind::ValuePointer) => value_pointer_fields(w),
+        Ok(Kind::Array) => array_fields(w),
+        Ok(Kind::Struct) => struct_fields(rows, w),
+        Ok(Kind::Image) => image_fields(w),
+        Ok(Kind::Sampler) => sampler_fields(w),
+        Ok(Kind::AccelerationStructure) => acceleration_fields(w),
+        Ok(Kind::RayQuery) => acceleration_fields(w),
+        Ok(Kind::BindingArray) => binding_array_fields(w),
+        Err(_) => false,
     }
 }
 
@@ -141,11 +148,11 @@ fn fields_at(types: &[u32], members: &[u32], i: u32) -> Result<(), TypeRefusal>
     ensures { judged result ≡ fields_at types.now members.now i }
 {
     let w = ir_records::record_words(types, i);
-    let rows = members.len() / ir_records::MEMBER_WORDS;
-    if !fields_ok(rows, w.kind, w.a, w.b, w.c, w.d, w.e) {
+    let rows = ir_records::member_count(members);
+    if !fields_ok(rows, w) {
         return Err(TypeRefusal::of(Fault::FieldOutside));
     }
-    if !base_within(types.len() / ir_records::TYPE_WORDS, w.kind, w.a) {
+    if !base_within(ir_records::type_count(types), w.kind, w.a) {
         return Err(TypeRefusal::of(Fault::BaseOutside));
     }
     Ok(())
@@ -163,6 +170,7 @@ fn record_at(types: &[u32], members: &[u32], i: u32) -> Result<(), TypeRefusal>
 }
 
 // Numbers 2 and 3 over the first n records.
+// Kept: n counts types, and is no length of the member table.
 pub fn records_ok(types: &[u32], members: &[u32], n: u32) -> Result<(), Refusal>
     ensures { outcome_of result ≡ first_refusal (record_at types.now members.now) n }
 {

@@ -105,24 +105,14 @@ pub none_yet : (ys : List Member) (ws : List ℕ) → take (0 * member_words) ws
 unfolding flat
 none_yet ys ws = refl
 
--- what `fit` says
-module _ (n r : ℕ) where
-  fit_by : (t : Bool) → leb n 4097 ≡ t → r ≡ pick t n 4097 → (r ≤ n) × (r ≤ 4097)
-  fit_by true e p = subst (λ (k : ℕ). (k ≤ n) × (k ≤ 4097)) (sym p) (le_refl n, leb-true n 4097 e)
-  fit_by false e p = subst (λ (k : ℕ). (k ≤ n) × (k ≤ 4097)) (sym p) (omega (arith, leb-false n 4097 e), le_refl 4097)
-
-  pub fit_le : r ≡ pick (leb n 4097) n 4097 → (r ≤ n) × (r ≤ 4097)
-  fit_le p = fit_by (leb n 4097) refl p
-
 -- what answers all that is too long alike answers the words kept as all the words
-module _ {A : Type 0} (f : List ℕ → A) (d : A) (refuses : (l : List ℕ) → most_members * member_words < length l → f l ≡ d) (ms : List Member) (r : ℕ) where
-  all_kept : (t : Bool) → leb (length ms) 4097 ≡ t → r ≡ pick t (length ms) 4097 → f (flat (take r ms)) ≡ f (flat ms)
-  all_kept true e p = ap (λ (k : ℕ). f (flat (take k ms))) p ∙ ap (λ (l : List Member). f (flat l)) (take-length ms)
-  all_kept false e p =
+module _ {A : Type 0} (f : List ℕ → A) (d : A) (refuses : (l : List ℕ) → most_members * member_words < length l → f l ≡ d) (ms : List Member) where
+  all_kept : (t : Bool) → leb (length ms) 4097 ≡ t → f (flat (take (pick t (length ms) 4097) ms)) ≡ f (flat ms)
+  all_kept true e = ap (λ (l : List Member). f (flat l)) (take-length ms)
+  all_kept false e =
       let long : 4097 < length ms = leb-false (length ms) 4097 e in
-      ap (λ (k : ℕ). f (flat (take k ms))) p
-      ∙ refuses (flat (take 4097 ms)) (omega (arith, length_flat (take 4097 ms), length-take-le 4097 ms (omega (arith, long))))
+      refuses (flat (take 4097 ms)) (omega (arith, length_flat (take 4097 ms), length-take-le 4097 ms (omega (arith, long))))
       ∙ sym (refuses (flat ms) (omega (arith, length_flat ms, long)))
 
-  pub through : (ws : List ℕ) → take (r * member_words) ws ≡ flat (take r ms) → r ≡ pick (leb (length ms) 4097) (length ms) 4097 → f (take (r * member_words) ws) ≡ f (flat ms)
-  through ws e p = ap f e ∙ all_kept (leb (length ms) 4097) refl p
+  pub through : (ws : List ℕ) → ws ≡ flat (take (pick (leb (length ms) 4097) (length ms) 4097) ms) → f ws ≡ f (flat ms)
+  through ws e = ap f e ∙ all_kept (leb (length ms) 4097) refl

@@ -7,7 +7,7 @@ ghost use Rattle.ir_records.specs.Record.{member_words};
 ghost use Rattle.ir_member_words.specs.Flat.{flat};
 
 // StructMember of naga's ir/mod.rs: a type, an offset, and the location and the blend source of its binding, each plus one, 0 for none.
-#[derive(Clone, Copy)]
+#[derive(Clone, Copy, Debug, PartialEq, Eq)]
 pub struct Member {
     pub ty: u32,
     pub offset: u32,
@@ -15,27 +15,40 @@ pub struct Member {
     pub source: u32,
 }
 
+// How many records are taken apart at most: one more than the core takes, so that the core refuses what is too long.
 const MOST_RECORDS: usize = 4097;
 
-// How many records are taken apart: one more than the core takes, so that the core refuses what is too long.
-pub fn fit(n: usize) -> usize
-    ensures { result ≡ pick (leb n 4097) n 4097 }
-{
-    n.min(MOST_RECORDS)
+/// The words of member records, one record after the other.
+#[derive(Drop)]
+pub struct MemberWords {
+    pub words: [u32; 16388],
+    pub end: usize,
+    ghost fits: { end ≤ 16388 },
 }
 
-// The words of the first n records.
-pub fn words_of(ms: &[Member], n: usize) -> [u32; 16388]
-    requires { (n ≤ length ms.now) × (n ≤ 4097) }
-    ensures { take (n * member_words) result ≡ flat (take n ms.now) }
-{
-    let mut words = [0u32; 16388];
-    for i in 0..n {
-        let m = ms[i];
-        words[i * 4] = m.ty;
-        words[i * 4 + 1] = m.offset;
-        words[i * 4 + 2] = m.location;
-        words[i * 4 + 3] = m.source;
+impl MemberWords {
+    /// The words of the first records.
+    pub fn of(ms: &[Member]) -> MemberWords
+        ensures { take result.end result.words ≡ flat (take (pick (leb (length ms.now) 4097) (length ms.now) 4097) ms.now) }
+    {
+        let n = ms.len().min(MOST_RECORDS);
+        let mut words = [0u32; 16388];
+        for i in 0..n {
+            let m = ms[i];
+            words[i * 4] = m.ty;
+            words[i * 4 + 1] = m.offset;
+            words[i * 4 + 2] = m.location;
+            words[i * 4 + 3] = m.source;
+        }
+        MemberWords {
+            words,
+            end: n * ir_records::MEMBER_WORDS,
+        }
     }
-    words
+
+    pub fn used(&self) -> &[u32]
+        ensures { result.now ≡ take self.now.end self.now.words }
+    {
+        &self.words[..self.end]
+    }
 }

@@ -2,10 +2,12 @@
 -- Assumes nothing.
 use mathlib.Core.Path.{◌≡◌, refl}
 use mathlib.Core.Bool.{Bool, true, false}
-use Prim.Native.Nat.{ℕ}
+use Prim.Native.Nat.{ℕ, ◌≤◌, ◌<◌}
+use native.Mathlib.Omega.{arith}
 use lib.Dec.{eqb}
-use borrow.Author.Tests.{eqb-true, eqb-false}
+use borrow.Author.Tests.{eqb-true, eqb-false, ne_eqb}
 use Rattle.ir_records.specs.Record.{array_kind, struct_kind, image_kind, inner_of}
+use Rattle.ir_records.specs.Fields.{fields_ok}
 use Rattle.ir_records.specs.declared.Leaf.{Leaf}
 use Rattle.ir_records.specs.declared.NonData.TheVariants.{Pointer, ValuePointer, Image, Sampler, AccelerationStructure, BindingArray}
 use Rattle.ir_records.specs.declared.TypeInner.{TypeInner}
@@ -48,3 +50,25 @@ told-by g r k n same other = go (eqb k n) refl
     go : (t : Bool) → eqb k n ≡ t → g t ≡ r
     go true e = same (eqb-true k n e)
     go false e = other (eqb-false k n e)
+
+-- no kind lies above 13
+pub no_kind : (m kind a b c d e : ℕ) → 13 < kind → fields_ok m kind a b c d e ≡ false
+unfolding fields_ok
+no_kind m kind a b c d e h =
+    let other : (k : ℕ) → k ≤ 13 → eqb kind k ≡ false = λ k l. ne_eqb kind k (λ q. omega arith) in
+    rw (
+      other 0 (omega arith),
+      other 1 (omega arith),
+      other 2 (omega arith),
+      other 3 (omega arith),
+      other 4 (omega arith),
+      other 5 (omega arith),
+      other 6 (omega arith),
+      other 7 (omega arith),
+      other 8 (omega arith),
+      other 9 (omega arith),
+      other 10 (omega arith),
+      other 11 (omega arith),
+      other 12 (omega arith),
+      other 13 (omega arith),
+    ) refl

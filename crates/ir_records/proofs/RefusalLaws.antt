@@ -3,10 +3,10 @@
 use Rattle.std.specs.Result.{is_err}
 use Rattle.std.proofs.Common.{true, false, ◌≡◌, ◌∙◌, ℕ, ◌<◌, refl, sym, ap}
 use Rattle.std.specs.Prelude as std
-use Rattle.ir_records.specs.Result.{Result, ok, err}
+use Rattle.ir_records.specs.Result.{Result, ok}
 use Rattle.ir_records.specs.Table.{outcome_at, first_refusal}
 use Rattle.ir_records.specs.Outcome.{Outcome, Accepted, Refused}
-use Rattle.ir_records.specs.Refusal.{judged, outcome_of, at_type, number_of}
+use Rattle.ir_records.specs.Refusal.{judged, outcome_of, at_type}
 use Rattle.ir_records.specs.declared.TypeRefusal.{TypeRefusal}
 use Rattle.ir_records.specs.declared.Refusal.{Refusal}
 use Rattle.ir_records.proofs.TableLaws.{stays}

@@ -1,6 +1,6 @@
 -- 01, 'The refusal', numbers 1, 2 and 3: the lengths of the tables, and the sets that the fields of a record lie in.
 -- Assumes nothing.
-use Rattle.std.specs.Prelude.{Bool, not, true, false, ◌&&◌, ◌||◌, List, ℕ, zero, suc, ◌+◌, ◌*◌, ◌/◌, ◌%◌, eqb, leb, ltb, length}
+use Rattle.std.specs.Prelude.{Bool, not, true, false, ◌&&◌, ◌||◌, List, ℕ, zero, suc, ◌+◌, ◌*◌, ◌/◌, ◌%◌, eqb, leb, ltb}
 use Rattle.ir_records.specs.Result.{Result, ok, pick, require}
 use Rattle.ir_records.specs.Record.{type_words, type_count, type_word, member_words, member_count, member_location, member_source, struct_members, scalar_kind, vector_kind, matrix_kind, cooperative_matrix_kind, atomic_kind, pointer_kind, value_pointer_kind, array_kind, struct_kind, image_kind, sampler_kind, acceleration_structure_kind, ray_query_kind, binding_array_kind}
 

@@ -1,5 +1,6 @@
 pub mod Result
 pub mod Record
+pub mod Kinds
 pub mod Fields
 pub mod Table
 pub mod Serving

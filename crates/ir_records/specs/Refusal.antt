@@ -9,6 +9,7 @@ use Rattle.ir_records.specs.declared.Fault.TheVariants.{TableLength, FieldOutsid
 use Rattle.ir_records.specs.declared.TypeRefusal.{TypeRefusal}
 use Rattle.ir_records.specs.declared.Refusal.{Refusal}
 
+-- the number of each fault
 abbrev pub number_of : Fault → ℕ
 number_of TableLength = 1
 number_of FieldOutside = 2

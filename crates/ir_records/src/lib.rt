@@ -1,14 +1,17 @@
 // The type and member records of naga's ir/mod.rs, as words in the caller's tables, and refusal 1.
+// Kept: `types`, `members`, `rows`: the tables that a caller lends are parameters of their own throughout. In a struct of them contracts would say
+// `arena.entry.types.now` for `types.now`, and most functions below the calls read one of the tables.
 #![tactic(auto)]
 
 ghost use Rattle.std.specs.Prelude.{◌≡◌, ◌&&◌, ℕ, ◌+◌, ◌*◌, ◌/◌, ◌≤◌, ◌<◌, length, get_or, take, drop};
-ghost use Rattle.ir_records.specs.Record.{type_word, type_count, member_words, member_count, member_type, member_offset, member_location, member_source, inner_of, type_inner, struct_members};
+ghost use Rattle.ir_records.specs.Record.{type_word, type_count, member_words, member_count, member_type, member_offset, member_location, member_source, array_kind, inner_in, type_inner, struct_members};
 ghost use Rattle.ir_records.specs.Serving.{record_words};
+ghost use Rattle.ir_records.specs.Kinds.{NamesKind, NamesScalarKind};
 ghost use Rattle.ir_records.specs.Refusal.{number_of, type_refusal, refusal, at_type};
 ghost use Rattle.ir_records.specs.Fields.{tables_fit, capabilities_known, sources_located};
 
 // Data that is neither array nor struct: 01's leaves.
-#[derive(Clone, Copy)]
+#[derive(Clone, Copy, Debug, PartialEq, Eq)]
 pub enum Leaf {
     Scalar(u32, u32),
     Vector(u32, u32, u32),
@@ -19,7 +22,7 @@ pub enum Leaf {
 }
 
 // What is no data.
-#[derive(Clone, Copy)]
+#[derive(Clone, Copy, Debug, PartialEq, Eq)]
 pub enum NonData {
     Pointer(u32, u32),
     ValuePointer(u32, u32, u32),
@@ -30,7 +33,7 @@ pub enum NonData {
 }
 
 // What a type record says. The member rows of a struct are asked for by struct_members.
-#[derive(Clone, Copy)]
+#[derive(Clone, Copy, Debug, PartialEq, Eq)]
 pub enum TypeInner {
     Plain(Leaf),
     Array { base: u32, count: u32, stride: u32 },
@@ -48,6 +51,36 @@ pub struct Words {
     pub c: u32,
     pub d: u32,
     pub e: u32,
+}
+
+/// The kind of a type record: naga's TypeInner, by its number.
+#[derive(Clone, Copy, Debug, PartialEq, Eq)]
+pub enum Kind {
+    Scalar = 0,
+    Vector = 1,
+    Matrix = 2,
+    CooperativeMatrix = 3,
+    Atomic = 4,
+    Pointer = 5,
+    ValuePointer = 6,
+    Array = 7,
+    Struct = 8,
+    Image = 9,
+    Sampler = 10,
+    AccelerationStructure = 11,
+    RayQuery = 12,
+    BindingArray = 13,
+}
+
+/// naga's ScalarKind, by its number.
+#[derive(Clone, Copy, Debug, PartialEq, Eq)]
+pub enum ScalarKind {
+    Sint = 0,
+    Uint = 1,
+    Float = 2,
+    Bool = 3,
+    AbstractInt = 4,
+    AbstractFloat = 5,
 }
 
 /// Why an input is refused, by naga's names where naga has one; `u32::from` gives the number of 01 and 02.
@@ -184,6 +217,54 @@ impl Refusal {
     }
 }
 
+impl TryFrom<u32> for Kind {
+    type Error = TypeRefusal;
+
+    ghost try_from_gives = { NamesKind };
+
+    /// Number 2 for a number of no kind.
+    // Kept: these arms by number are the conversion.
+    fn try_from(number: u32) -> Result<Self, TypeRefusal> {
+        match number {
+            0 => Ok(Kind::Scalar),
+            1 => Ok(Kind::Vector),
+            2 => Ok(Kind::Matrix),
+            3 => Ok(Kind::CooperativeMatrix),
+            4 => Ok(Kind::Atomic),
+            5 => Ok(Kind::Pointer),
+            6 => Ok(Kind::ValuePointer),
+            7 => Ok(Kind::Array),
+            8 => Ok(Kind::Struct),
+            9 => Ok(Kind::Image),
+            10 => Ok(Kind::Sampler),
+            11 => Ok(Kind::AccelerationStructure),
+            12 => Ok(Kind::RayQuery),
+            13 => Ok(Kind::BindingArray),
+            _ => Err(TypeRefusal::of(Fault::FieldOutside)),
+        }
+    }
+}
+
+impl TryFrom<u32> for ScalarKind {
+    type Error = TypeRefusal;
+
+    ghost try_from_gives = { NamesScalarKind };
+
+    /// Number 2 for a number of no scalar kind.
+    // Kept: these arms by number are the conversion.
+    fn try_from(number: u32) -> Result<Self, TypeRefusal> {
+        match number {
+            0 => Ok(ScalarKind::Sint),
+            1 => Ok(ScalarKind::Uint),
+            2 => Ok(ScalarKind::Float),
+            3 => Ok(ScalarKind::Bool),
+            4 => Ok(ScalarKind::AbstractInt),
+            5 => Ok(ScalarKind::AbstractFloat),
+            _ => Err(TypeRefusal::of(Fault::FieldOutside)),
+        }
+    }
+}
+
 /// How many type and member records a reader made.
 #[derive(Clone, Copy, Debug, PartialEq, Eq)]
 pub struct Records {
@@ -204,21 +285,32 @@ const MOST_MEMBERS: usize = 4096;
 const ALL_CAPABILITIES: u32 = 16383;
 
 // The kinds that code tests for one at a time.
-pub const POINTER_KIND: u32 = 5;
+pub const POINTER_KIND: u32 = Kind::Pointer as u32;
 
-pub const ARRAY_KIND: u32 = 7;
+pub const ARRAY_KIND: u32 = Kind::Array as u32;
 
-pub const STRUCT_KIND: u32 = 8;
+pub const STRUCT_KIND: u32 = Kind::Struct as u32;
 
-pub const IMAGE_KIND: u32 = 9;
+pub const IMAGE_KIND: u32 = Kind::Image as u32;
 
-pub const BINDING_ARRAY_KIND: u32 = 13;
+pub const BINDING_ARRAY_KIND: u32 = Kind::BindingArray as u32;
+
+/// An item of a table; `otherwise` past it.
+pub fn item_or<T: Copy>(items: &[T], at: usize, otherwise: T) -> T
+    ensures { result ≡ get_or items.now at otherwise }
+{
+    if at < items.len() {
+        items[at]
+    } else {
+        otherwise
+    }
+}
 
 // A word of a table; 0 past it.
 pub fn word_at(words: &[u32], at: usize) -> u32
     ensures { result ≡ get_or words.now at 0 }
 {
-    if at < words.len() { words[at] } else { 0 }
+    item_or(words, at, 0)
 }
 
 // Word k of record i; 0 past the table.
@@ -242,6 +334,13 @@ pub fn type_count(types: &[u32]) -> usize
     types.len() / TYPE_WORDS
 }
 
+/// How many rows a member table has, or a struct's part of it.
+pub fn member_count(members: &[u32]) -> usize
+    ensures { result ≡ member_count members.now }
+{
+    members.len() / MEMBER_WORDS
+}
+
 // Of member j in a part of the member table; 0 past the part.
 pub fn member_type(part: &[u32], j: u32) -> u32
     ensures { result ≡ member_type part.now j }
@@ -256,6 +355,7 @@ pub fn member_offset(part: &[u32], j: u32) -> u32
 }
 
 // The same of a member that the part has.
+// Kept: `j * member_words + member_words ≤ length part.now`: for parts of which the first rows are looked at; where all are, Members says it.
 pub fn own_type(part: &[u32], j: usize) -> u32
     requires { j * member_words + member_words ≤ length part.now }
     ensures { result ≡ member_type part.now j }
@@ -289,7 +389,7 @@ pub fn own_source(part: &[u32], j: usize) -> u32
 pub fn sources_located(part: &[u32]) -> bool
     ensures { result ≡ sources_located part.now }
 {
-    for j in (0..part.len() / MEMBER_WORDS).rev() {
+    for j in (0..member_count(part)).rev() {
         let source = own_source(part, j);
         let location = own_location(part, j);
         if (0 < source) & (location == 0) {
@@ -299,39 +399,55 @@ pub fn sources_located(part: &[u32]) -> bool
     true
 }
 
-// What a record says, by its kind and the five words after it.
-fn inner_of(kind: u32, a: u32, b: u32, c: u32, d: u32, e: u32) -> TypeInner
-    ensures { result ≡ inner_of kind a b c d e }
+// An array of a count, or a runtime array.
+#[tactic(auto, unfolding(crate::specs::Record::inner_of))]
+fn array_of(w: Words) -> TypeInner
+    ensures { w.kind ≡ array_kind → result ≡ inner_in w }
 {
-    match kind {
-        0 => TypeInner::Plain(Leaf::Scalar(a, b)),
-        1 => TypeInner::Plain(Leaf::Vector(a, b, c)),
-        2 => TypeInner::Plain(Leaf::Matrix(a, b, c, d)),
-        3 => TypeInner::Plain(Leaf::CooperativeMatrix(a, b, c, d, e)),
-        4 => TypeInner::Plain(Leaf::Atomic(a, b)),
-        5 => TypeInner::Other(NonData::Pointer(a, b)),
-        6 => TypeInner::Other(NonData::ValuePointer(a, b, c)),
-        7 => {
-            if b == 0 {
-                TypeInner::Array {
-                    base: a,
-                    count: c,
-                    stride: d,
-                }
-            } else {
-                TypeInner::RuntimeArray { base: a, stride: d }
-            }
+    if w.b == 0 {
+        TypeInner::Array {
+            base: w.a,
+            count: w.c,
+            stride: w.d,
         }
-        8 => TypeInner::Struct { count: b, span: c },
-        9 => TypeInner::Other(NonData::Image(a, b, c)),
-        10 => TypeInner::Other(NonData::Sampler),
-        11 => TypeInner::Other(NonData::AccelerationStructure(a)),
-        12 => TypeInner::Plain(Leaf::RayQuery(a)),
-        _ => TypeInner::Other(NonData::BindingArray(a, b, c)),
+    } else {
+        TypeInner::RuntimeArray {
+            base: w.a,
+            stride: w.d,
+        }
+    }
+}
+
+// What a record with these words says.
+#[tactic(auto, unfolding(crate::specs::Record::inner_of))]
+fn inner_of(w: Words) -> TypeInner
+    ensures { result ≡ inner_in w }
+{
+    match Kind::try_from(w.kind) {
+        Ok(Kind::Scalar) => TypeInner::Plain(Leaf::Scalar(w.a, w.b)),
+        Ok(Kind::Vector) => TypeInner::Plain(Leaf::Vector(w.a, w.b, w.c)),
+        Ok(Kind::Matrix) => TypeInner::Plain(Leaf::Matrix(w.a, w.b, w.c, w.d)),
+        Ok(Kind::CooperativeMatrix) => {
+            TypeInner::Plain(Leaf::CooperativeMatrix(w.a, w.b, w.c, w.d, w.e))
+        }
+        Ok(Kind::Atomic) => TypeInner::Plain(Leaf::Atomic(w.a, w.b)),
+        Ok(Kind::Pointer) => TypeInner::Other(NonData::Pointer(w.a, w.b)),
+        Ok(Kind::ValuePointer) => TypeInner::Other(NonData::ValuePointer(w.a, w.b, w.c)),
+        Ok(Kind::Array) => array_of(w),
+        Ok(Kind::Struct) => TypeInner::Struct {
+            count: w.b,
+            span: w.c,
+        },
+        Ok(Kind::Image) => TypeInner::Other(NonData::Image(w.a, w.b, w.c)),
+        Ok(Kind::Sampler) => TypeInner::Other(NonData::Sampler),
+        Ok(Kind::AccelerationStructure) => TypeInner::Other(NonData::AccelerationStructure(w.a)),
+        Ok(Kind::RayQuery) => TypeInner::Plain(Leaf::RayQuery(w.a)),
+        _ => TypeInner::Other(NonData::BindingArray(w.a, w.b, w.c)),
     }
 }
 
 // The six words of record i, which the table has.
+// Kept: `i * 6 + 6 ≤ length types.now`: the table is read at one record here and at others next; a view of one record is Words, which this makes.
 pub fn own_record(types: &[u32], i: u32) -> Words
     requires { i * 6 + 6 ≤ length types.now }
     ensures { result ≡ record_words types.now i }
@@ -381,18 +497,63 @@ pub fn record_words(types: &[u32], i: u32) -> Words
 pub fn type_inner(types: &[u32], i: u32) -> TypeInner
     ensures { result ≡ type_inner types.now i }
 {
-    let w = record_words(types, i);
-    inner_of(w.kind, w.a, w.b, w.c, w.d, w.e)
+    inner_of(record_words(types, i))
+}
+
+/// The member rows of a struct: so many of the member table, which stand there whole.
+#[derive(Clone, Copy)]
+pub struct Members<'a> {
+    pub words: &'a [u32],
+    pub count: u32,
+    pub ghost counted: { length words.now ≡ count * member_words },
+}
+
+impl<'a> Members<'a> {
+    /// The type of member j.
+    // Kept: `j < self.count`: what each of these methods asks of its own j.
+    pub fn type_of(self, j: u32) -> u32
+        requires { j < self.count }
+        ensures { result ≡ member_type self.entry.words.now j }
+    {
+        own_type(self.words, j as usize)
+    }
+
+    pub fn offset_of(self, j: u32) -> u32
+        requires { j < self.count }
+        ensures { result ≡ member_offset self.entry.words.now j }
+    {
+        own_offset(self.words, j as usize)
+    }
+
+    /// The location plus one, 0 for none.
+    pub fn location_of(self, j: u32) -> u32
+        requires { j < self.count }
+        ensures { result ≡ member_location self.entry.words.now j }
+    {
+        own_location(self.words, j as usize)
+    }
+
+    /// The blend source plus one, 0 for none.
+    pub fn source_of(self, j: u32) -> u32
+        requires { j < self.count }
+        ensures { result ≡ member_source self.entry.words.now j }
+    {
+        own_source(self.words, j as usize)
+    }
 }
 
 // So many member rows from a first one on, which the table has.
-pub fn member_part(members: &[u32], first: u32, count: u32) -> &[u32]
+pub fn member_part(members: &[u32], first: u32, count: u32) -> Members
     requires { first + count ≤ member_count members.now }
-    ensures { result.now ≡ take (count * member_words) (drop (first * member_words) members.now) }
+    ensures words { result.words.now ≡ take (count * member_words) (drop (first * member_words) members.now) }
+    ensures count { result.count ≡ count }
 {
     let start = (first as usize) * MEMBER_WORDS;
     let end = start + (count as usize) * MEMBER_WORDS;
-    &members[start..end]
+    Members {
+        words: &members[start..end],
+        count,
+    }
 }
 
 // The member rows of struct i, handed back as that part of the caller's table.
@@ -407,12 +568,13 @@ pub fn struct_members<'a>(types: &[u32], members: &'a [u32], i: u32) -> &'a [u32
         & (kind == STRUCT_KIND)
         & (last <= members.len() / MEMBER_WORDS)
     {
-        return member_part(members, first, count);
+        return member_part(members, first, count).words;
     }
     &members[..0]
 }
 
 // Number 1: whole records, not too many, and a row for each type.
+// Kept: three lengths that the call has as they are, and no tables.
 pub fn tables_fit(types: usize, members: usize, rows: usize) -> bool
     ensures { result ≡ tables_fit types members rows }
 {

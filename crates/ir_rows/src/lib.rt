@@ -1,7 +1,7 @@
 // The lent result rows: fourteen words a type.
 #![tactic(auto)]
 
-ghost use Rattle.std.specs.Prelude.{◌≡◌, ◌+◌, ◌*◌, ◌≤◌, ◌<◌, length};
+ghost use Rattle.std.specs.Prelude.{◌≡◌, ◌+◌, ◌*◌, ◌≤◌, ◌<◌, length, take};
 ghost use Rattle.ir_rows.specs.Rows.{row_word, layout_row, cleared};
 ghost use Rattle.ir_rows.specs.Serving.{with_row};
 
@@ -39,7 +39,39 @@ pub fn own_word(rows: &[u32], k: u32, j: usize) -> u32
     rows[(k as usize) * ROW_WORDS + j]
 }
 
+/// The rows of the types before type i.
+#[derive(Clone, Copy)]
+pub struct Earlier<'a> {
+    pub rows: &'a [u32],
+    pub i: u32,
+    pub ghost laid: { length rows.now ≡ i * 14 },
+}
+
+impl<'a> Earlier<'a> {
+    /// The first i of the rows.
+    pub fn of(rows: &'a [u32], i: u32) -> Earlier<'a>
+        requires { i * 14 ≤ length rows.now }
+        ensures rows { result.rows.now ≡ take (i * 14) rows.now }
+        ensures i { result.i ≡ i }
+    {
+        Earlier {
+            rows: &rows[..(i as usize) * ROW_WORDS],
+            i,
+        }
+    }
+
+    /// Word j of the row of type k, which is one of them.
+    pub fn word(self, k: u32, j: usize) -> u32
+        requires of_these { k < self.i }
+        requires in_row { j < 14 }
+        ensures { result ≡ row_word self.entry.rows.now k j }
+    {
+        own_word(self.rows, k, j)
+    }
+}
+
 // Zeroes the first n words.
+// Kept: n says how many of the words, which a row for each type takes; the rest stay as they were lent.
 pub fn clear(rows: &mut [u32], n: usize)
     requires { n ≤ length rows.old }
     ensures { rows.new ≡ cleared rows.old n }
@@ -48,12 +80,15 @@ pub fn clear(rows: &mut [u32], n: usize)
 }
 
 // Writes the words of one row from `at` on.
+// Kept: a loop, since `copy_from_slice` of a part of the row's length doesn't see that it is fourteen, and judging lost half of its speed by it.
 pub fn put_row(rows: &mut [u32], at: usize, row: &[u32])
     requires row_len { length row.now ≡ 14 }
     requires at_in_bounds { at + 14 ≤ length rows.old }
     ensures { rows.new ≡ with_row rows.old at row.now }
 {
-    rows[at..at + ROW_WORDS].copy_from_slice(row);
+    for j in 0..ROW_WORDS {
+        rows[at + j] = row[j];
+    }
 }
 
 // Writes the row of a type that has a layout and no judgement yet.

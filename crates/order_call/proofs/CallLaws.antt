@@ -26,7 +26,7 @@ use Rattle.valid_arena.proofs.ArenaLaws.{arena_alignment_power}
 use Rattle.valid_type_info.specs.TypeInfo.{rows_in}
 use Rattle.valid_type_info.specs.declared.Row.{Row}
 use Rattle.place_lookup.proofs.LookupLaws.{answer_accepted}
-use Rattle.std.specs.Prelude.{Option, Some, None}
+use Rattle.std.specs.Prelude.{Option, Some}
 use Rattle.order_numbers.specs.Order.{member_at}
 use Rattle.order_placement.specs.Placement.{offset_of, span_of}
 use Rattle.order_placement.proofs.PlacementLaws.{offset-within}

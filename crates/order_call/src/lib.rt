@@ -11,9 +11,12 @@ ghost use Rattle.order_call.specs.Answer.{order_answer_of};
 ghost use Rattle.order_call.specs.Call.{room, with_order, chosen, ordered};
 
 use ir_records::{Fault, Refusal};
+use order_numbers::Order;
+use order_placement::Given;
+use order_types::GivenTypes;
 use valid_type_info::UniformRule;
 
-/// The struct's type number, its span and the order, whose places order_numbers::member_at tells.
+/// The struct's type number, its span and the order, whose places order_numbers::Order tells.
 #[derive(Clone, Copy, Debug, PartialEq, Eq)]
 pub struct OrderedStruct {
     pub ty: u32,
@@ -42,6 +45,7 @@ fn has_room(types: usize, members: usize, rows: usize, n: u32, m: u32, k: usize)
 }
 
 // The struct of the order that was found, with its own span.
+// Kept: n says how many records are in use; the table is longer, since a record is written behind them.
 fn with_order(
     types: &mut [u32],
     n: u32,
@@ -51,21 +55,20 @@ fn with_order(
     rule: UniformRule,
     rows: &mut [u32],
     wanted: &[u32],
-    order: u32,
+    order: Order,
     span: u32,
 ) -> Result<OrderedStruct, Refusal>
-    requires wanted_len_bound { length wanted.now ≤ 7 }
-    requires n_in_bounds { n * 6 + 6 ≤ length types.old }
-    requires wanted_bound { m + length wanted.now ≤ 4096 }
-    requires wanted_in_bounds { (m + length wanted.now) * 4 ≤ length members.old }
-    requires by_index { (j : ℕ) → j < length wanted.now → offset_of rows.old wanted.now (member_at (length wanted.now) order) j ≤ most }
-    requires span_value { span ≡ span_of rows.old wanted.now (length wanted.now) (member_at (length wanted.now) order) }
-    ensures value { order_answer_of result ≡ (with_order rule capabilities types.old n members.old m rows.old wanted.now (Some order)).answer }
-    ensures types_after { types.new ≡ (with_order rule capabilities types.old n members.old m rows.old wanted.now (Some order)).types }
-    ensures members_after { members.new ≡ (with_order rule capabilities types.old n members.old m rows.old wanted.now (Some order)).members }
-    ensures rows_after { rows.new ≡ (with_order rule capabilities types.old n members.old m rows.old wanted.now (Some order)).rows }
+    requires order_value { order.n ≡ length wanted.now }
+    requires type_in_bounds { n * 6 + 6 ≤ length types.old }
+    requires rows_bound { m + order.n ≤ 4096 }
+    requires rows_in_bounds { (m + order.n) * 4 ≤ length members.old }
+    requires by_index { (j : ℕ) → j < order.n → offset_of rows.old wanted.now (member_at order.n order.number) j ≤ most }
+    requires span_value { span ≡ span_of rows.old wanted.now order.n (member_at order.n order.number) }
+    ensures value { order_answer_of result ≡ (with_order rule capabilities types.old n members.old m rows.old wanted.now (Some order.number)).answer }
+    ensures types_after { types.new ≡ (with_order rule capabilities types.old n members.old m rows.old wanted.now (Some order.number)).types }
+    ensures members_after { members.new ≡ (with_order rule capabilities types.old n members.old m rows.old wanted.now (Some order.number)).members }
+    ensures rows_after { rows.new ≡ (with_order rule capabilities types.old n members.old m rows.old wanted.now (Some order.number)).rows }
 {
-    let k = wanted.len() as u32;
     order_check::tried(
         types,
         n,
@@ -75,14 +78,18 @@ fn with_order(
         rule,
         rows,
         wanted,
-        k,
         order,
         span,
     )?;
-    Ok(OrderedStruct { ty: n, span, order })
+    Ok(OrderedStruct {
+        ty: n,
+        span,
+        order: order.number,
+    })
 }
 
 // Over an accepted arena and its rows: 16, then 6, 17 and 20, then 35, then the struct.
+// Kept: n says how many records are in use; the table is longer, since a record is written behind them.
 fn choose(
     types: &mut [u32],
     n: u32,
@@ -95,7 +102,7 @@ fn choose(
     span: u32,
 ) -> Result<OrderedStruct, Refusal>
     requires wanted_len_bound { length wanted.now ≤ 7 }
-    requires n_in_bounds { n * 6 + 6 ≤ length types.old }
+    requires type_in_bounds { n * 6 + 6 ≤ length types.old }
     requires wanted_bound { m + length wanted.now ≤ 4096 }
     requires wanted_in_bounds { (m + length wanted.now) * 4 ≤ length members.old }
     requires by_index { (t : ℕ) → t < n → 1 ≤ row_word rows.old t 1 }
@@ -107,14 +114,22 @@ fn choose(
     if wanted.len() == 0 {
         return Err(Refusal::of(Fault::EmptyStruct));
     }
-    if let Err(fault) = order_types::check(types, rows, n, wanted) {
+    let given = GivenTypes {
+        types,
+        rows,
+        n,
+        wanted,
+    };
+    if let Err(fault) = given.check() {
         return Err(Refusal::of(fault));
     }
     let k = wanted.len() as u32;
-    let last = order_types::last_of(types, rows, n, wanted);
-    match order_search::first_order(rows, wanted, k, last, span) {
-        Some(order) => {
-            let own = order_placement::span_of(rows, wanted, k, order) as u32;
+    let last = given.last_of();
+    let given = Given { rows, wanted };
+    match order_search::first_order(given, k, last, span) {
+        Some(number) => {
+            let order = Order { number, n: k };
+            let own = given.span_of(order) as u32;
             with_order(
                 types,
                 n,
@@ -133,6 +148,7 @@ fn choose(
 }
 
 /// The call: room, the arena check of the records in use, then the order. Nothing is asked of the caller.
+// Kept: tables with their counts, as in `order_check::tried`.
 pub fn order(
     types: &mut [u32],
     n: u32,

@@ -10,28 +10,7 @@ use lib.Dec.{T, eqb, leb, eqb→eq}
 use borrow.Author.Tests.{leb-true}
 use lib.ListN.{get_or}
 use Rattle.proc_alignment.proofs.Finite.{all, holds}
-use Rattle.order_numbers.specs.Order.{Before, member_at, powers}
-
--- ---- the table of powers
-powers_agree : T (all (λ k. eqb (get_or powers k 0) (7 ^ k)) 8)
-powers_agree = tt
-
-pub power_is : (k : ℕ) → k ≤ 7 → get_or powers k 0 ≡ 7 ^ k
-power_is k h = eqb→eq (get_or powers k 0) (7 ^ k) (holds (λ k. eqb (get_or powers k 0) (7 ^ k)) 8 powers_agree k (omega arith))
-
-powers_bounded : T (all (λ k. leb 1 (get_or powers k 0) && leb (get_or powers k 0) 823543) 8)
-powers_bounded = tt
-
-pub power_bounds : (k : ℕ) → k ≤ 7 → (1 ≤ get_or powers k 0) × (get_or powers k 0 ≤ 823543)
-power_bounds k h =
-    let p = get_or powers k 0 in
-    let r = split (leb 1 p) (leb p 823543) (holds (λ k. leb 1 (get_or powers k 0) && leb (get_or powers k 0) 823543) 8 powers_bounded k (omega arith)) in
-    (leb-true 1 p r.0, leb-true p 823543 r.1)
-  where
-    split : (a b : Bool) → T (a && b) → (a ≡ true) × (b ≡ true)
-    split true true t = (refl, refl)
-    split true false t = absurd t
-    split false b t = absurd t
+use Rattle.order_numbers.specs.Order.{Before, member_at}
 
 -- ---- digits: the last, and those before it
 digit_last : (n a : ℕ) → member_at (suc n) a n ≡ a % 7

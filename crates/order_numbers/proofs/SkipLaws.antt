@@ -21,9 +21,6 @@ module _ (a p : ℕ) (positive : 0 < p) where
   pub above_more : a < (a / p + 1) * p
   above_more = rw above (lt-div-mul-add positive)
 
-  pub above_within : (a / p + 1) * p ≤ a + p
-  above_within = rw above (omega (arith, div-mul-le_self a p))
-
 -- a bad place by the members up to it
 bad_shared : (n j : ℕ) (a b : ℕ → ℕ) → ((h : ℕ) → h ≤ j → a h ≡ b h) → bad_place n a j ≡ true → bad_place n b j ≡ true
 bad_shared n j a b same e = go (bad_place n b j) refl

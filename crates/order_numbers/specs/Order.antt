@@ -34,10 +34,6 @@ AtOrBefore n a b = Same n a b ⊎ Before n a b
 unfoldable pub member_at : (n order j : ℕ) → ℕ
 member_at n order j = order / 7 ^ (n - 1 - j) % 7
 
--- the powers of 7, as the code has them
-abbrev pub powers : List ℕ
-powers = 1 ∷ 7 ∷ 49 ∷ 343 ∷ 2401 ∷ 16807 ∷ 117649 ∷ 823543 ∷ []
-
 -- ---- the tests
 -- places h and j hold the same member
 abbrev pub alike : (member : ℕ → ℕ) (j h : ℕ) → Bool

@@ -18,74 +18,80 @@ pub fn power(k: u32) -> u32
     POWERS[k as usize]
 }
 
-// The member at place j of an order of n.
-pub fn member_at(order: u32, n: u32, j: u32) -> u32
-    requires j_lt_n { j < n }
-    requires n_bound { n ≤ 7 }
-    ensures { result ≡ member_at n order j }
-{
-    let step = power(n - 1 - j);
-    order / step % 7
+/// A number read as an order of n members.
+#[derive(Clone, Copy, Debug, PartialEq, Eq)]
+pub struct Order {
+    pub number: u32,
+    pub n: u32,
+    pub ghost few: { n ≤ 7 },
 }
 
-// Place j holds no member, or one that stands at an earlier place too.
-fn bad_place(order: u32, n: u32, j: u32) -> bool
-    requires j_lt_n { j < n }
-    requires n_bound { n ≤ 7 }
-    ensures { result ≡ bad_place n (member_at n order) j }
-{
-    let m = member_at(order, n, j);
-    for h in 0..j {
-        let earlier = member_at(order, n, h);
-        if earlier == m {
-            return true;
+// Kept: three methods ask that the order has place j; a struct for a place would be made at each call, and only carry this one test.
+impl Order {
+    /// The member at place j.
+    #[tactic(auto, unfolding(crate::specs::Order::member_at))]
+    pub fn member_at(self, j: u32) -> u32
+        requires { j < self.n }
+        ensures { result ≡ member_at self.n self.number j }
+    {
+        let step = power(self.n - 1 - j);
+        self.number / step % 7
+    }
+
+    // Place j holds no member, or one that stands at an earlier place too.
+    fn bad_place(self, j: u32) -> bool
+        requires { j < self.n }
+        ensures { result ≡ bad_place self.n (member_at self.n self.number) j }
+    {
+        let m = self.member_at(j);
+        for h in 0..j {
+            let earlier = self.member_at(h);
+            if earlier == m {
+                return true;
+            }
+        }
+        self.n <= m
+    }
+
+    // The first such place; none in an order.
+    fn first_bad(self) -> Option<u32>
+        ensures { result ≡ first_from (bad_place self.n (member_at self.n self.number)) self.n 0 }
+    {
+        for j in 0..self.n {
+            if self.bad_place(j) {
+                return Some(j);
+            }
+        }
+        None
+    }
+
+    /// A runtime array, member `last`, stays last; n for none.
+    pub fn stays_last(self, last: u32) -> bool
+        requires { 1 ≤ self.n }
+        ensures { result ≡ stays_last self.n last (member_at self.n self.number) }
+    {
+        let at_end = self.member_at(self.n - 1);
+        (self.n <= last) | (at_end == last)
+    }
+
+    /// The next number to try from this one on: itself where it is an order, else the least that holds other members up to its first bad place.
+    pub fn next_try(self) -> u32
+        requires { self.number < 823543 }
+        ensures { (result ≡ next_try self.n self.number (first_from (bad_place self.n (member_at self.n self.number)) self.n 0)) × (result ≤ self.number + 823543) }
+    {
+        match self.first_bad() {
+            Some(j) => self.after_place(j),
+            None => self.number,
         }
     }
-    n <= m
-}
 
-// The first such place; none in an order.
-fn first_bad(order: u32, n: u32) -> Option<u32>
-    requires { n ≤ 7 }
-    ensures { result ≡ first_from (bad_place n (member_at n order)) n 0 }
-{
-    for j in 0..n {
-        if bad_place(order, n, j) {
-            return Some(j);
-        }
+    fn after_place(self, j: u32) -> u32
+        requires j_lt_n { j < self.n }
+        requires number_bound { self.number < 823543 }
+        ensures { (result ≡ after_place self.n self.number j) × (result ≤ self.number + 823543) }
+    {
+        let step = power(self.n - 1 - j);
+        let above = self.number / step + 1;
+        above * step
     }
-    None
-}
-
-// A runtime array, member `last`, stays last; n for none.
-pub fn stays_last(order: u32, n: u32, last: u32) -> bool
-    requires le_n { 1 ≤ n }
-    requires n_bound { n ≤ 7 }
-    ensures { result ≡ stays_last n last (member_at n order) }
-{
-    let at_end = member_at(order, n, n - 1);
-    (n <= last) | (at_end == last)
-}
-
-// The next number to try from one on: itself where it is an order, else the least that holds other members up to its first bad place.
-pub fn next_try(order: u32, n: u32) -> u32
-    requires n_bound { n ≤ 7 }
-    requires order_bound { order < 823543 }
-    ensures { (result ≡ next_try n order (first_from (bad_place n (member_at n order)) n 0)) × (result ≤ order + 823543) }
-{
-    match first_bad(order, n) {
-        Some(j) => after_place(order, n, j),
-        None => order,
-    }
-}
-
-fn after_place(order: u32, n: u32, j: u32) -> u32
-    requires j_lt_n { j < n }
-    requires n_bound { n ≤ 7 }
-    requires order_bound { order < 823543 }
-    ensures { (result ≡ after_place n order j) × (result ≤ order + 823543) }
-{
-    let step = power(n - 1 - j);
-    let above = order / step + 1;
-    above * step
 }

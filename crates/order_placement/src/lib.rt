@@ -1,75 +1,81 @@
 // The WGSL placement of members in an order, by the layout's sizes and alignments. Sums are wider than 32 bits, so that none wraps.
 #![tactic(auto)]
 
-ghost use Rattle.std.specs.Prelude.{◌≡◌, ◌≤◌, ◌<◌};
+ghost use Rattle.std.specs.Prelude.{◌≡◌, ◌≤◌, ◌<◌, get_or};
+ghost use Rattle.ir_rows.specs.Rows.{row_word};
 ghost use Rattle.order_numbers.specs.Order.{member_at};
-ghost use Rattle.order_placement.specs.Placement.{size_of, align_of, end_after, offset_of, align_of_struct, span_of};
+ghost use Rattle.order_placement.specs.Placement.{end_after, offset_of, align_of_struct, span_of};
 
-// Size and alignment of the given type m.
-fn size_of(rows: &[u32], wanted: &[u32], m: u32) -> u32
-    ensures { result ≡ size_of rows.now wanted.now m }
-{
-    ir_rows::row_word(
-        rows,
-        ir_records::word_at(wanted, m as usize),
-        ir_rows::SIZE as u32,
-    )
+use order_numbers::Order;
+
+const SIZE: u32 = ir_rows::SIZE as u32;
+
+const ALIGNMENT: u32 = ir_rows::ALIGNMENT as u32;
+
+/// The types given for an order, beside the rows of the arena check.
+#[derive(Clone, Copy)]
+pub struct Given<'a> {
+    pub rows: &'a [u32],
+    pub wanted: &'a [u32],
 }
 
-fn align_of(rows: &[u32], wanted: &[u32], m: u32) -> u32
-    ensures { result ≡ align_of rows.now wanted.now m }
-{
-    ir_rows::row_word(
-        rows,
-        ir_records::word_at(wanted, m as usize),
-        ir_rows::ALIGNMENT as u32,
-    )
-}
-
-// Where the members of the first places end, of an order of n.
-fn end_after(rows: &[u32], wanted: &[u32], n: u32, order: u32, count: u32) -> u64
-    requires n_bound { n ≤ 7 }
-    requires count_le_n { count ≤ n }
-    ensures { (result ≡ end_after rows.now wanted.now (member_at n order) count) × (result ≤ 60129542144) }
-{
-    let mut end: u64 = 0;
-    for j in 0..count {
-        let m = order_numbers::member_at(order, n, j);
-        let offset = wgsl_placement::round_up(align_of(rows, wanted, m), end);
-        let size = size_of(rows, wanted, m) as u64;
-        end = offset + size;
+impl<'a> Given<'a> {
+    // A word of the row of the given type m.
+    fn word_of(self, m: u32, word: u32) -> u32
+        ensures { result ≡ row_word self.entry.rows.now (get_or self.entry.wanted.now m 0) word }
+    {
+        ir_rows::row_word(
+            self.rows,
+            ir_records::word_at(self.wanted, m as usize),
+            word,
+        )
     }
-    end
-}
 
-// The offset of the member at place j.
-pub fn offset_of(rows: &[u32], wanted: &[u32], n: u32, order: u32, j: u32) -> u64
-    requires n_bound { n ≤ 7 }
-    requires j_lt_n { j < n }
-    ensures { result ≡ offset_of rows.now wanted.now (member_at n order) j }
-{
-    let m = order_numbers::member_at(order, n, j);
-    let end = end_after(rows, wanted, n, order, j);
-    wgsl_placement::round_up(align_of(rows, wanted, m), end)
-}
-
-// The struct's alignment.
-fn align_of_struct(rows: &[u32], wanted: &[u32], n: u32) -> u32
-    ensures { result ≡ align_of_struct rows.now wanted.now n }
-{
-    let mut most: u32 = 1;
-    for m in 0..n {
-        most = proc_alignment::larger(most, align_of(rows, wanted, m));
+    // Where the members of the first places end.
+    #[tactic(auto, unfolding(crate::specs::Placement::end_after))]
+    fn end_after(self, order: Order, count: u32) -> u64
+        requires { count ≤ order.n }
+        ensures { (result ≡ end_after self.entry.rows.now self.entry.wanted.now (member_at order.n order.number) count) × (result ≤ 60129542144) }
+    {
+        let mut end: u64 = 0;
+        for j in 0..count {
+            let m = order.member_at(j);
+            let offset = wgsl_placement::round_up(self.word_of(m, ALIGNMENT), end);
+            let size = self.word_of(m, SIZE) as u64;
+            end = offset + size;
+        }
+        end
     }
-    most
-}
 
-// The struct's span.
-pub fn span_of(rows: &[u32], wanted: &[u32], n: u32, order: u32) -> u64
-    requires { n ≤ 7 }
-    ensures { result ≡ span_of rows.now wanted.now n (member_at n order) }
-{
-    let most = align_of_struct(rows, wanted, n);
-    let end = end_after(rows, wanted, n, order, n);
-    wgsl_placement::round_up(most, end)
+    /// The offset of the member at place j.
+    pub fn offset_of(self, order: Order, j: u32) -> u64
+        requires { j < order.n }
+        ensures { result ≡ offset_of self.entry.rows.now self.entry.wanted.now (member_at order.n order.number) j }
+    {
+        let m = order.member_at(j);
+        let end = self.end_after(order, j);
+        wgsl_placement::round_up(self.word_of(m, ALIGNMENT), end)
+    }
+
+    // The alignment of a struct of the first n.
+    #[tactic(auto, unfolding(crate::specs::Placement::align_of_struct))]
+    fn align_of_struct(self, n: u32) -> u32
+        ensures { result ≡ align_of_struct self.entry.rows.now self.entry.wanted.now n }
+    {
+        let mut most: u32 = 1;
+        for m in 0..n {
+            most = most.max(self.word_of(m, ALIGNMENT));
+        }
+        most
+    }
+
+    /// The struct's span.
+    #[tactic(auto, unfolding(crate::specs::Placement::span_of))]
+    pub fn span_of(self, order: Order) -> u64
+        ensures { result ≡ span_of self.entry.rows.now self.entry.wanted.now order.n (member_at order.n order.number) }
+    {
+        let most = self.align_of_struct(order.n);
+        let end = self.end_after(order, order.n);
+        wgsl_placement::round_up(most, end)
+    }
 }

@@ -6,45 +6,39 @@ ghost use Rattle.order_numbers.specs.Order.{member_at, stays_last};
 ghost use Rattle.order_placement.specs.Placement.{span_of};
 ghost use Rattle.order_search.specs.Fitting.{first_order};
 
+use order_numbers::Order;
+use order_placement::Given;
+
 // Whether a number is an order that is allowed and has at most the span; `next` is the number itself where it is an order.
-fn order_fits(
-    rows: &[u32],
-    wanted: &[u32],
-    n: u32,
-    last: u32,
-    span: u32,
-    order: u32,
-    next: u32,
-) -> bool
-    requires le_n { 1 ≤ n }
-    requires n_bound { n ≤ 7 }
-    ensures { result ≡ (eqb next order && stays_last n last (member_at n order) && leb (span_of rows.now wanted.now n (member_at n order)) span) }
+fn order_fits(given: Given, order: Order, last: u32, span: u32, next: u32) -> bool
+    requires { 1 ≤ order.n }
+    ensures { result ≡ (eqb next order.number && stays_last order.n last (member_at order.n order.number) && leb (span_of given.entry.rows.now given.entry.wanted.now order.n (member_at order.n order.number)) span) }
 {
-    if next != order {
+    if next != order.number {
         return false;
     }
-    if !order_numbers::stays_last(order, n, last) {
+    if !order.stays_last(last) {
         return false;
     }
-    let own = order_placement::span_of(rows, wanted, n, order);
-    own <= (span as u64)
+    given.span_of(order) <= (span as u64)
 }
 
-// The first such number.
-pub fn first_order(rows: &[u32], wanted: &[u32], n: u32, last: u32, span: u32) -> Option<u32>
+/// The first such number of n members.
+pub fn first_order(given: Given, n: u32, last: u32, span: u32) -> Option<u32>
     requires le_n { 1 ≤ n }
     requires n_bound { n ≤ 7 }
-    ensures { result ≡ first_order rows.now wanted.now n last span }
+    ensures { result ≡ first_order given.entry.rows.now given.entry.wanted.now n last span }
 {
     let all = order_numbers::power(n);
-    let mut order: u32 = 0;
-    while order < all {
-        let next = order_numbers::next_try(order, n);
-        if order_fits(rows, wanted, n, last, span, order, next) {
-            return Some(order);
+    let mut number: u32 = 0;
+    // Kept: `number` goes on past all that share a bad place, which no range does.
+    while number < all {
+        let order = Order { number, n };
+        let next = order.next_try();
+        if order_fits(given, order, last, span, next) {
+            return Some(number);
         }
-        let after = order + 1;
-        order = proc_alignment::larger(next, after);
+        number = next.max(number + 1);
     }
     None
 }

@@ -10,6 +10,18 @@ ghost use Rattle.order_placement.specs.Placement.{offset_of};
 ghost use Rattle.order_struct.specs.Struct.{struct_record, member_row, member_rows};
 
 use ir_records::Words;
+use order_numbers::Order;
+use order_placement::Given;
+
+/// An order of given types that is to stand behind m member rows: its offsets are numbers of 32 bits, and the table may have so many rows.
+#[derive(Clone, Copy)]
+pub struct Placed<'a> {
+    pub given: Given<'a>,
+    pub order: Order,
+    pub m: u32,
+    pub ghost small: { (j : ℕ) → j < order.n → offset_of given.rows.now given.wanted.now (member_at order.n order.number) j ≤ most },
+    pub ghost few: { m + order.n ≤ 4096 },
+}
 
 // Copies the first words to a table, from `at` on.
 pub fn put(table: &mut [u32], at: usize, words: &[u32], count: usize)
@@ -20,62 +32,44 @@ pub fn put(table: &mut [u32], at: usize, words: &[u32], count: usize)
     table[at..at + count].copy_from_slice(&words[..count]);
 }
 
-// The member record of place j of an order of k, behind m rows.
-fn put_row(members: &mut [u32], m: u32, rows: &[u32], wanted: &[u32], k: u32, order: u32, j: u32)
-    requires k_bound { k ≤ 7 }
-    requires j_lt_k { j < k }
-    requires k_bound_2 { m + k ≤ 4096 }
-    requires k_in_bounds { (m + k) * 4 ≤ length members.old }
-    requires j_bound { offset_of rows.now wanted.now (member_at k order) j ≤ most }
-    ensures { members.new ≡ with_part 4 members.old ((m + j) * 4) (member_row rows.now wanted.now (member_at k order) j) }
+// The member record of place j.
+fn put_row(members: &mut [u32], placed: Placed, j: u32)
+    requires j_in_order { j < placed.order.n }
+    requires rows_in_bounds { (placed.m + placed.order.n) * 4 ≤ length members.old }
+    ensures { members.new ≡ with_part 4 members.old ((placed.entry.m + j) * 4) (member_row placed.entry.given.rows.now placed.entry.given.wanted.now (member_at placed.entry.order.n placed.entry.order.number) j) }
 {
-    let member = order_numbers::member_at(order, k, j);
-    let ty = ir_records::word_at(wanted, member as usize);
-    let offset = order_placement::offset_of(rows, wanted, k, order, j);
-    wgsl_tables::put_member(members, m + j, ty, offset as u32);
+    let member = placed.order.member_at(j);
+    let ty = ir_records::word_at(placed.given.wanted, member as usize);
+    let offset = placed.given.offset_of(placed.order, j);
+    wgsl_tables::put_member(members, placed.m + j, ty, offset as u32);
 }
 
 // Those of all places.
-fn put_rows(members: &mut [u32], m: u32, rows: &[u32], wanted: &[u32], k: u32, order: u32)
-    requires k_bound { k ≤ 7 }
-    requires k_bound_2 { m + k ≤ 4096 }
-    requires k_in_bounds { (m + k) * 4 ≤ length members.old }
-    requires by_index { (j : ℕ) → j < k → offset_of rows.now wanted.now (member_at k order) j ≤ most }
-    ensures { members.new ≡ with_part (k * 4) members.old (m * 4) (member_rows rows.now wanted.now k (member_at k order)) }
+fn put_rows(members: &mut [u32], placed: Placed)
+    requires { (placed.m + placed.order.n) * 4 ≤ length members.old }
+    ensures { members.new ≡ with_part (placed.entry.order.n * 4) members.old (placed.entry.m * 4) (member_rows placed.entry.given.rows.now placed.entry.given.wanted.now placed.entry.order.n (member_at placed.entry.order.n placed.entry.order.number)) }
 {
-    for j in 0..k {
-        put_row(members, m, rows, wanted, k, order, j);
+    for j in 0..placed.order.n {
+        put_row(members, placed, j);
     }
 }
 
-// The type record behind n types, and the member records behind m rows.
-pub fn put_struct(
-    types: &mut [u32],
-    n: u32,
-    members: &mut [u32],
-    m: u32,
-    rows: &[u32],
-    wanted: &[u32],
-    k: u32,
-    order: u32,
-    span: u32,
-)
-    requires k_bound { k ≤ 7 }
-    requires n_in_bounds { n * 6 + 6 ≤ length types.old }
-    requires k_bound_2 { m + k ≤ 4096 }
-    requires k_in_bounds { (m + k) * 4 ≤ length members.old }
-    requires by_index { (j : ℕ) → j < k → offset_of rows.now wanted.now (member_at k order) j ≤ most }
-    ensures types_after { types.new ≡ with_part 6 types.old (n * 6) (struct_record m k span) }
-    ensures members_after { members.new ≡ with_part (k * 4) members.old (m * 4) (member_rows rows.now wanted.now k (member_at k order)) }
+/// The type record behind n types, and the member records behind those in use.
+// Kept: n says how many records are in use; the table is longer, since a record is written behind them.
+pub fn put_struct(types: &mut [u32], n: u32, members: &mut [u32], placed: Placed, span: u32)
+    requires type_in_bounds { n * 6 + 6 ≤ length types.old }
+    requires rows_in_bounds { (placed.m + placed.order.n) * 4 ≤ length members.old }
+    ensures types_after { types.new ≡ with_part 6 types.old (n * 6) (struct_record placed.entry.m placed.entry.order.n span) }
+    ensures members_after { members.new ≡ with_part (placed.entry.order.n * 4) members.old (placed.entry.m * 4) (member_rows placed.entry.given.rows.now placed.entry.given.wanted.now placed.entry.order.n (member_at placed.entry.order.n placed.entry.order.number)) }
 {
     let words = Words {
         kind: ir_records::STRUCT_KIND,
-        a: m,
-        b: k,
+        a: placed.m,
+        b: placed.order.n,
         c: span,
         d: 0,
         e: 0,
     };
     wgsl_tables::put_type(types, n, words);
-    put_rows(members, m, rows, wanted, k, order);
+    put_rows(members, placed);
 }

@@ -17,84 +17,89 @@ enum Sort {
     Outside,
 }
 
-// The sort of a type beside an arena of n types and its rows.
-fn sort_of(types: &[u32], rows: &[u32], n: u32, ty: u32) -> Sort
-    ensures { sort_number result ≡ sort_of types.now rows.now n ty }
-{
-    if n <= ty {
-        return Sort::Outside;
-    }
-    let flags = ir_rows::row_word(rows, ty, 2);
-    if !valid_flags::is_data(flags) {
-        return Sort::NoData;
-    }
-    if valid_flags::is_sized(flags) {
-        return Sort::Sized;
-    }
-    let kind = ir_records::type_word(types, ty, 0);
-    if kind == ir_records::STRUCT_KIND {
-        return Sort::UnsizedStruct;
-    }
-    Sort::RuntimeArray
+/// The types given for an order, up to seven, beside an arena of n types and its rows.
+#[derive(Clone, Copy)]
+pub struct GivenTypes<'a> {
+    pub types: &'a [u32],
+    pub rows: &'a [u32],
+    pub n: u32,
+    pub wanted: &'a [u32],
+    pub ghost few: { length wanted.now ≤ 7 },
 }
 
-// The first of the given types that is of a sort, from one of them on.
-fn first_of(
-    types: &[u32],
-    rows: &[u32],
-    n: u32,
-    wanted: &[u32],
-    sort: Sort,
-    from: u32,
-) -> Option<u32>
-    requires wanted_len_bound { length wanted.now ≤ 7 }
-    requires from_in_bounds { from ≤ length wanted.now }
-    ensures { result ≡ first_of types.now rows.now n wanted.now (sort_number sort) from }
-{
-    let count = wanted.len() as u32;
-    for j in from..count {
-        let own = sort_of(types, rows, n, ir_records::word_at(wanted, j as usize));
-        if own == sort {
-            return Some(j);
+impl<'a> GivenTypes<'a> {
+    // The sort of a type.
+    #[tactic(auto, unfolding(crate::specs::Given::sort_of))]
+    fn sort_of(self, ty: u32) -> Sort
+        ensures { sort_number result ≡ sort_of self.entry.types.now self.entry.rows.now self.entry.n ty }
+    {
+        if self.n <= ty {
+            return Sort::Outside;
+        }
+        let flags = ir_rows::row_word(self.rows, ty, ir_rows::FLAGS as u32);
+        if !valid_flags::is_data(flags) {
+            return Sort::NoData;
+        }
+        if valid_flags::is_sized(flags) {
+            return Sort::Sized;
+        }
+        let kind = ir_records::type_word(self.types, ty, 0);
+        if kind == ir_records::STRUCT_KIND {
+            return Sort::UnsizedStruct;
+        }
+        Sort::RuntimeArray
+    }
+
+    // The first of the given types that is of a sort, from one of them on.
+    fn first_of(self, sort: Sort, from: u32) -> Option<u32>
+        requires { from ≤ length self.wanted.now }
+        ensures { result ≡ first_of self.entry.types.now self.entry.rows.now self.entry.n self.entry.wanted.now (sort_number sort) from }
+    {
+        let count = self.wanted.len() as u32;
+        for j in from..count {
+            let own = self.sort_of(ir_records::word_at(self.wanted, j as usize));
+            if own == sort {
+                return Some(j);
+            }
+        }
+        None
+    }
+
+    // Another runtime array after the first.
+    fn is_second(self) -> bool
+        ensures { result ≡ is_second self.entry.types.now self.entry.rows.now self.entry.n self.entry.wanted.now (first_of self.entry.types.now self.entry.rows.now self.entry.n self.entry.wanted.now 1 0) }
+    {
+        match self.first_of(Sort::RuntimeArray, 0) {
+            Some(j) => self.first_of(Sort::RuntimeArray, j + 1).is_some(),
+            None => false,
         }
     }
-    None
-}
 
-// Another runtime array after the first.
-fn is_second(types: &[u32], rows: &[u32], n: u32, wanted: &[u32]) -> bool
-    requires { length wanted.now ≤ 7 }
-    ensures { result ≡ is_second types.now rows.now n wanted.now (first_of types.now rows.now n wanted.now 1 0) }
-{
-    match first_of(types, rows, n, wanted, Sort::RuntimeArray, 0) {
-        Some(j) => first_of(types, rows, n, wanted, Sort::RuntimeArray, j + 1).is_some(),
-        None => false,
+    /// What is refused of the given types, if anything is.
+    #[tactic(auto, unfolding(crate::specs::Given::number_of))]
+    pub fn check(self) -> Result<(), Fault>
+        ensures { refusal_number result ≡ number_of self.entry.types.now self.entry.rows.now self.entry.n self.entry.wanted.now }
+    {
+        if self.first_of(Sort::Outside, 0).is_some() {
+            return Err(Fault::InvalidStructMemberType);
+        }
+        if self.first_of(Sort::NoData, 0).is_some() {
+            return Err(Fault::InvalidData);
+        }
+        let unsized_struct = self.first_of(Sort::UnsizedStruct, 0).is_some();
+        let second = self.is_second();
+        if unsized_struct | second {
+            return Err(Fault::InvalidDynamicArray);
+        }
+        Ok(())
     }
-}
 
-/// What is refused of the given types, if anything is.
-pub fn check(types: &[u32], rows: &[u32], n: u32, wanted: &[u32]) -> Result<(), Fault>
-    requires { length wanted.now ≤ 7 }
-    ensures { refusal_number result ≡ number_of types.now rows.now n wanted.now }
-{
-    if first_of(types, rows, n, wanted, Sort::Outside, 0).is_some() {
-        return Err(Fault::InvalidStructMemberType);
+    /// The runtime array; as many as are given for none.
+    #[tactic(auto, unfolding(crate::specs::Given::last_of))]
+    pub fn last_of(self) -> u32
+        ensures { result ≡ last_of self.entry.types.now self.entry.rows.now self.entry.n self.entry.wanted.now }
+    {
+        self.first_of(Sort::RuntimeArray, 0)
+            .unwrap_or(self.wanted.len() as u32)
     }
-    if first_of(types, rows, n, wanted, Sort::NoData, 0).is_some() {
-        return Err(Fault::InvalidData);
-    }
-    let unsized_struct = first_of(types, rows, n, wanted, Sort::UnsizedStruct, 0).is_some();
-    let second = is_second(types, rows, n, wanted);
-    if unsized_struct | second {
-        return Err(Fault::InvalidDynamicArray);
-    }
-    Ok(())
-}
-
-/// The runtime array; as many as are given for none.
-pub fn last_of(types: &[u32], rows: &[u32], n: u32, wanted: &[u32]) -> u32
-    requires { length wanted.now ≤ 7 }
-    ensures { result ≡ last_of types.now rows.now n wanted.now }
-{
-    first_of(types, rows, n, wanted, Sort::RuntimeArray, 0).unwrap_or(wanted.len() as u32)
 }

@@ -8,9 +8,11 @@ ghost use Rattle.order_words.specs.Words.{order_outcome, place_word, found_words
 
 use ir_records::Refusal;
 use order_call::OrderedStruct;
+use order_numbers::Order;
 
 pub const FOUND_WORDS: usize = 9;
 
+// Kept: no conversion: the answer without what was found.
 pub fn order_outcome(found: Result<OrderedStruct, Refusal>) -> Result<(), Refusal>
     ensures { outcome_of result ≡ order_outcome (order_answer_of found) }
 {
@@ -29,7 +31,11 @@ fn place_word(k: usize, order: u32, j: u32) -> u32
     if count <= j {
         return 0;
     }
-    order_numbers::member_at(order, count, j)
+    let order = Order {
+        number: order,
+        n: count,
+    };
+    order.member_at(j)
 }
 
 // The struct's type number and its span, then a word for each of seven places; zeros for a refusal.

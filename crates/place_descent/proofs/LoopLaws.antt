@@ -37,14 +37,6 @@ module _ (ts ms : List ℕ) (start : ℕ) (steps : List ℕ) where
   looking_start d l = record { descends = d; started = l; within = omega arith; is_type = l; bound = omega (arith, d.fits start l); same = refl }
 
 module _ {ts ms : List ℕ} {start : ℕ} {steps : List ℕ} {i ty byte : ℕ} (l : Looking ts ms start steps i ty byte) where
-  -- the byte place fits 64 bits
-  pub looking_fits : byte < 2 ^ 64
-  looking_fits = omega (arith, l.bound)
-
-  -- the type's fields are within the bounds that number 2 leaves
-  pub looking_bounds : InnerBounds (type_inner ts ty)
-  looking_bounds = l.descends.bounds ty l.is_type
-
   -- at the byte place that the code holds
   pub looking_at : (held : ℕ) → byte ≡ held → Looking ts ms start steps i ty held
   looking_at held e = rw e at l
@@ -71,10 +63,6 @@ module _ {ts ms : List ℕ} {start : ℕ} {steps : List ℕ} {i ty byte : ℕ} (
         bound = omega (arith, l.bound, d.1);
         same = rw (← e) at (next h);
       }
-
-  -- a step to a column: its place fits 64 bits
-  pub column_fits : {bytes : ℕ} → Column bytes ≡ step_in (decoded ts ms) ty (get_or steps i 0) → byte + bytes < 2 ^ 64
-  column_fits {bytes = bytes} e = omega (arith, l.bound, l.descends.column ty (get_or steps i 0) bytes l.is_type (sym e))
 
   -- it is the place, where the steps end
   pub column_last : {bytes : ℕ} → i < length steps → length steps ≤ i + 1 → Column bytes ≡ step_in (decoded ts ms) ty (get_or steps i 0)

@@ -1,18 +1,15 @@
 -- Laws of the first pass: where it stands after i types.
 -- Assumes nothing.
 use mathlib.Core.Path.{◌≡◌, refl, sym, ◌∙◌}
-use mathlib.Core.Bool.{Bool, true, false, not, ◌&&◌}
+use mathlib.Core.Bool.{true, false, ◌&&◌}
 use mathlib.Core.List.{List}
 use Prim.Native.Nat.{ℕ, ◌+◌, ◌*◌, ◌^◌, ◌≤◌, ◌<◌}
-use native.Mathlib.Nat.{le_antisymm}
 use native.Mathlib.Numerals.{add-one}
 use native.Mathlib.Omega.{arith}
 use native.Mathlib.Decide.{ℕ_discrete}
-use lib.ListN.{length, take, drop, take-append-drop}
-use Rattle.ir_records.specs.Result.{ok, require}
+use lib.ListN.{length, take, drop}
 use Rattle.ir_records.specs.Record.{type_count, type_inner}
-use Rattle.ir_records.specs.Table.{first_refusal, flat, outcome_at}
-use Rattle.ir_records.specs.Outcome.{Outcome}
+use Rattle.ir_records.specs.Table.{first_refusal, flat}
 use Rattle.ir_records.specs.Outcome.{Accepted, Refused}
 use Rattle.ir_records.proofs.TableLaws.{one_more, stays}
 use Rattle.valid_type_flags.specs.TypeFlags.{is_struct}
@@ -33,23 +30,10 @@ pub record FirstPass (ts ms rows lent : List ℕ) (n : ℕ) (report : List ℕ) 
   pub long : length report ≡ length lent
   pub small : (k : ℕ) → k < i → SmallBytes (entry_for ts ms rows k)
 
--- number 27 of one type
-abbrev outcome27 : Bool → ℕ → Outcome
-outcome27 b i = outcome_at {A = Unit {0}} i (require (not b) 27 0 0 (ok tt))
-
 module _ (ts ms rows lent : List ℕ) (n : ℕ) where
-  pub first_pass_start : FirstPass ts ms rows lent n lent 0
-  first_pass_start = record { within = omega arith; none = refl; made = refl; rest = refl; long = refl; small = λ k h. absurd (omega arith) }
-
   module _ (report : List ℕ) (i : ℕ) (w : FirstPass ts ms rows lent n report i) where
     pub first_pass_small : Small (take (i * report_width) report)
     first_pass_small = all_small ts ms rows report i w.made w.small
-
-    -- the end
-    pub first_pass_done : n ≤ i → (Accepted ≡ first_refusal (narrow_struct ts ms rows) n) × (report ≡ first_pass_words Accepted ts ms rows n lent)
-    first_pass_done h =
-        let end : i ≡ n = le_antisymm w.within h in
-        (sym (rw end at w.none), sym (take-append-drop (n * report_width) report) ∙ rw (rw end at w.made, rw end at w.rest) refl)
 
     module _ (r : RowsOf ts ms rows) (all : n ≡ type_count ts) (room : n * report_width ≤ length lent) (l : i < n) (own : Option ℕ)
         (is : own ≡ leaf_bytes_at ts ms rows (take (i * report_width) report) i (row_word rows i 0)) where

@@ -3,10 +3,10 @@
 use mathlib.Core.Path.{◌≡◌, refl, sym, ap, ◌∙◌}
 use mathlib.Core.List.{List}
 use Prim.Native.Nat.{ℕ, ◌+◌, ◌*◌, ◌≤◌, ◌<◌}
-use native.Mathlib.Nat.{le_antisymm, add-zero}
+use native.Mathlib.Nat.{add-zero}
 use native.Mathlib.Numerals.{add-one}
 use native.Mathlib.Omega.{arith}
-use lib.ListN.{length, get_or, take, drop, take-append-drop}
+use lib.ListN.{length, get_or, take, drop}
 use lib.Seq.{get_or-drop}
 use Rattle.ir_records.specs.Table.{flat}
 use Rattle.ir_rows.specs.Rows.{with_part}
@@ -15,7 +15,7 @@ use Rattle.place_carried.specs.Count.{sum}
 use Rattle.place_report.specs.declared.Totals.{Totals}
 use Rattle.place_report.specs.Report.{report_width}
 use Rattle.place_report.specs.Serving.{pair_of}
-use Rattle.place_report.specs.Serving.{counts_of, counts_in, counts_pair, totals_in, second_pass_words}
+use Rattle.place_report.specs.Serving.{counts_of, counts_in, counts_pair}
 
 pub record SecondPass (ts rows lent : List ℕ) (n : ℕ) (report : List ℕ) (carried wasted i : ℕ) : Type 0 where
   pub within : i ≤ n
@@ -32,13 +32,6 @@ module _ (ts rows lent : List ℕ) (n : ℕ) where
   second_pass_start = record { within = omega arith; carries = refl; wastes = refl; few = omega arith; made = refl; rest = refl; long = refl }
 
   module _ (report : List ℕ) (carried wasted i : ℕ) (s : SecondPass ts rows lent n report carried wasted i) where
-    pub second_pass_done : n ≤ i → (◌≡◌ {A = Totals} (record { carried = carried; wasted = wasted }) (totals_in ts rows lent n)) × (report ≡ second_pass_words ts rows lent n)
-    second_pass_done h =
-        let end : i ≡ n = le_antisymm s.within h in (
-          λ x. record { carried = (rw end at s.carries) x; wasted = (rw end at s.wastes) x },
-          sym (take-append-drop (n * report_width) report) ∙ rw (rw end at s.made, rw end at s.rest) refl,
-        )
-
     -- the word of type i is as lent
     pub own_bytes : get_or report (i * report_width) 0 ≡ get_or lent (i * report_width) 0
     own_bytes =

@@ -2,7 +2,7 @@
 // bytes that leaves carry of every host-shareable type stand in the lent report, from the first type up, so that a shared struct is counted once.
 #![tactic(auto)]
 
-ghost use Rattle.std.specs.Prelude.{◌≡◌, ◌+◌, ◌*◌, ◌≤◌, length, get_or};
+ghost use Rattle.std.specs.Prelude.{◌≡◌, ℕ, ◌+◌, ◌*◌, ◌^◌, ◌≤◌, ◌<◌, length, Some};
 ghost use Rattle.ir_records.specs.Record.{type_count, type_inner};
 ghost use Rattle.ir_records.specs.Refusal.{outcome_of};
 ghost use Rattle.ir_records.specs.Table.{first_refusal};
@@ -10,8 +10,8 @@ ghost use Rattle.ir_records.specs.Serving.{LeafBounds, InnerBounds};
 ghost use Rattle.ir_rows.specs.Rows.{row_word, with_part, cleared};
 ghost use Rattle.place_carried.specs.Serving.{leaf_carried};
 ghost use Rattle.place_report.specs.Report.{report_width};
-ghost use Rattle.place_report.specs.Serving.{entry_in, entry_words, pair_of, array_bytes, members_bytes, leaf_bytes_of, leaf_bytes_at, SmallBytes, Small};
-ghost use Rattle.place_report.specs.Serving.{RowsOf, narrow_struct, first_pass_words, Carries, counts_of, AllCarry, totals_in, second_pass_words, fill_answer, fill_words};
+ghost use Rattle.place_report.specs.Serving.{entry_in, entry_words, array_bytes, members_bytes, leaf_bytes_of, leaf_bytes_at, SmallBytes};
+ghost use Rattle.place_report.specs.Serving.{RowsOf, narrow_struct, first_pass_words, Carries, counts_of, counts_pair, AllCarry, totals_in, second_pass_words, fill_answer, fill_words};
 ghost use Rattle.place_report.specs.Answer.{report_answer_of};
 ghost use Rattle.place_report.specs.Report.{lengths_fit, report_answer, report_rows, report_words};
 
@@ -28,33 +28,17 @@ pub struct Totals {
 // Words of the report a type.
 const REPORT_WIDTH: usize = 2;
 
-// A word of the report; 0 past it.
-fn word_at(words: &[u64], at: usize) -> u64
-    ensures { result ≡ get_or words.now at 0 }
-{
-    if at < words.len() { words[at] } else { 0 }
-}
-
 // What the first pass left in the report for type k.
 fn entry(report: &[u64], k: u32) -> Option<u64>
     ensures { result ≡ entry_in report.now k }
 {
     let at = (k as usize) * REPORT_WIDTH;
-    let mark = word_at(report, at + 1);
+    let mark = ir_records::item_or(report, at + 1, 0);
     if mark == 0 {
-        Some(word_at(report, at))
+        Some(ir_records::item_or(report, at, 0))
     } else {
         None
     }
-}
-
-// Writes the two words of a type from `at` on.
-fn put_pair(report: &mut [u64], at: usize, first: u64, second: u64)
-    requires { at + 2 ≤ length report.old }
-    ensures { report.new ≡ with_part report_width report.old at (pair_of first second) }
-{
-    report[at] = first;
-    report[at + 1] = second;
 }
 
 // Writes what is kept of a type from `at` on.
@@ -62,13 +46,23 @@ fn put_leaf_bytes(report: &mut [u64], at: usize, own: Option<u64>)
     requires { at + 2 ≤ length report.old }
     ensures { report.new ≡ with_part report_width report.old at (entry_words own) }
 {
-    match own {
-        Some(bytes) => put_pair(report, at, bytes, 0),
-        None => put_pair(report, at, 0, 1),
-    }
+    let pair = match own {
+        Some(bytes) => [bytes, 0],
+        None => [0, 1],
+    };
+    report[at..at + REPORT_WIDTH].copy_from_slice(&pair);
+}
+
+// Writes the counts of a type from `at` on.
+fn put_counts(report: &mut [u64], at: usize, counts: Totals)
+    requires { at + 2 ≤ length report.old }
+    ensures { report.new ≡ with_part report_width report.old at (counts_pair counts) }
+{
+    report[at..at + REPORT_WIDTH].copy_from_slice(&[counts.carried, counts.wasted]);
 }
 
 // Zeroes the first n words.
+// Kept: one line over the library's `fill`, as `ir_rows::clear` has it for words of 32 bits; a type parameter would be asked for its zero.
 fn clear(report: &mut [u64], n: usize)
     requires { n ≤ length report.old }
     ensures { report.new ≡ cleared report.old n }
@@ -103,95 +97,83 @@ fn array_bytes(count: u32, stride: u32, size: u32, base: Option<u64>) -> Option<
     if stride < size {
         return None;
     }
-    match base {
-        Some(bytes) => {
-            let all = (count as u64) * bytes;
-            Some(all)
-        }
-        None => None,
-    }
+    let bytes = base?;
+    Some((count as u64) * bytes)
 }
 
-// Those of a struct, from its members'.
-fn members_bytes(report: &[u64], part: &[u32], count: u32) -> Option<u64>
-    requires { Small report.now }
-    ensures { result ≡ members_bytes (entry_in report.now) part.now count }
-{
-    let mut total: u64 = 0;
-    for j in 0..count {
-        match entry(report, ir_records::member_type(part, j)) {
-            Some(bytes) => {
-                total += bytes;
+// The rows and the report of the types before one: sizes, and what the first pass left.
+#[derive(Clone, Copy)]
+struct Before<'a> {
+    rows: &'a [u32],
+    report: &'a [u64],
+    ghost small: { (k bytes : ℕ) → entry_in report.now k ≡ Some bytes → bytes < 2 ^ 32 },
+}
+
+impl<'a> Before<'a> {
+    // The bytes of a struct, from its members'.
+    // Kept: a count beside the rows, which nothing here says are so many: a row that they lack reads as zeros.
+    #[tactic(auto, unfolding(crate::specs::Serving::members_bytes))]
+    fn members_bytes(self, part: &[u32], count: u32) -> Option<u64>
+        ensures { result ≡ members_bytes (entry_in self.entry.report.now) part.now count }
+    {
+        let mut total: u64 = 0;
+        for j in 0..count {
+            let bytes = entry(self.report, ir_records::member_type(part, j))?;
+            total += bytes;
+        }
+        Some(total)
+    }
+
+    // Those of a type that measures `size`.
+    #[tactic(auto, unfolding(crate::specs::Serving::leaf_bytes_of))]
+    fn leaf_bytes_of(self, inner: TypeInner, part: &[u32], size: u32) -> Option<u64>
+        requires { InnerBounds inner }
+        ensures { result ≡ leaf_bytes_of (λ k. row_word self.entry.rows.now k 0) (entry_in self.entry.report.now) inner part.now size }
+    {
+        match inner {
+            TypeInner::Plain(leaf) => {
+                let bytes = leaf_carried(leaf, size) as u64;
+                Some(bytes)
             }
-            None => {
-                return None;
-            }
+            TypeInner::Array {
+                base,
+                count,
+                stride,
+            } => array_bytes(
+                count,
+                stride,
+                ir_rows::row_word(self.rows, base, 0),
+                entry(self.report, base),
+            ),
+            TypeInner::RuntimeArray { base, stride } => array_bytes(
+                1,
+                stride,
+                ir_rows::row_word(self.rows, base, 0),
+                entry(self.report, base),
+            ),
+            TypeInner::Struct { count, span: _ } => self.members_bytes(part, count),
+            TypeInner::Other(_) => Some(0),
         }
     }
-    Some(total)
-}
 
-// Those of a type that measures `size`, from the rows and the report of the types before it.
-fn leaf_bytes_of(
-    inner: TypeInner,
-    part: &[u32],
-    rows: &[u32],
-    report: &[u64],
-    size: u32,
-) -> Option<u64>
-    requires inner_bounds { InnerBounds inner }
-    requires small { Small report.now }
-    ensures { result ≡ leaf_bytes_of (λ k. row_word rows.now k 0) (entry_in report.now) inner part.now size }
-{
-    match inner {
-        TypeInner::Plain(leaf) => {
-            let bytes = leaf_carried(leaf, size) as u64;
-            Some(bytes)
+    // Those of type i, which measures `size`, where it is host-shareable; for another 0 is kept.
+    #[tactic(auto, unfolding(crate::specs::Serving::leaf_bytes_at))]
+    fn leaf_bytes_at(self, types: &[u32], members: &[u32], i: u32, size: u32) -> Option<u64>
+        requires { InnerBounds (type_inner types.now i) }
+        ensures { result ≡ leaf_bytes_at types.now members.now self.entry.rows.now self.entry.report.now i size }
+    {
+        let flags = ir_rows::row_word(self.rows, i, 2);
+        if valid_flags::is_host_shareable(flags) {
+            let inner = ir_records::type_inner(types, i);
+            let part = ir_records::struct_members(types, members, i);
+            return self.leaf_bytes_of(inner, part, size);
         }
-        TypeInner::Array {
-            base,
-            count,
-            stride,
-        } => array_bytes(
-            count,
-            stride,
-            ir_rows::row_word(rows, base, 0),
-            entry(report, base),
-        ),
-        TypeInner::RuntimeArray { base, stride } => array_bytes(
-            1,
-            stride,
-            ir_rows::row_word(rows, base, 0),
-            entry(report, base),
-        ),
-        TypeInner::Struct { count, span: _ } => members_bytes(report, part, count),
-        TypeInner::Other(_) => Some(0),
+        Some(0)
     }
-}
-
-// Those of type i, which measures `size`, where it is host-shareable; for another 0 is kept.
-fn leaf_bytes_at(
-    types: &[u32],
-    members: &[u32],
-    rows: &[u32],
-    report: &[u64],
-    i: u32,
-    size: u32,
-) -> Option<u64>
-    requires inner_bounds { InnerBounds (type_inner types.now i) }
-    requires small { Small report.now }
-    ensures { result ≡ leaf_bytes_at types.now members.now rows.now report.now i size }
-{
-    let flags = ir_rows::row_word(rows, i, 2);
-    if valid_flags::is_host_shareable(flags) {
-        let inner = ir_records::type_inner(types, i);
-        let part = ir_records::struct_members(types, members, i);
-        return leaf_bytes_of(inner, part, rows, report, size);
-    }
-    Some(0)
 }
 
 // The first pass: the bytes that leaves carry of each of the n types, in the report; or number 27, and zeros.
+// Kept: a count beside the report, here and below: the caller may lend more, and what stands behind the words of n types stays.
 fn leaf_bytes_all(
     types: &[u32],
     members: &[u32],
@@ -208,7 +190,11 @@ fn leaf_bytes_all(
     for i in 0..n {
         let at = (i as usize) * REPORT_WIDTH;
         let size = ir_rows::row_word(rows, i, 0);
-        let own = leaf_bytes_at(types, members, rows, &report[..at], i, size);
+        let before = Before {
+            rows,
+            report: &report[..at],
+        };
+        let own = before.leaf_bytes_at(types, members, i, size);
         let structured = valid_type_flags::is_struct(types, i);
         let narrow = own.is_none();
         if structured & narrow {
@@ -245,6 +231,7 @@ fn counts_at(types: &[u32], rows: &[u32], i: u32, bytes: u64) -> Totals
 }
 
 // The second pass: the counts of n types in place of what was kept, and their totals.
+// Kept: n is how many types there are, and the report may be longer.
 fn counts_all(types: &[u32], rows: &[u32], report: &mut [u64], n: u32) -> Totals
     requires n_in_bounds { n * 2 ≤ length report.old }
     requires all_carry { AllCarry types.now rows.now report.old n }
@@ -257,16 +244,15 @@ fn counts_all(types: &[u32], rows: &[u32], report: &mut [u64], n: u32) -> Totals
         let at = (i as usize) * REPORT_WIDTH;
         let bytes = report[at];
         let counts = counts_at(types, rows, i, bytes);
-        let more = counts.carried;
-        let rest = counts.wasted;
-        carried += more;
-        wasted += rest;
-        put_pair(report, at, more, rest);
+        carried += counts.carried;
+        wasted += counts.wasted;
+        put_counts(report, at, counts);
     }
     Totals { carried, wasted }
 }
 
 // The report of accepted types: number 27, or both counts of each and the totals.
+// Kept: n is how many types there are, and the report may be longer.
 fn fill(
     types: &[u32],
     members: &[u32],

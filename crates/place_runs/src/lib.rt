@@ -1,7 +1,7 @@
 // Many place lookups in one call, with one judging by three words for each type.
 #![tactic(auto)]
 
-ghost use Rattle.std.specs.Prelude.{◌≡◌, true, [], ◌∷◌, ◌++◌, ◌+◌, ◌*◌, ◌≤◌, length, drop};
+ghost use Rattle.std.specs.Prelude.{◌≡◌, true, ◌++◌, ◌+◌, ◌*◌, ◌≤◌, length, drop};
 ghost use Rattle.ir_records.specs.Record.{type_count, decoded};
 ghost use Rattle.ir_records.specs.Table.{flat};
 ghost use Rattle.ir_records.specs.Refusal.{outcome_of};
@@ -63,25 +63,20 @@ fn place_where(
     None
 }
 
-fn put_pair(answers: &mut [u64], at: usize, first: u64, second: u64)
-    requires { at + 2 ≤ length answers.old }
-    ensures { answers.new ≡ with_part pair_width answers.old at (first ∷ second ∷ []) }
-{
-    answers[at] = first;
-    answers[at + 1] = second;
-}
-
+// Writes the two words of a place from `at` on.
 fn put_place(answers: &mut [u64], at: usize, place: Option<Place>)
     requires { at + 2 ≤ length answers.old }
     ensures { answers.new ≡ with_part pair_width answers.old at (place_pair (found_place place)) }
 {
-    match place {
-        Some(p) => put_pair(answers, at, p.byte, p.leaf as u64),
-        None => put_pair(answers, at, NONE, NONE),
-    }
+    let pair = match place {
+        Some(p) => [p.byte, p.leaf as u64],
+        None => [NONE, NONE],
+    };
+    answers[at..at + PAIR_WORDS].copy_from_slice(&pair);
 }
 
 // The answers of n runs, which are all there are.
+// Kept: a count beside the answers, here and below: the caller may lend more, and those behind n pairs stay.
 fn fill(
     accepted: bool,
     types: &[u32],
@@ -109,6 +104,7 @@ fn fill(
 }
 
 // One judging and then the answers, once all lengths are in order.
+// Kept: n is how many queries there are, and the answers may be longer.
 fn places_in(
     types: &[u32],
     members: &[u32],

@@ -3,8 +3,10 @@
 use mathlib.Core.Path.{◌≡◌, ap, ◌∙◌}
 use mathlib.Core.Bool.{true}
 use mathlib.Core.List.{List}
-use Prim.Native.Nat.{ℕ, ◌*◌, ◌<◌}
-use lib.ListN.{length}
+use Prim.Native.Nat.{ℕ, ◌+◌, ◌*◌, ◌≤◌, ◌<◌}
+use native.Mathlib.Omega.{arith}
+use lib.ListN.{length, take, drop, length-drop}
+use lib.Seq.{length-take-le}
 use borrow.Author.Tests.{eqb-true}
 use Rattle.ir_records.specs.Result.{ok, require}
 use Rattle.ir_records.specs.Record.{type_count, type_word, member_words, member_count, struct_kind, type_inner, inner_of, struct_members}
@@ -15,7 +17,11 @@ use Rattle.ir_records.proofs.ResultLaws.{required, T_true}
 use Rattle.ir_records.proofs.RecordLaws.{members-part, record_fields}
 use Rattle.valid_type_flags.specs.TypeFlags.{is_struct}
 use Rattle.valid_type_flags.proofs.KindLaws.{struct_by_kind}
-use Rattle.proc_type_layout.proofs.TypeLayoutLaws.{members-within, part-length}
+use Rattle.proc_type_layout.proofs.TypeLayoutLaws.{members-within}
+
+-- so many rows have four words each
+part-length : (ms : List ℕ) (first count : ℕ) → first + count ≤ member_count ms → length (take (count * member_words) (drop (first * member_words) ms)) ≡ count * member_words
+part-length ms first count h = length-take-le (count * member_words) (drop (first * member_words) ms) (rw (length-drop (first * member_words) ms) (omega (arith, h)))
 
 count_in : TypeInner → ℕ
 count_in (Plain leaf) = 0

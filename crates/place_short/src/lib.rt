@@ -3,8 +3,7 @@
 
 ghost use Rattle.ir_records.specs.Refusal.{outcome_of};
 ghost use Rattle.place_lookup.specs.Answer.{place_answer_of};
-ghost use Rattle.std.specs.Prelude.{◌≡◌, true, ◌+◌, ◌*◌, ◌≤◌, length, take, drop};
-ghost use Rattle.ir_records.specs.Result.{ok};
+ghost use Rattle.std.specs.Prelude.{◌≡◌, true, ◌+◌, ◌*◌, ◌≤◌, ◌<◌, length, take, drop};
 ghost use Rattle.ir_records.specs.Record.{type_count, decoded};
 ghost use Rattle.ir_records.specs.Fields.{record_at};
 ghost use Rattle.ir_records.specs.Table.{also, first_refusal, outcome_at, flat};
@@ -17,125 +16,114 @@ ghost use Rattle.place_short.specs.Serving.{three_result, three_from, laid_from,
 
 use ir_records::{Fault, Refusal};
 use place_descent::Place;
-use place_short_layout::SHORT_WORDS;
+use place_short_layout::{Before, SHORT_WORDS};
+
+// n types of an arena whose records are in order.
+#[derive(Clone, Copy)]
+struct Recorded<'a> {
+    types: &'a [u32],
+    members: &'a [u32],
+    n: u32,
+    ghost whole: { n * 6 ≤ length types.now },
+    ghost in_order: { first_refusal (record_at types.now members.now) n ≡ Accepted },
+}
 
 // Numbers 4 to 7 of type i; its size, its alignment and no flags are written where there is no refusal.
-fn layout_at(types: &[u32], members: &[u32], words: &mut [u32], i: u32) -> Result<(), Refusal>
+fn layout_at(arena: Recorded, words: &mut [u32], i: u32) -> Result<(), Refusal>
+    requires of_these { i < arena.n }
     requires i_in_bounds { i * 3 + 3 ≤ length words.old }
-    requires i_value { record_at types.now members.now i ≡ ok tt }
-    ensures value { outcome_of result ≡ outcome_at i (laid_from types.now members.now (take (i * 3) words.old) i) }
-    ensures words_after { words.new ≡ written_after (laid_from types.now members.now (take (i * 3) words.old) i) (i * 3) words.old }
+    ensures value { outcome_of result ≡ outcome_at i (laid_from arena.entry.types.now arena.entry.members.now (take (i * 3) words.old) i) }
+    ensures words_after { words.new ≡ written_after (laid_from arena.entry.types.now arena.entry.members.now (take (i * 3) words.old) i) (i * 3) words.old }
 {
     let at = (i as usize) * SHORT_WORDS;
-    let inner = ir_records::type_inner(types, i);
-    let part = ir_records::struct_members(types, members, i);
-    let judged = place_short_layout::layout_of(&words[..at], i, inner, part);
+    let inner = ir_records::type_inner(arena.types, i);
+    let part = ir_records::struct_members(arena.types, arena.members, i);
+    let before = Before {
+        words: &words[..at],
+        i,
+    };
+    let judged = before.layout_of(inner, part);
     let layout = ir_records::at_type(judged, i)?;
     place_short_layout::put_three(words, i, layout.size, layout.alignment, 0);
     Ok(())
 }
 
 // Numbers 4 to 7 over n types.
-fn layout_all(types: &[u32], members: &[u32], words: &mut [u32], n: u32) -> Result<(), Refusal>
-    requires n_in_bounds { n * 3 ≤ length words.old }
-    requires n_value { first_refusal (record_at types.now members.now) n ≡ Accepted }
-    ensures value { outcome_of result ≡ first_refusal (layout_at (decoded types.now members.now)) n }
-    ensures words_unchanged { drop (n * 3) words.new ≡ drop (n * 3) words.old }
+fn layout_all(arena: Recorded, words: &mut [u32]) -> Result<(), Refusal>
+    requires { arena.n * 3 ≤ length words.old }
+    ensures value { outcome_of result ≡ first_refusal (layout_at (decoded arena.entry.types.now arena.entry.members.now)) arena.entry.n }
+    ensures words_unchanged { drop (arena.entry.n * 3) words.new ≡ drop (arena.entry.n * 3) words.old }
 {
-    for i in 0..n {
-        layout_at(types, members, words, i)?;
+    for i in 0..arena.n {
+        layout_at(arena, words, i)?;
     }
     Ok(())
 }
 
 // Numbers 4 to 7 of type i and then its flags; its three words are written where there is no refusal.
-fn judge_at(
-    capabilities: u32,
-    types: &[u32],
-    members: &[u32],
-    words: &mut [u32],
-    i: u32,
-) -> Result<(), Refusal>
+fn judge_at(capabilities: u32, arena: Recorded, words: &mut [u32], i: u32) -> Result<(), Refusal>
+    requires of_these { i < arena.n }
     requires i_in_bounds { i * 3 + 3 ≤ length words.old }
-    requires i_in_bounds_2 { i * 6 + 6 ≤ length types.now }
-    requires i_value { record_at types.now members.now i ≡ ok tt }
-    ensures value { outcome_of result ≡ outcome_at i (three_from capabilities types.now members.now (take (i * 3) words.old) i) }
-    ensures words_after { words.new ≡ written_after (three_from capabilities types.now members.now (take (i * 3) words.old) i) (i * 3) words.old }
+    ensures value { outcome_of result ≡ outcome_at i (three_from capabilities arena.entry.types.now arena.entry.members.now (take (i * 3) words.old) i) }
+    ensures words_after { words.new ≡ written_after (three_from capabilities arena.entry.types.now arena.entry.members.now (take (i * 3) words.old) i) (i * 3) words.old }
 {
     let at = (i as usize) * SHORT_WORDS;
-    let inner = ir_records::type_inner(types, i);
-    let part = ir_records::struct_members(types, members, i);
-    let judged = place_short_layout::layout_of(&words[..at], i, inner, part);
+    let inner = ir_records::type_inner(arena.types, i);
+    let part = ir_records::struct_members(arena.types, arena.members, i);
+    let before = Before {
+        words: &words[..at],
+        i,
+    };
+    let judged = before.layout_of(inner, part);
     let layout = ir_records::at_type(judged, i)?;
-    let flagged = place_short_flags::flags_of(capabilities, types, &words[..at], inner, part);
+    let flagged = place_short_flags::flags_of(capabilities, arena.types, &words[..at], inner, part);
     let flags = ir_records::at_type(flagged, i)?;
     place_short_layout::put_three(words, i, layout.size, layout.alignment, flags);
     Ok(())
 }
 
 // The same over n types, up to the first refusal. The words of each type are made from those that this loop has written.
-fn judge_all(
-    capabilities: u32,
-    types: &[u32],
-    members: &[u32],
-    words: &mut [u32],
-    n: u32,
-) -> Result<(), Refusal>
-    requires n_in_bounds { n * 3 ≤ length words.old }
-    requires n_in_bounds_2 { n * 6 ≤ length types.now }
-    requires n_value { first_refusal (record_at types.now members.now) n ≡ Accepted }
-    ensures value { outcome_of result ≡ first_refusal (three_result capabilities types.now members.now) n }
-    ensures words_after { outcome_of result ≡ Accepted → take (n * 3) words.new ≡ flat (three_at capabilities types.now members.now) n }
-    ensures words_unchanged { drop (n * 3) words.new ≡ drop (n * 3) words.old }
+fn judge_all(capabilities: u32, arena: Recorded, words: &mut [u32]) -> Result<(), Refusal>
+    requires { arena.n * 3 ≤ length words.old }
+    ensures value { outcome_of result ≡ first_refusal (three_result capabilities arena.entry.types.now arena.entry.members.now) arena.entry.n }
+    ensures words_after { outcome_of result ≡ Accepted → take (arena.entry.n * 3) words.new ≡ flat (three_at capabilities arena.entry.types.now arena.entry.members.now) arena.entry.n }
+    ensures words_unchanged { drop (arena.entry.n * 3) words.new ≡ drop (arena.entry.n * 3) words.old }
 {
-    for i in 0..n {
-        judge_at(capabilities, types, members, words, i)?;
+    for i in 0..arena.n {
+        judge_at(capabilities, arena, words, i)?;
     }
     Ok(())
 }
 
 // Where type by type a refusal was found: 4 to 7 of any type come before it. The words are zeroed.
-fn refused(
-    types: &[u32],
-    members: &[u32],
-    words: &mut [u32],
-    n: u32,
-    found: Result<(), Refusal>,
-) -> Result<(), Refusal>
-    requires n_in_bounds { n * 3 ≤ length words.old }
-    requires n_value { first_refusal (record_at types.now members.now) n ≡ Accepted }
-    ensures value { outcome_of result ≡ also (first_refusal (layout_at (decoded types.now members.now)) n) (outcome_of found) }
-    ensures words_after { words.new ≡ cleared words.old (n * 3) }
+fn refused(arena: Recorded, words: &mut [u32], found: Result<(), Refusal>) -> Result<(), Refusal>
+    requires { arena.n * 3 ≤ length words.old }
+    ensures value { outcome_of result ≡ also (first_refusal (layout_at (decoded arena.entry.types.now arena.entry.members.now)) arena.entry.n) (outcome_of found) }
+    ensures words_after { words.new ≡ cleared words.old (arena.entry.n * 3) }
 {
-    let before = layout_all(types, members, words, n);
-    let three = (n as usize) * SHORT_WORDS;
+    let before = layout_all(arena, words);
+    let three = (arena.n as usize) * SHORT_WORDS;
     ir_rows::clear(words, three);
     before?;
     found
 }
 
 // Judging, once the records are in order.
-fn judge_records(
-    capabilities: u32,
-    types: &[u32],
-    members: &[u32],
-    words: &mut [u32],
-    n: u32,
-) -> Result<(), Refusal>
-    requires n_value { n ≡ type_count types.now }
-    requires n_in_bounds { n * 3 ≤ length words.old }
-    requires n_value_2 { first_refusal (record_at types.now members.now) n ≡ Accepted }
-    ensures value { outcome_of result ≡ arena_outcome capabilities types.now members.now }
-    ensures words_after { words.new ≡ scratch_after (outcome_of result) capabilities types.now members.now n words.old }
+fn judge_records(capabilities: u32, arena: Recorded, words: &mut [u32]) -> Result<(), Refusal>
+    requires n_value { arena.n ≡ type_count arena.types.now }
+    requires n_in_bounds { arena.n * 3 ≤ length words.old }
+    ensures value { outcome_of result ≡ arena_outcome capabilities arena.entry.types.now arena.entry.members.now }
+    ensures words_after { words.new ≡ scratch_after (outcome_of result) capabilities arena.entry.types.now arena.entry.members.now arena.entry.n words.old }
 {
-    let found = judge_all(capabilities, types, members, words, n);
+    let found = judge_all(capabilities, arena, words);
     if found.is_err() {
-        return refused(types, members, words, n, found);
+        return refused(arena, words, found);
     }
     found
 }
 
 // Judging, once tables and capabilities are in order: 2 and 3 of all records come first.
+// Kept: a count beside the words, here and above: the caller may lend more, and those behind the words of n types stay.
 fn judge_tables(
     capabilities: u32,
     types: &[u32],
@@ -154,7 +142,8 @@ fn judge_tables(
         ir_rows::clear(words, three);
         return found;
     }
-    judge_records(capabilities, types, members, words, n)
+    let arena = Recorded { types, members, n };
+    judge_records(capabilities, arena, words)
 }
 
 // Number 1: the lengths and the capability word. The tables are held to the lengths of the other calls, which lend a row for each type.

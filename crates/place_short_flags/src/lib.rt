@@ -15,9 +15,9 @@ ghost use Rattle.valid_types.specs.ValidateType.{non_data_flags, flags_of};
 ghost use Rattle.place_short_flags.specs.ShortFlags.{short_sizes, short_flags};
 ghost use Rattle.place_short_flags.specs.Serving.{taken_result, SourcesKnown, array_by};
 
-use ir_records::{Fault, Leaf, NonData, TypeInner, TypeRefusal};
+use ir_records::{Fault, Leaf, Members, NonData, TypeInner, TypeRefusal};
 use valid_member_bounds::Bounds;
-use valid_type_info::Previous;
+use valid_type_info::PreviousStruct;
 
 // After all members of a struct; whether one of them may have a blend source.
 #[derive(Clone, Copy, Debug, PartialEq, Eq)]
@@ -26,6 +26,7 @@ pub struct Taken {
     pub sourced: bool,
 }
 
+#[tactic(auto, unfolding(valid_type_flags::specs::TypeFlags::leaf_flags))]
 fn leaf_flags(capabilities: u32, leaf: Leaf) -> Result<u32, TypeRefusal>
     ensures { judged result ≡ leaf_flags capabilities leaf }
 {
@@ -53,6 +54,7 @@ fn leaf_flags(capabilities: u32, leaf: Leaf) -> Result<u32, TypeRefusal>
 }
 
 // A pointer or binding array that names itself or a later type reads empty flags: the words are those of the types before it.
+#[tactic(auto, unfolding(valid_types::specs::ValidateType::non_data_flags))]
 fn non_data_flags(
     capabilities: u32,
     types: &[u32],
@@ -98,52 +100,45 @@ fn array_flags(runtime: bool, base: u32) -> Result<u32, TypeRefusal>
 }
 
 // Member j, after those before it.
+#[tactic(auto, unfolding(valid_member_bounds::specs::MemberBounds::member_bounds))]
 fn member_step(
     types: &[u32],
     words: &[u32],
-    part: &[u32],
-    count: u32,
+    part: Members,
     span: u32,
     j: u32,
-    previous: Previous,
+    previous: Option<PreviousStruct>,
     so_far: Bounds,
 ) -> Result<Bounds, TypeRefusal>
-    requires { j * member_words + member_words ≤ length part.now }
-    ensures { judged result ≡ member_bounds count span previous (type_inner types.now (member_type part.now j)) (member_offset part.now j) j (short_sizes words.now (member_type part.now j)) (short_flags words.now (member_type part.now j)) so_far }
+    requires { j < part.count }
+    ensures { judged result ≡ member_bounds part.entry.count span previous (type_inner types.now (member_type part.entry.words.now j)) (member_offset part.entry.words.now j) j (short_sizes words.now (member_type part.entry.words.now j)) (short_flags words.now (member_type part.entry.words.now j)) so_far }
 {
-    let t = ir_records::own_type(part, j as usize);
-    let offset = ir_records::own_offset(part, j as usize);
+    let t = part.type_of(j);
+    let offset = part.offset_of(j);
     let within = valid_member_bounds::is_within(valid_type_info::distance_to(previous, offset));
     let array = valid_member_bounds::is_array(types, t);
     let size = place_short_layout::short_word(words, t, 0);
     let flags = place_short_layout::short_word(words, t, 2);
-    valid_member_bounds::member_bounds(count, span, within, array, offset, j, size, flags, so_far)
+    valid_member_bounds::member_bounds(
+        part.count, span, within, array, offset, j, size, flags, so_far,
+    )
 }
 
 // The members of a struct, one after the other, by the rules that do not read blend sources.
-fn members_of(
-    types: &[u32],
-    words: &[u32],
-    part: &[u32],
-    count: u32,
-    span: u32,
-) -> Result<Taken, TypeRefusal>
-    requires { length part.now ≡ count * member_words }
-    ensures result_value { taken_result result ≡ bounds_after (type_inner types.now) (short_sizes words.now) (short_flags words.now) count span part.now count }
-    ensures sources_known { SourcesKnown part.now result }
+fn members_of(types: &[u32], words: &[u32], part: Members, span: u32) -> Result<Taken, TypeRefusal>
+    ensures result_value { taken_result result ≡ bounds_after (type_inner types.now) (short_sizes words.now) (short_flags words.now) part.entry.count span part.entry.words.now part.entry.count }
+    ensures sources_known { SourcesKnown part.entry.words.now result }
 {
     let mut bounds = Bounds {
         end: 0,
         flags: valid_flags::starting_flags(valid_flags::STRUCT_KIND),
     };
-    let mut previous = Previous::NoStruct;
+    let mut previous = None;
     let mut sources: u32 = 0;
-    for j in 0..count {
-        bounds = member_step(types, words, part, count, span, j, previous, bounds)?;
-        let t = ir_records::own_type(part, j as usize);
-        let offset = ir_records::own_offset(part, j as usize);
-        previous = valid_member_rules::struct_at(types, t, offset);
-        sources |= ir_records::own_source(part, j as usize);
+    for j in 0..part.count {
+        bounds = member_step(types, words, part, span, j, previous, bounds)?;
+        previous = valid_member_rules::struct_at(types, part.type_of(j), part.offset_of(j));
+        sources |= part.source_of(j);
     }
     Ok(Taken {
         bounds,
@@ -152,23 +147,21 @@ fn members_of(
 }
 
 // After the last member: number 34 with detail 3 to 6, or the flags.
-fn struct_blend(
-    types: &[u32],
-    words: &[u32],
-    part: &[u32],
-    count: u32,
-    flags: u32,
-) -> Result<u32, TypeRefusal>
-    requires { count * member_words ≤ length part.now }
-    ensures { judged result ≡ struct_blend (type_inner types.now) (short_flags words.now) part.now count flags }
+// Kept: as `valid_blend::struct_blend`, which reads a member's flags in a row of an earlier type; here they stand in three words, or in none.
+fn struct_blend(types: &[u32], words: &[u32], part: Members, flags: u32) -> Result<u32, TypeRefusal>
+    ensures { judged result ≡ struct_blend (type_inner types.now) (short_flags words.now) part.entry.words.now part.entry.count flags }
 {
-    let first = valid_blend::source_at(part, 1, count);
-    let second = valid_blend::source_at(part, 2, count);
+    let first = valid_blend::source_at(part.words, 1, part.count);
+    let second = valid_blend::source_at(part.words, 2, part.count);
     match (first, second) {
         (None, None) => Ok(flags),
         (Some(a), Some(b)) => {
-            let own = place_short_layout::short_word(words, ir_records::member_type(part, a), 2);
-            valid_blend::pair_of(types, own, part, count, flags, a, b)
+            let own = place_short_layout::short_word(
+                words,
+                ir_records::member_type(part.words, a),
+                2,
+            );
+            valid_blend::pair_of(types, own, part.words, part.count, flags, a, b)
         }
         (None, Some(_)) => Err(valid_blend::invalid(6)),
         (Some(_), None) => Err(valid_blend::invalid(6)),
@@ -181,20 +174,18 @@ fn blended_flags(
     capabilities: u32,
     types: &[u32],
     words: &[u32],
-    part: &[u32],
-    count: u32,
+    part: Members,
     flags: u32,
 ) -> Result<u32, TypeRefusal>
-    requires part_len { length part.now ≡ count * member_words }
-    requires sourceless { sourced ≡ false → Sourceless part.now (member_count part.now) }
-    ensures { judged result ≡ blended_flags (bit capabilities dual_source_blending) (type_inner types.now) (short_flags words.now) part.now count flags }
+    requires { sourced ≡ false → Sourceless part.words.now (member_count part.words.now) }
+    ensures { judged result ≡ blended_flags (bit capabilities dual_source_blending) (type_inner types.now) (short_flags words.now) part.entry.words.now part.entry.count flags }
 {
     if !sourced {
         return Ok(flags);
     }
     let dual = valid_flags::capable(capabilities, valid_width::DUAL_SOURCE_BLENDING);
-    valid_blend::sources_of(dual, part, count)?;
-    struct_blend(types, words, part, count, flags)
+    valid_blend::sources_of(dual, part.words, part.count)?;
+    struct_blend(types, words, part, flags)
 }
 
 // The flags of a struct: number 16, then its members, then its blend sources; those of members before a refused one come first.
@@ -202,34 +193,32 @@ fn struct_flags(
     capabilities: u32,
     types: &[u32],
     words: &[u32],
-    part: &[u32],
-    count: u32,
+    part: Members,
     span: u32,
 ) -> Result<u32, TypeRefusal>
-    requires { length part.now ≡ count * member_words }
-    ensures { judged result ≡ flags_of capabilities (type_inner types.now) (short_sizes words.now) (short_flags words.now) (Struct count span) part.now }
+    ensures { judged result ≡ flags_of capabilities (type_inner types.now) (short_sizes words.now) (short_flags words.now) (Struct part.entry.count span) part.entry.words.now }
 {
-    if count == 0 {
+    if part.count == 0 {
         return Err(TypeRefusal::of(Fault::EmptyStruct));
     }
-    match members_of(types, words, part, count, span) {
+    match members_of(types, words, part, span) {
         Ok(taken) => blended_flags(
             taken.sourced,
             capabilities,
             types,
             words,
             part,
-            count,
             taken.bounds.flags,
         ),
         Err(refusal) => {
-            valid_blend::source_before(true, capabilities, part, refusal)?;
+            valid_blend::source_before(true, capabilities, part.words, refusal)?;
             Err(refusal)
         }
     }
 }
 
 // The flags of a type that says `inner`, or its refusal, from the words of the types before it.
+#[tactic(auto, unfolding(valid_types::specs::ValidateType::flags_of))]
 pub fn flags_of(
     capabilities: u32,
     types: &[u32],
@@ -251,7 +240,13 @@ pub fn flags_of(
             array_flags(true, place_short_layout::short_word(words, base, 2))
         }
         TypeInner::Struct { count, span } => {
-            struct_flags(capabilities, types, words, part, count, span)
+            struct_flags(
+                capabilities,
+                types,
+                words,
+                Members { words: part, count },
+                span,
+            )
         }
         TypeInner::Other(o) => non_data_flags(capabilities, types, words, o),
     }

@@ -7,7 +7,7 @@ ghost use Rattle.ir_records.specs.Serving.{LeafBounds, InnerBounds};
 ghost use Rattle.ir_rows.specs.Rows.{with_part};
 ghost use Rattle.proc_type_alignment.specs.TypeAlignment.{leaf_alignment, base_alignment, members_alignment, alignment_of};
 ghost use Rattle.ir_records.specs.Refusal.{judged};
-ghost use Rattle.proc_type_layout.specs.TypeLayout.{sized_layout, layout_of};
+ghost use Rattle.proc_type_layout.specs.TypeLayout.{layout_of};
 ghost use Rattle.place_short_layout.specs.ShortRows.{short_width, short_word, three_words, short_layouts};
 
 use ir_records::{Fault, Leaf, TypeInner, TypeRefusal};
@@ -15,7 +15,9 @@ use proc_type_alignment::TypeLayout;
 
 pub const SHORT_WORDS: usize = 3;
 
-// Word j of the three of type k; 0 past the words.
+/// Word j of the three of type k; 0 past the words.
+// Kept: one line as `ir_rows::row_word` has it for fourteen words. With the width as a const parameter both would ask for a bound of it, so that
+// no product wraps, and the definitions of both rows for one more number.
 pub fn short_word(words: &[u32], k: u32, j: u32) -> u32
     ensures { result ≡ short_word words.now k j }
 {
@@ -54,67 +56,73 @@ fn leaf_alignment(leaf: Leaf) -> Result<u32, TypeRefusal>
     }
 }
 
-// Number 5 for an element that is no earlier type.
-fn base_alignment(words: &[u32], i: u32, base: u32) -> Result<u32, TypeRefusal>
-    ensures { judged result ≡ base_alignment (short_layouts words.now) i base }
-{
-    if base < i {
-        return Ok(short_word(words, base, 1));
-    }
-    Err(TypeRefusal::of(Fault::InvalidArrayElementType))
+/// The three words of each type before type i.
+#[derive(Clone, Copy)]
+pub struct Before<'a> {
+    pub words: &'a [u32],
+    pub i: u32,
 }
 
-// The largest alignment of a struct's members; number 6 for a member that is no earlier type.
-fn members_alignment(words: &[u32], i: u32, part: &[u32], count: u32) -> Result<u32, TypeRefusal>
-    ensures { judged result ≡ members_alignment (short_layouts words.now) i part.now count }
-{
-    let mut a: u32 = 1;
-    for j in 0..count {
-        let ty = ir_records::member_type(part, j);
-        if i <= ty {
-            return Err(TypeRefusal::of_member(Fault::InvalidStructMemberType, j));
+impl<'a> Before<'a> {
+    // Number 5 for an element that is no earlier type.
+    // Kept: as `proc_type_alignment::base_alignment` has it for fourteen words a type; what differs is the width of a row, as at `short_word`.
+    fn base_alignment(self, base: u32) -> Result<u32, TypeRefusal>
+        ensures { judged result ≡ base_alignment (short_layouts self.entry.words.now) self.entry.i base }
+    {
+        if base < self.i {
+            return Ok(short_word(self.words, base, 1));
         }
-        a = a.max(short_word(words, ty, 1));
+        Err(TypeRefusal::of(Fault::InvalidArrayElementType))
     }
-    Ok(a)
-}
 
-fn alignment_of(words: &[u32], i: u32, inner: TypeInner, part: &[u32]) -> Result<u32, TypeRefusal>
-    requires { InnerBounds inner }
-    ensures { judged result ≡ alignment_of (short_layouts words.now) i inner part.now }
-{
-    match inner {
-        TypeInner::Plain(leaf) => leaf_alignment(leaf),
-        TypeInner::Array {
-            base,
-            count: _,
-            stride: _,
-        } => base_alignment(words, i, base),
-        TypeInner::RuntimeArray { base, stride: _ } => base_alignment(words, i, base),
-        TypeInner::Struct { count, span: _ } => members_alignment(words, i, part, count),
-        TypeInner::Other(_) => Ok(1),
+    // The largest alignment of a struct's members; number 6 for a member that is no earlier type.
+    // Kept: beside `proc_type_alignment::members_alignment`, which finds blend sources in the same pass, and number 2; here records are judged before.
+    // And a count beside the rows, which nothing says are so many: a row that they lack reads as zeros.
+    #[tactic(auto, unfolding(proc_type_alignment::specs::TypeAlignment::members_alignment))]
+    fn members_alignment(self, part: &[u32], count: u32) -> Result<u32, TypeRefusal>
+        ensures { judged result ≡ members_alignment (short_layouts self.entry.words.now) self.entry.i part.now count }
+    {
+        let mut a: u32 = 1;
+        for j in 0..count {
+            let ty = ir_records::member_type(part, j);
+            if self.i <= ty {
+                return Err(TypeRefusal::of_member(Fault::InvalidStructMemberType, j));
+            }
+            a = a.max(short_word(self.words, ty, 1));
+        }
+        Ok(a)
     }
-}
 
-fn with_alignment(size: u32, aligned: Result<u32, TypeRefusal>) -> Result<TypeLayout, TypeRefusal>
-    ensures { judged result ≡ sized_layout (judged aligned) size }
-{
-    let alignment = aligned?;
-    Ok(TypeLayout { size, alignment })
-}
+    #[tactic(auto, unfolding(proc_type_alignment::specs::TypeAlignment::alignment_of))]
+    fn alignment_of(self, inner: TypeInner, part: &[u32]) -> Result<u32, TypeRefusal>
+        requires { InnerBounds inner }
+        ensures { judged result ≡ alignment_of (short_layouts self.entry.words.now) self.entry.i inner part.now }
+    {
+        match inner {
+            TypeInner::Plain(leaf) => leaf_alignment(leaf),
+            TypeInner::Array {
+                base,
+                count: _,
+                stride: _,
+            } => self.base_alignment(base),
+            TypeInner::RuntimeArray { base, stride: _ } => self.base_alignment(base),
+            TypeInner::Struct { count, span: _ } => self.members_alignment(part, count),
+            TypeInner::Other(_) => Ok(1),
+        }
+    }
 
-// Numbers 4 to 7 of type i, or its layout, from the words of the types before it. The size is tried before references and widths.
-pub fn layout_of(
-    words: &[u32],
-    i: u32,
-    inner: TypeInner,
-    part: &[u32],
-) -> Result<TypeLayout, TypeRefusal>
-    requires { InnerBounds inner }
-    ensures { judged result ≡ layout_of (short_layouts words.now) i inner part.now }
-{
-    match proc_type_methods::try_size(inner) {
-        Some(size) => with_alignment(size, alignment_of(words, i, inner, part)),
-        None => Err(TypeRefusal::of(Fault::TooLarge)),
+    /// Numbers 4 to 7 of type i, or its layout. The size is tried before references and widths.
+    #[tactic(auto, unfolding(proc_type_layout::specs::TypeLayout::layout_of))]
+    pub fn layout_of(self, inner: TypeInner, part: &[u32]) -> Result<TypeLayout, TypeRefusal>
+        requires { InnerBounds inner }
+        ensures { judged result ≡ layout_of (short_layouts self.entry.words.now) self.entry.i inner part.now }
+    {
+        match proc_type_methods::try_size(inner) {
+            Some(size) => {
+                let alignment = self.alignment_of(inner, part)?;
+                Ok(TypeLayout { size, alignment })
+            }
+            None => Err(TypeRefusal::of(Fault::TooLarge)),
+        }
     }
 }

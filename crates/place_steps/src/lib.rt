@@ -45,6 +45,7 @@ fn column_count(leaf: Leaf) -> u32
 }
 
 // From a column of a matrix to the next.
+// Kept: the bounds of a leaf are asked here and of two more; a struct around the enum that carries them would be taken apart at each match.
 fn column_step(leaf: Leaf) -> u32
     requires { LeafBounds leaf }
     ensures { result ≡ leaf_column_step leaf }
@@ -100,6 +101,7 @@ fn column(leaf: Leaf, step: u32) -> Option<Step>
 }
 
 // One step from a type whose member rows are in part. It asks for the bounds that number 2 leaves, so that a column step fits 32 bits.
+#[tactic(auto, unfolding(crate::specs::Steps::step_of))]
 pub fn step_of(inner: TypeInner, part: &[u32], step: u32) -> Option<Step>
     requires { InnerBounds inner }
     ensures { step_found result ≡ step_of inner part.now step }

@@ -1,7 +1,7 @@
 // Alignment of naga's proc/layouter.rs, carried as its number.
 #![tactic(auto)]
 
-ghost use Rattle.std.specs.Prelude.{◌≡◌, ◌*◌, max, ◌&&◌};
+ghost use Rattle.std.specs.Prelude.{◌≡◌, ◌*◌, ◌&&◌};
 ghost use Rattle.proc_alignment.specs.Alignment.{power_of_two, is_mask, vector_alignment, is_aligned, divide, ceiling};
 
 // The largest number of 32 bits.
@@ -20,13 +20,6 @@ pub fn vector_alignment(n: u32) -> u32
     ensures { result ≡ vector_alignment n }
 {
     if n == 2 { 2 } else { 4 }
-}
-
-// The larger of two alignments.
-pub fn larger(a: u32, b: u32) -> u32
-    ensures { result ≡ max a b }
-{
-    if b <= a { a } else { b }
 }
 
 // Whether n is a multiple of the alignment; of 0 only 0 is.

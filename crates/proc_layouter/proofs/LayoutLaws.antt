@@ -87,11 +87,6 @@ module _ (ts ms : List ℕ) where
       pub rest_kept : (n : ℕ) → i < n → drop (n * row_words) rows' ≡ drop (n * row_words) rows
       rest_kept n h = rw written (drop_part row_words rows (layout_row_at ts ms i) (i * row_words) refl room (n * row_words) (omega arith))
 
--- zeros before what is as it was
-pub zeros_kept : (n : ℕ) (lent : List ℕ) {rows rows' end : List ℕ} → rows' ≡ rows → drop n rows ≡ drop n lent
-    → end ≡ cleared rows' n → end ≡ cleared lent n
-zeros_kept n lent same kept e = rw (same, kept) at e
-
 -- ---- the call: numbers 2 to 7 type by type, against 2 and 3 of all types and then 4 to 7
 module _ (ts ms : List ℕ) where
   -- where the first n types pass 2 to 7, each passes 2 and 3, and 4 to 7
@@ -130,11 +125,6 @@ module _ (ts ms : List ℕ) where
       go (Refused number ty member detail) e = refl
 
 -- a refusal leaves the same zeros, whichever it is
-pub refused_rows : (first second : Outcome) (rows : List ℕ) (n : ℕ) (words : List ℕ) {number ty member detail : ℕ}
-    → second ≡ Refused number ty member detail → rows_after (also first second) rows n words ≡ rows_after second rows n words
-refused_rows Accepted second rows n words e = refl
-refused_rows (Refused number ty member detail) second rows n words e = rw e refl
-
 pub refused_zeros : (o : Outcome) → IsRefused o → (rows : List ℕ) (n : ℕ) (words : List ℕ) → rows_after o rows n words ≡ cleared words (n * row_words)
 refused_zeros Accepted e rows n words = absurd e
 refused_zeros (Refused number ty member detail) e rows n words = refl

@@ -4,7 +4,6 @@ use Rattle.std.specs.Prelude.{List, ℕ}
 use Rattle.ir_records.specs.Result.{Result, err, ok, and_then}
 use Rattle.ir_records.specs.Record.{decoded}
 use Rattle.ir_records.specs.Fields.{record_at}
-use Rattle.ir_records.specs.Outcome.{Refused}
 use Rattle.ir_rows.specs.Rows.{layout_row}
 use Rattle.ir_rows.specs.Serving.{with_row}
 use Rattle.proc_type_alignment.specs.declared.TypeLayout.{TypeLayout}

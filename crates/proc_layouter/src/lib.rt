@@ -1,4 +1,7 @@
 // Layouts: Layouter::update of naga's proc/layouter.rs, over lent rows.
+// Kept: `rows`, `n`: n is how many types there are, and the rows may be longer.
+// Kept: `n ≡ type_count types.now`: worked out once a call and handed on; without n each function below would have the same division by six.
+// Kept: `i * 14 + 14 ≤ length rows.old`: of rows that each type writes in turn; a part of them made for each type would be one more slice a type.
 #![tactic(auto)]
 
 ghost use Rattle.std.specs.Prelude.{◌≡◌, ◌+◌, ◌*◌, ◌≤◌, ◌<◌, length, take};
@@ -11,6 +14,7 @@ ghost use Rattle.proc_layouter.specs.Layouter.{layout_rows, rows_after, layout_o
 ghost use Rattle.proc_layouter.specs.Serving.{words_after, record_then_layout};
 
 use ir_records::{Fault, Refusal, TypeRefusal};
+use ir_rows::Earlier;
 use proc_type_alignment::TypeLayout;
 
 // Numbers 2 to 7 of type i, or its layout, which is written into its row.
@@ -25,8 +29,8 @@ fn layout_at(
     ensures result_value { judged result ≡ record_layout types.now members.now (layouts_in (take (i * 14) rows.old)) i }
     ensures rows_after { rows.new ≡ words_after (judged result) (i * 14) rows.old }
 {
+    let layout = proc_type_layout::layout_of(types, members, Earlier::of(rows, i))?;
     let at = (i as usize) * ir_records::ROW_WORDS;
-    let layout = proc_type_layout::layout_of(types, members, &rows[..at], i)?;
     ir_rows::put_layout(rows, at, layout.size, layout.alignment);
     Ok(layout)
 }

@@ -77,6 +77,7 @@ pub fn plain(shape: u32, width: u32) -> Result<PlainLayout, Refusal>
     if MOST_SHAPE < shape {
         return Err(Refusal::of(Fault::FieldOutside));
     }
+    // Kept: four widths, and no kinds; each arm is a column of the table.
     match width {
         1 => Ok(entry(shape, 0)),
         2 => Ok(entry(shape, 1)),

@@ -9,7 +9,8 @@ ghost use Rattle.proc_type_alignment.specs.TypeAlignment.{width_alignment, base_
 ghost use Rattle.ir_records.specs.Refusal.{judged};
 ghost use Rattle.proc_type_alignment.specs.Serving.{struct_alignment, layouts_in, located_result, SourcesTold};
 
-use ir_records::{Fault, TypeRefusal};
+use ir_records::{Fault, Members, TypeRefusal};
+use ir_rows::Earlier;
 
 // naga's TypeLayout.
 #[derive(Clone, Copy, Debug, PartialEq, Eq)]
@@ -83,26 +84,19 @@ fn with_sources(part: &[u32], sources: u32, alignment: u32) -> Result<Located, T
 
 // The largest alignment of a struct's members; number 2 for a blend source without a location, then 6 for a member that is no earlier type.
 // The rows are read again for 2 only where one has a blend source, or for a refusal.
-pub fn members_alignment(
-    rows: &[u32],
-    i: u32,
-    part: &[u32],
-    count: u32,
-) -> Result<Located, TypeRefusal>
-    requires rows_len { length rows.now ≡ i * 14 }
-    requires part_len { length part.now ≡ count * member_words }
-    ensures result_value { located_result result ≡ struct_alignment (layouts_in rows.now) i part.now count }
-    ensures sources_told { SourcesTold part.now result }
+pub fn members_alignment(before: Earlier, part: Members) -> Result<Located, TypeRefusal>
+    ensures result_value { located_result result ≡ struct_alignment (layouts_in before.entry.rows.now) before.entry.i part.entry.words.now part.entry.count }
+    ensures sources_told { SourcesTold part.entry.words.now result }
 {
     let mut a: u32 = 1;
     let mut sources: u32 = 0;
-    for j in 0..count as usize {
-        let ty = ir_records::own_type(part, j);
-        if i <= ty {
-            return late_member(part, j as u32);
+    for j in 0..part.count {
+        let ty = part.type_of(j);
+        if before.i <= ty {
+            return late_member(part.words, j);
         }
-        a = a.max(ir_rows::own_word(rows, ty, ir_rows::ALIGNMENT));
-        sources |= ir_records::own_source(part, j);
+        a = a.max(before.word(ty, ir_rows::ALIGNMENT));
+        sources |= part.source_of(j);
     }
-    with_sources(part, sources, a)
+    with_sources(part.words, sources, a)
 }

@@ -3,12 +3,11 @@
 use mathlib.Core.Path.{◌≡◌, refl, sym, ◌∙◌, ap}
 use mathlib.Core.Bool.{Bool, true, false, ◌&&◌}
 use mathlib.Core.List.{List}
-use Prim.Native.Nat.{ℕ, ◌+◌, ◌*◌, ◌≤◌, ◌<◌}
+use Prim.Native.Nat.{ℕ, ◌+◌, ◌*◌, ◌≤◌}
 use native.Mathlib.Omega.{arith}
 use lib.Dec.{eqb, leb, leb→le}
 use lib.ListN.{length, take, drop, length-drop}
 use lib.Seq.{length-take-le}
-use borrow.Author.Tests.{ne_eqb}
 use Rattle.ir_records.specs.Result.{err, pick, require, and_then}
 use Rattle.ir_records.specs.Record.{member_words, member_count, type_count, type_word, struct_kind, struct_members, inner_of}
 use Rattle.ir_records.specs.Serving.{record_words}
@@ -37,32 +36,6 @@ unfolding layout_of try_size alignment_of
 array_laid layouts i base count stride part true = refl
 array_laid layouts i base count stride part false = refl
 
--- not below a number and not that number
-pub past : (n : ℕ) {kind : ℕ} → n ≤ kind → (kind ≡ n → ⊥) → n < kind
-past n h d = omega arith
-
--- no kind lies above 13
-pub no_kind : (m kind a b c d e : ℕ) → 13 < kind → fields_ok m kind a b c d e ≡ false
-unfolding fields_ok
-no_kind m kind a b c d e h =
-    let other : (k : ℕ) → k ≤ 13 → eqb kind k ≡ false = λ k l. ne_eqb kind k (λ q. omega arith) in
-    rw (
-      other 0 (omega arith),
-      other 1 (omega arith),
-      other 2 (omega arith),
-      other 3 (omega arith),
-      other 4 (omega arith),
-      other 5 (omega arith),
-      other 6 (omega arith),
-      other 7 (omega arith),
-      other 8 (omega arith),
-      other 9 (omega arith),
-      other 10 (omega arith),
-      other 11 (omega arith),
-      other 12 (omega arith),
-      other 13 (omega arith),
-    ) refl
-
 -- ---- one record, by the words that were read of it
 module _ (ts ms : List ℕ) (layouts : ℕ → TypeLayout) (i : ℕ) (w : Words) (read : w ≡ record_words ts i) where
   -- a record that is no struct has no rows
@@ -82,9 +55,6 @@ pub members-within : (m a b c d e : ℕ) → fields_ok m struct_kind a b c d e �
 unfolding fields_ok
 members-within m a b c d e h =
     leb→le (a + b) m (and_left (leb (a + b) m) (eqb d 0) (and_left (leb (a + b) m && eqb d 0) (eqb e 0) (true_T h)))
-
-pub part-length : (ms : List ℕ) (first count : ℕ) → first + count ≤ member_count ms → length (take (count * member_words) (drop (first * member_words) ms)) ≡ count * member_words
-part-length ms first count h = length-take-le (count * member_words) (drop (first * member_words) ms) (rw (length-drop (first * member_words) ms) (omega (arith, h)))
 
 -- a struct: its rows are read only where its fields are in order
 pub struct-words : (ts ms : List ℕ) (layouts : ℕ → TypeLayout) (i : ℕ) (w : Words) → w ≡ record_words ts i → w.kind ≡ struct_kind → i * 6 + 6 ≤ length ts

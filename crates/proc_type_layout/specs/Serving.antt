@@ -1,7 +1,7 @@
 -- Serves the contracts of functions inside the library: it adds nothing to what the other files say, and a reader may skip it.
 -- Assumes nothing.
 use Rattle.std.specs.Prelude.{List, ℕ}
-use Rattle.ir_records.specs.Result.{Result, err, ok, require}
+use Rattle.ir_records.specs.Result.{Result, require}
 use Rattle.ir_records.specs.Record.{member_count, type_count, type_word, inner_of, struct_members}
 use Rattle.ir_records.specs.Fields.{fields_ok, base_within, sources_located}
 use Rattle.proc_type_alignment.specs.declared.TypeLayout.{TypeLayout}

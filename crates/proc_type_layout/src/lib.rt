@@ -13,7 +13,8 @@ ghost use Rattle.proc_type_alignment.specs.Serving.{layouts_in};
 ghost use Rattle.proc_type_layout.specs.TypeLayout.{sized_layout};
 ghost use Rattle.proc_type_layout.specs.Serving.{words_layout, record_layout};
 
-use ir_records::{Fault, TypeRefusal};
+use ir_records::{Fault, Kind, TypeRefusal, Words};
+use ir_rows::Earlier;
 use proc_type_alignment::TypeLayout;
 
 fn with_alignment(size: u32, aligned: Result<u32, TypeRefusal>) -> Result<TypeLayout, TypeRefusal>
@@ -30,48 +31,48 @@ fn unfit() -> Result<TypeLayout, TypeRefusal>
     Err(TypeRefusal::of(Fault::FieldOutside))
 }
 
-pub fn scalar_layout(a: u32, b: u32, c: u32, d: u32, e: u32) -> Result<TypeLayout, TypeRefusal>
-    ensures { (m n i : ℕ) (layouts : ℕ → layout.TypeLayout) (members : List ℕ) → judged result ≡ words_layout m n layouts i scalar_kind a b c d e members }
+pub fn scalar_layout(w: Words) -> Result<TypeLayout, TypeRefusal>
+    ensures { (m n i : ℕ) (layouts : ℕ → layout.TypeLayout) (members : List ℕ) → judged result ≡ words_layout m n layouts i scalar_kind w.a w.b w.c w.d w.e members }
 {
-    if ir_fields::scalar_fields(a, b, c, d, e) {
-        return with_alignment(b, proc_type_alignment::leaf_alignment(1, b));
+    if ir_fields::scalar_fields(w) {
+        return with_alignment(w.b, proc_type_alignment::leaf_alignment(1, w.b));
     }
     unfit()
 }
 
-pub fn vector_layout(a: u32, b: u32, c: u32, d: u32, e: u32) -> Result<TypeLayout, TypeRefusal>
-    ensures { (m n i : ℕ) (layouts : ℕ → layout.TypeLayout) (members : List ℕ) → judged result ≡ words_layout m n layouts i vector_kind a b c d e members }
+pub fn vector_layout(w: Words) -> Result<TypeLayout, TypeRefusal>
+    ensures { (m n i : ℕ) (layouts : ℕ → layout.TypeLayout) (members : List ℕ) → judged result ≡ words_layout m n layouts i vector_kind w.a w.b w.c w.d w.e members }
 {
-    if ir_fields::vector_fields(a, b, c, d, e) {
-        let factor = proc_alignment::vector_alignment(a);
+    if ir_fields::vector_fields(w) {
+        let factor = proc_alignment::vector_alignment(w.a);
         return with_alignment(
-            proc_type_methods::vector_size(a, c),
-            proc_type_alignment::leaf_alignment(factor, c),
+            proc_type_methods::vector_size(w.a, w.c),
+            proc_type_alignment::leaf_alignment(factor, w.c),
         );
     }
     unfit()
 }
 
-pub fn matrix_layout(a: u32, b: u32, c: u32, d: u32, e: u32) -> Result<TypeLayout, TypeRefusal>
-    ensures { (m n i : ℕ) (layouts : ℕ → layout.TypeLayout) (members : List ℕ) → judged result ≡ words_layout m n layouts i matrix_kind a b c d e members }
+pub fn matrix_layout(w: Words) -> Result<TypeLayout, TypeRefusal>
+    ensures { (m n i : ℕ) (layouts : ℕ → layout.TypeLayout) (members : List ℕ) → judged result ≡ words_layout m n layouts i matrix_kind w.a w.b w.c w.d w.e members }
 {
-    if ir_fields::matrix_fields(a, b, c, d, e) {
-        let factor = proc_alignment::vector_alignment(b);
+    if ir_fields::matrix_fields(w) {
+        let factor = proc_alignment::vector_alignment(w.b);
         return with_alignment(
-            proc_type_methods::matrix_size(a, b, d),
-            proc_type_alignment::leaf_alignment(factor, d),
+            proc_type_methods::matrix_size(w.a, w.b, w.d),
+            proc_type_alignment::leaf_alignment(factor, w.d),
         );
     }
     unfit()
 }
 
-pub fn cooperative_layout(a: u32, b: u32, c: u32, d: u32, e: u32) -> Result<TypeLayout, TypeRefusal>
-    ensures { (m n i : ℕ) (layouts : ℕ → layout.TypeLayout) (members : List ℕ) → judged result ≡ words_layout m n layouts i cooperative_matrix_kind a b c d e members }
+pub fn cooperative_layout(w: Words) -> Result<TypeLayout, TypeRefusal>
+    ensures { (m n i : ℕ) (layouts : ℕ → layout.TypeLayout) (members : List ℕ) → judged result ≡ words_layout m n layouts i cooperative_matrix_kind w.a w.b w.c w.d w.e members }
 {
-    if ir_fields::cooperative_fields(a, b, c, d, e) {
+    if ir_fields::cooperative_fields(w) {
         return with_alignment(
-            proc_type_methods::cooperative_size(a, b, d),
-            proc_type_alignment::leaf_alignment(b, d),
+            proc_type_methods::cooperative_size(w.a, w.b, w.d),
+            proc_type_alignment::leaf_alignment(w.b, w.d),
         );
     }
     unfit()
@@ -117,81 +118,50 @@ fn array_layout(
     }
 }
 
-pub fn array_record(
-    rows: &[u32],
-    i: u32,
-    a: u32,
-    b: u32,
-    c: u32,
-    d: u32,
-    e: u32,
-) -> Result<TypeLayout, TypeRefusal>
-    ensures { (m n : ℕ) (members : List ℕ) → judged result ≡ words_layout m n (layouts_in rows.now) i array_kind a b c d e members }
+pub fn array_record(rows: &[u32], i: u32, w: Words) -> Result<TypeLayout, TypeRefusal>
+    ensures { (m n : ℕ) (members : List ℕ) → judged result ≡ words_layout m n (layouts_in rows.now) i array_kind w.a w.b w.c w.d w.e members }
 {
-    if ir_fields::array_fields(b, c, e) {
-        return array_layout(rows, i, a, b, c, d);
+    if ir_fields::array_fields(w) {
+        return array_layout(rows, i, w.a, w.b, w.c, w.d);
     }
     unfit()
 }
 
-fn struct_record(
-    members: &[u32],
-    rows: &[u32],
-    i: u32,
-    a: u32,
-    b: u32,
-    c: u32,
-    d: u32,
-    e: u32,
-) -> Result<TypeLayout, TypeRefusal>
-    requires { length rows.now ≡ i * 14 }
-    ensures { (n : ℕ) → judged result ≡ require (sources_located (take (b * member_words) (drop (a * member_words) members.now))) 2 0 0 (words_layout (member_count members.now) n (layouts_in rows.now) i struct_kind a b c d e (take (b * member_words) (drop (a * member_words) members.now))) }
+fn struct_record(members: &[u32], before: Earlier, w: Words) -> Result<TypeLayout, TypeRefusal>
+    ensures { (n : ℕ) → judged result ≡ require (sources_located (take (w.b * member_words) (drop (w.a * member_words) members.now))) 2 0 0 (words_layout (member_count members.now) n (layouts_in before.entry.rows.now) before.entry.i struct_kind w.a w.b w.c w.d w.e (take (w.b * member_words) (drop (w.a * member_words) members.now))) }
 {
-    if ir_fields::struct_fields(members.len() / ir_records::MEMBER_WORDS, a, b, d, e) {
-        let part = ir_records::member_part(members, a, b);
-        let located = proc_type_alignment::members_alignment(rows, i, part, b)?;
+    if ir_fields::struct_fields(ir_records::member_count(members), w) {
+        let part = ir_records::member_part(members, w.a, w.b);
+        let located = proc_type_alignment::members_alignment(before, part)?;
         return Ok(TypeLayout {
-            size: c,
+            size: w.c,
             alignment: located.alignment,
         });
     }
     unfit()
 }
 
-// Numbers 2 to 7 of type i, or its layout, from the rows of the types before it: one choice by the kind.
-pub fn layout_of(
-    types: &[u32],
-    members: &[u32],
-    rows: &[u32],
-    i: u32,
-) -> Result<TypeLayout, TypeRefusal>
-    requires i_in_bounds { i * 6 + 6 ≤ length types.now }
-    requires rows_len { length rows.now ≡ i * 14 }
-    ensures { judged result ≡ record_layout types.now members.now (layouts_in rows.now) i }
+// Numbers 2 to 7 of a type, or its layout, from the rows of the types before it: one choice by the kind.
+pub fn layout_of(types: &[u32], members: &[u32], before: Earlier) -> Result<TypeLayout, TypeRefusal>
+    requires { before.i * 6 + 6 ≤ length types.now }
+    ensures { judged result ≡ record_layout types.now members.now (layouts_in before.entry.rows.now) before.entry.i }
 {
-    let w = ir_records::own_record(types, i);
-    let kind = w.kind;
-    let a = w.a;
-    let b = w.b;
-    let c = w.c;
-    let d = w.d;
-    let e = w.e;
-    let within = (a as usize) < types.len() / ir_records::TYPE_WORDS;
-    match kind {
-        0 => scalar_layout(a, b, c, d, e),
-        1 => vector_layout(a, b, c, d, e),
-        2 => matrix_layout(a, b, c, d, e),
-        3 => cooperative_layout(a, b, c, d, e),
-        4 => scalar_layout(a, b, c, d, e),
-        5 => based_layout(ir_fields::pointer_fields(b, c, d, e), within, 4),
-        6 => handle_layout(ir_fields::value_pointer_fields(a, b, c, d, e), 4),
-        7 => array_record(rows, i, a, b, c, d, e),
-        8 => struct_record(members, rows, i, a, b, c, d, e),
-        9 => handle_layout(ir_fields::image_fields(a, b, c, d, e), 0),
-        10 => handle_layout(ir_fields::sampler_fields(a, b, c, d, e), 0),
-        11 => handle_layout(ir_fields::acceleration_fields(a, b, c, d, e), 0),
-        12 => handle_layout(ir_fields::acceleration_fields(a, b, c, d, e), 0),
-        13 => based_layout(ir_fields::binding_array_fields(b, c, d, e), within, 0),
-        _ => unfit(),
+    let w = ir_records::own_record(types, before.i);
+    let within = (w.a as usize) < ir_records::type_count(types);
+    match Kind::try_from(w.kind)? {
+        Kind::Scalar => scalar_layout(w),
+        Kind::Vector => vector_layout(w),
+        Kind::Matrix => matrix_layout(w),
+        Kind::CooperativeMatrix => cooperative_layout(w),
+        Kind::Atomic => scalar_layout(w),
+        Kind::Pointer => based_layout(ir_fields::pointer_fields(w), within, 4),
+        Kind::ValuePointer => handle_layout(ir_fields::value_pointer_fields(w), 4),
+        Kind::Array => array_record(before.rows, before.i, w),
+        Kind::Struct => struct_record(members, before, w),
+        Kind::Image => handle_layout(ir_fields::image_fields(w), 0),
+        Kind::Sampler => handle_layout(ir_fields::sampler_fields(w), 0),
+        Kind::AccelerationStructure => handle_layout(ir_fields::acceleration_fields(w), 0),
+        Kind::RayQuery => handle_layout(ir_fields::acceleration_fields(w), 0),
+        Kind::BindingArray => based_layout(ir_fields::binding_array_fields(w), within, 0),
     }
 }

@@ -11,6 +11,7 @@ use ir_records::{Leaf, NonData, TypeInner};
 // MAX_TYPE_SIZE of naga's valid/mod.rs.
 const MOST_SIZE: u64 = 2147483647;
 
+// Kept: `width ≤ 255`: of one word of such a record.
 pub fn vector_size(size: u32, width: u32) -> u32
     requires size_bound { size ≤ 4 }
     requires width_bound { width ≤ 255 }
@@ -42,6 +43,7 @@ pub fn cooperative_size(columns: u32, rows: u32, width: u32) -> u32
     tile
 }
 
+// Kept: `LeafBounds leaf`, `InnerBounds inner`: a record may say any numbers, and these hold only of one that number 2 has passed.
 fn leaf_size(leaf: Leaf) -> u32
     requires { LeafBounds leaf }
     ensures { result ≡ leaf_size leaf }

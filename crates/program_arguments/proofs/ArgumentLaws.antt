@@ -3,7 +3,6 @@
 use mathlib.Core.Path.{◌≡◌, refl}
 use mathlib.Core.List.{List, [], ◌∷◌, ◌++◌, append-nil}
 use Prim.Native.Nat.{ℕ, suc, ◌+◌, ◌-◌, ◌≤◌, ◌<◌}
-use native.Mathlib.Nat.{sub-zero}
 use native.Mathlib.Numerals.{add-one}
 use native.Mathlib.Omega.{arith}
 use lib.ListN.{length, take, set}
@@ -17,10 +16,6 @@ abbrev pub prepend : List ℕ → Arguments → Arguments
 prepend ns (read ms) = read (ns ++ ms)
 prepend ns (wrong r) = wrong r
 
-pub prepend_none : (a : Arguments) → prepend [] a ≡ a
-prepend_none (read ms) = refl
-prepend_none (wrong r) = refl
-
 prepend_one : (ns : List ℕ) (n : ℕ) (a : Arguments) → prepend ns (before n a) ≡ prepend (ns ++ n ∷ []) a
 prepend_one ns n (read ms) = rw (append_snoc ns n ms)
 prepend_one ns n (wrong r) = refl
@@ -31,9 +26,6 @@ one_more n k h = omega arith
 module _ (c : Command) (most k : ℕ) (xs : List ℕ) (u : List (List ℕ)) where
   abbrev left : Arguments
   left = prepend (take k xs) (numbers_of c (most - k) (k + 2) u)
-
-  pub numbers_first : k ≡ 0 → left ≡ numbers_of c most 2 u
-  numbers_first e = rw (e, sub-zero) (prepend_none (numbers_of c most 2 u))
 
   pub numbers_more : (w : List (List ℕ)) (n : ℕ) → k < most → k < length xs
       → ((d : Command) (m j : ℕ) → numbers_of d (suc m) j u ≡ before n (numbers_of d m (suc j) w))

@@ -58,7 +58,7 @@ impl From<Stray> for Reason {
 }
 
 // A number of a text, and where it ends.
-#[derive(Clone, Copy)]
+#[derive(Clone, Copy, Debug, PartialEq, Eq)]
 struct NumberRead {
     value: u32,
     end: usize,

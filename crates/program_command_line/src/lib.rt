@@ -2,10 +2,10 @@
 #![tactic(auto)]
 
 ghost use Rattle.std.specs.Prelude.{◌≡◌};
-ghost use Rattle.program_output.specs.Bytes.{Puts};
+ghost use Rattle.program_output.specs.Bytes.{Adds};
 ghost use Rattle.program_command_line.specs.Arguments.{help_text, is_help, unknown_bytes, argument_bytes};
 
-use program_output::Buffer;
+use program_output::Output;
 use std::rt::Env;
 
 // Whether an argument is --help.
@@ -15,12 +15,12 @@ fn is_help(name: &[u8]) -> bool
     name == b"--help".as_slice()
 }
 
-fn put_help(at: usize, out: &mut Buffer) -> usize
-    ensures { Puts out.old at help_text out.new result }
+// Kept: it puts one text, as functions of the sheets do; each text is its own.
+#[tactic(auto, unfolding(crate::specs::Arguments::help_text))]
+fn put_help(out: &mut Output)
+    ensures { Adds out.old help_text out.new }
 {
-    program_output::put_text(
-        out,
-        at,
+    out.put_text(
         b"inspect answers the commands on standard input, one to a line. Numbers are decimal; # starts a comment.
   caps N              sets the capability word
   rule N              sets the uniform rule: 0 the older, 1 the newer
@@ -45,33 +45,35 @@ fn put_help(at: usize, out: &mut Buffer) -> usize
   order SPAN T1 .. Tk order TYPE SPAN N1 .. Nk: the first order of these types that has at most the span, as a struct of the arena
 A refusal is refused NUMBER TYPE MEMBER DETAIL. A line that cannot be read ends the program.
 ",
-    )
+    );
 }
 
-fn put_unknown(name: &[u8], at: usize, out: &mut Buffer) -> usize
-    ensures { Puts out.old at (unknown_bytes name.now) out.new result }
+fn put_unknown(name: &[u8], out: &mut Output)
+    ensures { Adds out.old (unknown_bytes name.now) out.new }
 {
-    let end = program_output::put_text(out, at, name);
-    program_output::put_text(out, end, b": no such argument; there is --help\n")
+    out.put_text(name);
+    out.put_text(b": no such argument; there is --help\n");
 }
 
 // Puts the answer to an argument.
-pub fn put_argument(name: &[u8], at: usize, out: &mut Buffer) -> usize
-    ensures { Puts out.old at (argument_bytes name.now) out.new result }
+#[tactic(auto, unfolding(crate::specs::Arguments::argument_bytes))]
+pub fn put_argument(name: &[u8], out: &mut Output)
+    ensures { Adds out.old (argument_bytes name.now) out.new }
 {
     if is_help(name) {
-        return put_help(at, out);
+        put_help(out);
+    } else {
+        put_unknown(name, out);
     }
-    put_unknown(name, at, out)
 }
 
 // The name of an argument that is longer than the buffer is left out.
 fn answer<R: Env>(rt: &R, i: usize) {
     let mut name = io::buffer();
-    let mut out = [0u8; 1114112];
+    let mut out = Output::new();
     let length = program_files::argument(rt, i, &mut name);
-    let end = put_argument(&name[..length], 0, &mut out);
-    program_output::write_out(&out, end);
+    put_argument(&name[..length], &mut out);
+    out.write_out();
 }
 
 pub fn run<R: Env + Input>(rt: &R) {

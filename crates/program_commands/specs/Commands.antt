@@ -1,20 +1,21 @@
 -- The state of a session, and what a line makes of it and of the arena.
 -- Assumes nothing.
-use Rattle.std.specs.Prelude.{◌≡◌, Bool, true, false, ◌&&◌, List, [], ◌∷◌, ℕ, ◌+◌, ◌-◌, ◌*◌, ◌/◌, leb, ltb, length, take, drop}
+use Rattle.std.specs.Prelude.{Bool, true, false, List, [], ◌∷◌, ℕ, ◌+◌, ◌-◌, ◌*◌, ◌/◌, ltb, length, take, drop}
 use Rattle.std.proofs.lemmas.List.Edits.{sets}
 use Rattle.ir_records.specs.Result.{pick}
 use Rattle.immediates_pass.specs.Pass.{begin}
 use Rattle.immediates_pass.specs.declared.Pass.{Pass}
-use Rattle.program_arguments.specs.declared.Reason.{Reason}
-use Rattle.program_arguments.specs.declared.Reason.TheVariants as reason
+use Rattle.program_input.specs.declared.ReadError.TheVariants as error
 use Rattle.program_lines.specs.declared.Line.{Line}
 use Rattle.program_lines.specs.declared.Line.TheVariants as line
-use Rattle.program_output.specs.Answers.{usage_line}
+use Rattle.program_output.specs.declared.Stop.{Stop}
+use Rattle.program_output.specs.declared.Stop.TheVariants as stop
+use Rattle.program_commands.specs.declared.State.TheVariants as state
 use Rattle.program_commands.specs.declared.Session.{Session}
 
 -- nothing is set, the arena is empty, line 1
 abbrev pub started : Session
-started = record { capabilities = 0; rule = 0; types = 0; members = 6144; pass = begin; line = 1; waiting = 0; held = 0; why = 0; word = 0 }
+started = record { capabilities = 0; rule = 0; types = 0; members = 6144; pass = begin; line = 1; held = 0; state = state.Reading }
 
 -- the words from start up to end; none where they are not all there
 unfoldable pub part_of : List ℕ → (start end : ℕ) → List ℕ
@@ -27,39 +28,35 @@ types_held s = pick (ltb 6144 s.types) 0 (s.types / 6)
 abbrev pub rows_held : Session → ℕ
 rows_held s = pick (ltb 22528 s.members) 0 (pick (ltb s.members 6144) 0 ((s.members - 6144) / 4))
 
--- ---- the state with one field changed
+-- ---- the session with some fields changed
 abbrev pub with_capabilities : ℕ → Session → Session
-with_capabilities n s = record { capabilities = n; rule = s.rule; types = s.types; members = s.members; pass = s.pass; line = s.line; waiting = s.waiting; held = s.held; why = s.why; word = s.word }
+with_capabilities n s = record s { capabilities = n }
 
 abbrev pub with_rule : ℕ → Session → Session
-with_rule n s = record { capabilities = s.capabilities; rule = n; types = s.types; members = s.members; pass = s.pass; line = s.line; waiting = s.waiting; held = s.held; why = s.why; word = s.word }
+with_rule n s = record s { rule = n }
 
 abbrev pub with_tables : (types members : ℕ) → Session → Session
-with_tables types members s = record { capabilities = s.capabilities; rule = s.rule; types = types; members = members; pass = s.pass; line = s.line; waiting = s.waiting; held = s.held; why = s.why; word = s.word }
+with_tables types members s = record s { types = types; members = members }
 
 abbrev pub with_pass : Pass → Session → Session
-with_pass p s = record { capabilities = s.capabilities; rule = s.rule; types = s.types; members = s.members; pass = p; line = s.line; waiting = s.waiting; held = s.held; why = s.why; word = s.word }
+with_pass p s = record s { pass = p }
 
-abbrev pub with_waiting : ℕ → Session → Session
-with_waiting n s = record { capabilities = s.capabilities; rule = s.rule; types = s.types; members = s.members; pass = s.pass; line = s.line; waiting = n; held = s.held; why = s.why; word = s.word }
-
--- it stops at a word of the line, 0 for none, for a reason
-abbrev pub stopped : (word why : ℕ) → Session → Session
-stopped word why s = record { capabilities = s.capabilities; rule = s.rule; types = s.types; members = s.members; pass = s.pass; line = s.line; waiting = s.waiting; held = s.held; why = why; word = word }
+abbrev pub stopped : Stop → Session → Session
+stopped why s = record s { state = state.Stopped why }
 
 -- empty, with capability word 0 and rule 0; the pass stays
 abbrev pub cleared : Session → Session
-cleared s = record { capabilities = 0; rule = 0; types = 0; members = 6144; pass = s.pass; line = s.line; waiting = s.waiting; held = s.held; why = s.why; word = s.word }
+cleared s = record s { capabilities = 0; rule = 0; types = 0; members = 6144 }
 
 -- ---- a record more: six words of a type below word 6144, four of a member below word 22528, or the session stops
 unfoldable pub type_added : Session → Session
-type_added s = pick (ltb 6138 s.types) (stopped s.word 6 s) (with_tables (s.types + 6) s.members s)
+type_added s = pick (ltb 6138 s.types) (stopped stop.TypesFull s) (with_tables (s.types + 6) s.members s)
 
 unfoldable pub with_type : List ℕ → Session → List ℕ → List ℕ
 with_type words s arena = pick (ltb 6138 s.types) arena (sets arena s.types words)
 
 unfoldable pub member_added : Session → Session
-member_added s = pick (ltb 22524 s.members) (stopped s.word 7 s) (with_tables s.types (s.members + 4) s)
+member_added s = pick (ltb 22524 s.members) (stopped stop.MembersFull s) (with_tables s.types (s.members + 4) s)
 
 unfoldable pub with_member : List ℕ → Session → List ℕ → List ℕ
 with_member words s arena = pick (ltb 22524 s.members) arena (sets arena s.members words)
@@ -68,16 +65,7 @@ with_member words s arena = pick (ltb 22524 s.members) arena (sets arena s.membe
 abbrev pub held_after : (n m more : ℕ) → Session → Session
 held_after n m more s = with_tables ((n + 1) * 6) (pick (ltb more 8) (6144 + (m + more) * 4) s.members) s
 
--- ---- a line that cannot be read
-abbrev pub stopped_by : Reason → Session → Session
-stopped_by (reason.NotANumber word) s = stopped word 4 s
-stopped_by (reason.TooLarge word) s = stopped word 5 s
-stopped_by (reason.Usage command) s = stopped s.word (usage_line command) s
-stopped_by reason.ByteOrderMark s = stopped s.word 8 s
-stopped_by reason.Nul s = stopped s.word 9 s
-stopped_by reason.Return s = stopped s.word 10 s
-
--- ---- what a line makes of the state; one that asks for an answer leaves it
+-- ---- what a line makes of the session; one that asks for an answer leaves it
 abbrev pub changed : Line → Session → Session
 changed line.Nothing s = s
 changed (line.Capabilities n) s = with_capabilities n s
@@ -100,7 +88,6 @@ changed (line.Choose ty) s = s
 changed line.Run s = s
 changed line.Clear s = cleared s
 changed (line.Order span given) s = s
-changed (line.Wrong r) s = stopped_by r s
 
 -- and of the arena
 abbrev pub arena_after : Line → Session → List ℕ → List ℕ
@@ -125,9 +112,8 @@ arena_after (line.Choose ty) s arena = arena
 arena_after line.Run s arena = arena
 arena_after line.Clear s arena = arena
 arena_after (line.Order span given) s arena = arena
-arena_after (line.Wrong r) s arena = arena
 
--- ---- after a write of the answers that wait: nothing waits, and where it failed the session stops
+-- ---- after a write of the answers that wait: where it failed the session stops
 abbrev pub after_write : Bool → Session → Session
-after_write true s = with_waiting 0 s
-after_write false s = with_waiting 0 (stopped s.word 3 s)
+after_write true s = s
+after_write false s = stopped (stop.Input error.Failed) s

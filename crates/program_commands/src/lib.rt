@@ -3,12 +3,14 @@
 
 ghost use Rattle.std.specs.Prelude.{◌≡◌, Bool, ◌+◌, ◌≤◌, length};
 ghost use Rattle.std.proofs.lemmas.List.Edits.{sets};
-ghost use Rattle.program_commands.specs.Commands.{started, part_of, types_held, rows_held, held_after, type_added, with_type, member_added, with_member, stopped_by, cleared, changed, arena_after, after_write};
+ghost use Rattle.program_output.specs.declared.Stop.TheVariants as why;
+ghost use Rattle.program_commands.specs.Commands.{started, stopped, part_of, types_held, rows_held, held_after, type_added, with_type, member_added, with_member, cleared, changed, arena_after, after_write};
 
 use immediates_pass::Pass;
 use program_arguments::Reason;
+use program_input::ReadError;
 use program_lines::Line;
-use program_output::Buffer;
+use program_output::{Output, Stop};
 
 // The arena is one run of words: the types from its start on, the members from here on.
 pub const MEMBERS_AT: usize = 6144;
@@ -20,7 +22,17 @@ pub type Arena = [u32; ARENA_WORDS];
 // The rows of a full arena. The session keeps them from line to line.
 pub type Rows = [u32; 14336];
 
-#[derive(Clone, Copy)]
+// Kept: no Option or Result: that the input has ended is neither a reason to stop nor a wish to read on.
+/// Whether a session goes on.
+#[derive(Clone, Copy, Debug, PartialEq, Eq)]
+pub enum State {
+    Reading,
+    /// The input has ended.
+    Ended,
+    Stopped(Stop),
+}
+
+#[derive(Clone, Copy, Debug, PartialEq, Eq)]
 pub struct Session {
     pub capabilities: u32,
     // The uniform rule as a word.
@@ -32,69 +44,52 @@ pub struct Session {
     pub pass: Pass,
     // The number of the line.
     pub line: u64,
-    // How many bytes of answers wait to be written.
-    pub waiting: usize,
     // How many bytes of the input wait for the end of their line.
     pub held: usize,
-    // Why the session stops: how the last read ended, or the number of a line of the text in `program_output::put_why`.
-    pub why: u32,
-    // The number of the word that is wrong, or 0.
-    pub word: u32,
+    pub state: State,
 }
 
 pub fn start() -> Session
     ensures { result ≡ started }
 {
-    let pass = immediates_pass::start();
     Session {
         capabilities: 0,
         rule: 0,
         types: 0,
         members: MEMBERS_AT,
-        pass,
+        pass: immediates_pass::start(),
         line: 1,
-        waiting: 0,
         held: 0,
-        why: program_input::MORE,
-        word: 0,
+        state: State::Reading,
     }
 }
 
-// The words from `start` up to `end`.
+// The words from `start` up to `end`; none where they are not all there.
+#[tactic(auto, unfolding(crate::specs::Commands::part_of))]
 pub fn part(words: &[u32], start: usize, end: usize) -> &[u32]
     ensures { result.now ≡ part_of words.now start end }
 {
-    if words.len() < end {
-        return &words[..0];
-    }
-    if end < start {
-        return &words[..0];
-    }
-    &words[start..end]
+    words.get(start..end).unwrap_or(&[])
 }
 
-// How many types and how many member rows the arena holds.
+/// How many types the arena holds.
 pub fn types_held(s: Session) -> u32
     ensures { result ≡ types_held s }
 {
-    let end = s.types;
-    if end > MEMBERS_AT {
+    if s.types > MEMBERS_AT {
         return 0;
     }
-    (end / ir_records::TYPE_WORDS) as u32
+    (s.types / ir_records::TYPE_WORDS) as u32
 }
 
+/// How many member rows the arena holds.
 pub fn rows_held(s: Session) -> u32
     ensures { result ≡ rows_held s }
 {
-    let end = s.members;
-    if end > ARENA_WORDS {
+    if s.members > ARENA_WORDS {
         return 0;
     }
-    if end < MEMBERS_AT {
-        return 0;
-    }
-    ((end - MEMBERS_AT) / ir_records::MEMBER_WORDS) as u32
+    (s.members.saturating_sub(MEMBERS_AT) / ir_records::MEMBER_WORDS) as u32
 }
 
 // One type and some member rows more than n and m.
@@ -104,7 +99,6 @@ pub fn held(mut s: Session, n: u32, m: u32, more: usize) -> Session
     s.types = (n as usize + 1) * ir_records::TYPE_WORDS;
     if more < 8 {
         s.members = MEMBERS_AT + (m as usize + more) * ir_records::MEMBER_WORDS;
-        return s;
     }
     s
 }
@@ -117,67 +111,36 @@ fn store(arena: &mut Arena, at: usize, words: &[u32])
     arena[at..at + words.len()].copy_from_slice(words);
 }
 
+// Kept: `add_type` and `add_member` differ in the end of their table, its limit and the stop. One function would take the end and the state by `&mut`
+// beside the arena, and the two others as arguments.
+#[tactic(auto, unfolding(crate::specs::Commands::type_added, crate::specs::Commands::with_type))]
 fn add_type(mut s: Session, arena: &mut Arena, words: &[u32]) -> Session
     requires { length words.now ≡ 6 }
     ensures value { result ≡ type_added s }
     ensures arena_after { arena.new ≡ with_type words.now s arena.old }
 {
-    let at = s.types;
-    if MEMBERS_AT - ir_records::TYPE_WORDS < at {
-        s.why = program_output::TYPES_FULL;
+    if MEMBERS_AT - ir_records::TYPE_WORDS < s.types {
+        s.state = State::Stopped(Stop::TypesFull);
         return s;
     }
-    store(arena, at, words);
-    s.types = at + ir_records::TYPE_WORDS;
+    store(arena, s.types, words);
+    s.types += ir_records::TYPE_WORDS;
     s
 }
 
+#[tactic(auto, unfolding(crate::specs::Commands::member_added, crate::specs::Commands::with_member))]
 fn add_member(mut s: Session, arena: &mut Arena, words: &[u32]) -> Session
     requires { length words.now ≡ 4 }
     ensures value { result ≡ member_added s }
     ensures arena_after { arena.new ≡ with_member words.now s arena.old }
 {
-    let at = s.members;
-    if ARENA_WORDS - ir_records::MEMBER_WORDS < at {
-        s.why = program_output::MEMBERS_FULL;
+    if ARENA_WORDS - ir_records::MEMBER_WORDS < s.members {
+        s.state = State::Stopped(Stop::MembersFull);
         return s;
     }
-    store(arena, at, words);
-    s.members = at + ir_records::MEMBER_WORDS;
+    store(arena, s.members, words);
+    s.members += ir_records::MEMBER_WORDS;
     s
-}
-
-fn stop(mut s: Session, reason: Reason) -> Session
-    ensures { result ≡ stopped_by reason s }
-{
-    match reason {
-        Reason::NotANumber(word) => {
-            s.word = word;
-            s.why = program_output::NOT_A_NUMBER;
-            s
-        }
-        Reason::TooLarge(word) => {
-            s.word = word;
-            s.why = program_output::TOO_LARGE;
-            s
-        }
-        Reason::Usage(command) => {
-            s.why = program_output::usage_line(command);
-            s
-        }
-        Reason::ByteOrderMark => {
-            s.why = program_output::BYTE_ORDER_MARK;
-            s
-        }
-        Reason::Nul => {
-            s.why = program_output::NUL;
-            s
-        }
-        Reason::Return => {
-            s.why = program_output::RETURN;
-            s
-        }
-    }
 }
 
 fn clear(mut s: Session) -> Session
@@ -190,13 +153,20 @@ fn clear(mut s: Session) -> Session
     s
 }
 
-// A line that asks for an answer leaves the session as it is.
+/// A line that cannot be read stops the session; the arena stays.
+pub fn stop(mut s: Session, reason: Reason) -> Session
+    ensures { result ≡ stopped (why.Line reason) s }
+{
+    s.state = State::Stopped(Stop::Line(reason));
+    s
+}
+
+/// What a line makes of the session and the arena. One that asks for an answer leaves them as they are.
 pub fn change(line: Line, mut s: Session, arena: &mut Arena) -> Session
     ensures value { result ≡ changed line s }
     ensures arena_after { arena.new ≡ arena_after line s arena.old }
 {
     match line {
-        Line::Nothing => s,
         Line::Capabilities(word) => {
             s.capabilities = word;
             s
@@ -219,50 +189,33 @@ pub fn change(line: Line, mut s: Session, arena: &mut Arena) -> Session
             location,
             source,
         } => add_member(s, arena, &[ty, offset, location, source]),
-        Line::Layout => s,
-        Line::Judge => s,
-        Line::Check => s,
-        Line::Members(_) => s,
-        Line::Slots { ty: _, offset: _ } => s,
-        Line::Range { offset: _, size: _ } => s,
-        Line::Place { start: _, steps: _ } => s,
-        Line::Short { start: _, steps: _ } => s,
-        Line::Report => s,
-        Line::Plain { shape: _, width: _ } => s,
         Line::Pass => {
-            let pass = immediates_pass::start();
-            s.pass = pass;
+            s.pass = immediates_pass::start();
             s
         }
-        Line::SetRange { offset: _, size: _ } => s,
-        Line::Choose(_) => s,
-        Line::Run => s,
         Line::Clear => clear(s),
-        Line::Order { span: _, given: _ } => s,
-        Line::Wrong(reason) => stop(s, reason),
+        _ => s,
     }
 }
 
-// After a write that failed nothing more is answered.
+/// After a write that failed nothing more is answered.
 pub fn after_write(mut s: Session, written: bool) -> Session
     ensures { result ≡ after_write written s }
 {
-    s.waiting = 0;
     if !written {
-        s.why = program_input::FAILED;
-        return s;
+        s.state = State::Stopped(Stop::Input(ReadError::Failed));
     }
     s
 }
 
-// Writes the answers that wait, and why the session stops if a line is the reason.
-pub fn flushed(s: Session, out: &mut Buffer) -> Session
-    ensures { (written : Bool) × (result ≡ after_write written s) }
+/// Writes the answers that wait, and why the session stops if it does.
+pub fn flushed(s: Session, out: &mut Output) -> Session
+    ensures state { (written : Bool) × (result ≡ after_write written s) }
+    ensures none_waits { out.new.end ≡ 0 }
 {
-    let mut end = s.waiting;
-    if s.why > program_input::ENDED {
-        end = program_output::put_stop(out, end, s.line, s.word, s.why);
+    if let State::Stopped(stop) = s.state {
+        out.put_stop(s.line, stop);
     }
-    let written = program_output::write_out(out, end);
+    let written = out.write_out();
     after_write(s, written)
 }

@@ -43,10 +43,8 @@ pub fn tell(why: &[u8]) {
 
 // The file of that name, where it can be opened; a name that is no UTF-8 names none.
 pub fn open<R: Files>(rt: &R, name: &[u8]) -> Option<R::File> {
-    match std::str::from_utf8(name) {
-        Ok(path) => std::fs::open(rt, path).ok(),
-        Err(_) => None,
-    }
+    let path = std::str::from_utf8(name).ok()?;
+    std::fs::open(rt, path).ok()
 }
 
 // The file that argument i names, where it can be opened.
@@ -92,6 +90,7 @@ pub fn read_all<S: Read>(source: &mut S, bytes: &mut [u8]) -> Result<usize, Read
     ensures { HeldWithin 0 (length bytes.old) result }
 {
     let mut held: usize = 0;
+    // Kept: a read gives as many bytes as it has, and the loop ends with the input, so no range counts it.
     loop {
         let now = read_more(source, bytes, held)?;
         if now <= held {

@@ -1,6 +1,9 @@
 -- What a read leaves in the buffer of the input, and what stays of it after the lines that were answered.
 -- Assumes nothing.
-use Rattle.std.specs.Prelude.{◌≡◌, List, ℕ, ◌+◌, ◌-◌, ◌≤◌, ◌<◌, length, get_or, take, drop}
+use Rattle.std.specs.Prelude.{◌≡◌, Bool, true, false, Result, Ok, Err, List, ℕ, ◌+◌, ◌-◌, ◌≤◌, ◌<◌, length, get_or, take, drop}
+use Rattle.program_input.specs.declared.Input.{Input}
+use Rattle.program_input.specs.declared.ReadError.{ReadError}
+use Rattle.program_input.specs.declared.ReadError.TheVariants as error
 
 -- One read after the bytes that are held; `end` bytes are to be answered. `read` is 0 where there may be more, 1 at the end of the input, 2 where
 -- the buffer is full with no end of a line, 3 where the read failed. Which bytes are read is the operating system's.
@@ -16,3 +19,20 @@ pub record ReadMore (was : List ℕ) (held : ℕ) (is : List ℕ) (end read : �
 -- the bytes from `from` up to `end` stand at the front
 abbrev pub Kept : (was : List ℕ) (from end : ℕ) (is : List ℕ) → Type 0
 Kept was from end is = take (end - from) is ≡ take (end - from) (drop from was)
+
+-- what `read_more` answers, in these numbers
+abbrev pub end_of : Result Input ReadError → ℕ
+end_of (Ok input) = input.end
+end_of (Err e) = 0
+
+abbrev pub ended_or_more : Bool → ℕ
+ended_or_more true = 1
+ended_or_more false = 0
+
+abbrev pub error_of : ReadError → ℕ
+error_of error.Full = 2
+error_of error.Failed = 3
+
+abbrev pub read_of : Result Input ReadError → ℕ
+read_of (Ok input) = ended_or_more input.last
+read_of (Err e) = error_of e

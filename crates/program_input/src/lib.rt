@@ -2,58 +2,53 @@
 #![tactic(auto)]
 
 ghost use Rattle.std.specs.Prelude.{◌≤◌, length};
-ghost use Rattle.program_input.specs.Input.{ReadMore, Kept};
+ghost use Rattle.program_input.specs.Input.{ReadMore, Kept, end_of, read_of};
 
 use std::io::Read;
 
-// How a read ended: there may be more to read, or the input has ended, or the buffer is full with no end of a line, or the read failed.
-pub const MORE: u32 = 0;
+/// Why nothing was read.
+#[derive(Clone, Copy, Debug, PartialEq, Eq)]
+pub enum ReadError {
+    /// The buffer is full with no end of a line.
+    Full,
+    Failed,
+}
 
-pub const ENDED: u32 = 1;
-
-pub const FULL: u32 = 2;
-
-pub const FAILED: u32 = 3;
-
-// How many bytes of the buffer are to be answered.
-#[derive(Clone, Copy)]
+/// What was read.
+#[derive(Clone, Copy, Debug, PartialEq, Eq)]
 pub struct Input {
+    /// How many bytes of the buffer are to be answered.
     pub end: usize,
-    pub read: u32,
+    /// Whether the input has ended.
+    pub last: bool,
 }
 
 const NEWLINE: u8 = 10;
 
-// Reads once, after the bytes that are held. At the end of the input a newline ends its last line.
-pub fn read_more<R: Read>(input: &mut R, buffer: &mut [u8], held: usize) -> Input
-    ensures { ReadMore buffer.old held buffer.new result.end result.read }
+/// Reads once, after the bytes that are held. At the end of the input a newline ends its last line.
+pub fn read_more<R: Read>(input: &mut R, buffer: &mut [u8], held: usize) -> Result<Input, ReadError>
+    ensures { ReadMore buffer.old held buffer.new (end_of result) (read_of result) }
 {
     if buffer.len() <= held {
-        return Input { end: 0, read: FULL };
+        return Err(ReadError::Full);
     }
-    let more = match input.read(&mut buffer[held..]) {
-        Ok(count) => count,
-        Err(_) => {
-            return Input {
-                end: 0,
-                read: FAILED,
-            };
+    match input.read(&mut buffer[held..]) {
+        Ok(0) => {
+            buffer[held] = NEWLINE;
+            Ok(Input {
+                end: held + 1,
+                last: true,
+            })
         }
-    };
-    if more == 0 {
-        buffer[held] = NEWLINE;
-        return Input {
-            end: held + 1,
-            read: ENDED,
-        };
-    }
-    Input {
-        end: held + more,
-        read: MORE,
+        Ok(more) => Ok(Input {
+            end: held + more,
+            last: false,
+        }),
+        Err(_) => Err(ReadError::Failed),
     }
 }
 
-// Moves the bytes from `from` up to `end` to the front.
+/// Moves the bytes from `from` up to `end` to the front.
 pub fn keep_rest(buffer: &mut [u8], from: usize, end: usize)
     requires { end ≤ length buffer.old }
     ensures { Kept buffer.old from end buffer.new }

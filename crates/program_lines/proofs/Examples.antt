@@ -3,70 +3,72 @@
 use mathlib.Core.Path.{◌≡◌, refl}
 use mathlib.Core.List.{List, [], ◌∷◌}
 use Prim.Native.Nat.{ℕ}
+use Rattle.std.specs.Prelude.{Result, Ok, Err}
 use Rattle.program_words.specs.Words.{run_of, before_comment, without_return, text_of, pieces, words}
 use Rattle.program_words.specs.Number.{all_digits, decimal, number_of}
 use Rattle.program_words.specs.Stray.{stray_of, stray_from}
 use Rattle.program_arguments.specs.Arguments.{numbers_of}
 use Rattle.program_lines.specs.Line.{last_command_of, answer_command_of, later_command_of, command_of, arguments_of, line_of, numbers_read, line_in}
 use Rattle.program_arguments.specs.declared.Command.TheVariants as command
+use Rattle.program_arguments.specs.declared.Reason.{Reason}
 use Rattle.program_arguments.specs.declared.Reason.TheVariants as reason
 use Rattle.program_lines.specs.declared.Line.{Line}
 use Rattle.program_lines.specs.declared.Line.TheVariants as line
 
-abbrev read : List ℕ → Line
+abbrev read : List ℕ → Result Line Reason
 read s = line_of (words (text_of s))
 
 -- "range  3 252 # 1\r"
 abbrev range_line : List ℕ
 range_line = 114 ∷ 97 ∷ 110 ∷ 103 ∷ 101 ∷ 32 ∷ 32 ∷ 51 ∷ 32 ∷ 50 ∷ 53 ∷ 50 ∷ 32 ∷ 35 ∷ 32 ∷ 49 ∷ 13 ∷ []
 
-range-line : (read range_line ≡ line.Range 3 252) × (numbers_read (words (text_of range_line)) ≡ 3 ∷ 252 ∷ [])
+range-line : (read range_line ≡ Ok (line.Range 3 252)) × (numbers_read (words (text_of range_line)) ≡ 3 ∷ 252 ∷ [])
 unfolding run_of before_comment without_return pieces words all_digits decimal number_of last_command_of answer_command_of later_command_of command_of numbers_of arguments_of
 range-line = (refl, refl)
 
 -- "\ttype 8 0 2": words left off are 0
-type-line : read (9 ∷ 116 ∷ 121 ∷ 112 ∷ 101 ∷ 32 ∷ 56 ∷ 32 ∷ 48 ∷ 32 ∷ 50 ∷ []) ≡ line.TypeRecord 8 0 2 0 0 0
+type-line : read (9 ∷ 116 ∷ 121 ∷ 112 ∷ 101 ∷ 32 ∷ 56 ∷ 32 ∷ 48 ∷ 32 ∷ 50 ∷ []) ≡ Ok (line.TypeRecord 8 0 2 0 0 0)
 unfolding run_of before_comment without_return pieces words all_digits decimal number_of last_command_of answer_command_of later_command_of command_of numbers_of arguments_of
 type-line = refl
 
 -- " # x" does nothing
-comment_line : read (32 ∷ 35 ∷ 32 ∷ 120 ∷ []) ≡ line.Nothing
+comment_line : read (32 ∷ 35 ∷ 32 ∷ 120 ∷ []) ≡ Ok line.Nothing
 unfolding run_of before_comment without_return pieces words
 comment_line = refl
 
 -- "caps 4294967296" and "caps 1x"
-large_line : read (99 ∷ 97 ∷ 112 ∷ 115 ∷ 32 ∷ 52 ∷ 50 ∷ 57 ∷ 52 ∷ 57 ∷ 54 ∷ 55 ∷ 50 ∷ 57 ∷ 54 ∷ []) ≡ line.Wrong (reason.TooLarge 2)
+large_line : read (99 ∷ 97 ∷ 112 ∷ 115 ∷ 32 ∷ 52 ∷ 50 ∷ 57 ∷ 52 ∷ 57 ∷ 54 ∷ 55 ∷ 50 ∷ 57 ∷ 54 ∷ []) ≡ Err (reason.TooLarge 2)
 unfolding run_of before_comment without_return pieces words all_digits decimal number_of last_command_of answer_command_of later_command_of command_of numbers_of arguments_of
 large_line = refl
 
-word_line : read (99 ∷ 97 ∷ 112 ∷ 115 ∷ 32 ∷ 49 ∷ 120 ∷ []) ≡ line.Wrong (reason.NotANumber 2)
+word_line : read (99 ∷ 97 ∷ 112 ∷ 115 ∷ 32 ∷ 49 ∷ 120 ∷ []) ≡ Err (reason.NotANumber 2)
 unfolding run_of before_comment without_return pieces words all_digits decimal number_of last_command_of answer_command_of later_command_of command_of numbers_of arguments_of
 word_line = refl
 
 -- "check 1" and "chec"
-check_line : read (99 ∷ 104 ∷ 101 ∷ 99 ∷ 107 ∷ 32 ∷ 49 ∷ []) ≡ line.Wrong (reason.Usage command.Check)
+check_line : read (99 ∷ 104 ∷ 101 ∷ 99 ∷ 107 ∷ 32 ∷ 49 ∷ []) ≡ Err (reason.Usage command.Check)
 unfolding run_of before_comment without_return pieces words all_digits decimal number_of last_command_of answer_command_of later_command_of command_of numbers_of arguments_of
 check_line = refl
 
-unknown_line : read (99 ∷ 104 ∷ 101 ∷ 99 ∷ []) ≡ line.Wrong (reason.Usage command.Unknown)
+unknown_line : read (99 ∷ 104 ∷ 101 ∷ 99 ∷ []) ≡ Err (reason.Usage command.Unknown)
 unfolding run_of before_comment without_return pieces words all_digits decimal number_of last_command_of answer_command_of later_command_of command_of numbers_of arguments_of
 unknown_line = refl
 
 -- ---- bytes that no line may hold, before any word is looked at
 -- a byte order mark before "check", in UTF-8 and in UTF-16 of either order
-mark_line : (line_in (239 ∷ 187 ∷ 191 ∷ 99 ∷ 104 ∷ 101 ∷ 99 ∷ 107 ∷ []) ≡ line.Wrong reason.ByteOrderMark)
-    × (line_in (255 ∷ 254 ∷ 99 ∷ 0 ∷ []) ≡ line.Wrong reason.ByteOrderMark)
-    × (line_in (254 ∷ 255 ∷ 0 ∷ 99 ∷ []) ≡ line.Wrong reason.ByteOrderMark)
+mark_line : (line_in (239 ∷ 187 ∷ 191 ∷ 99 ∷ 104 ∷ 101 ∷ 99 ∷ 107 ∷ []) ≡ Err reason.ByteOrderMark)
+    × (line_in (255 ∷ 254 ∷ 99 ∷ 0 ∷ []) ≡ Err reason.ByteOrderMark)
+    × (line_in (254 ∷ 255 ∷ 0 ∷ 99 ∷ []) ≡ Err reason.ByteOrderMark)
 unfolding stray_of stray_from
 mark_line = (refl, refl, refl)
 
 -- "#" and a NUL; "check", a return and "clear"
-stray_line : (line_in (35 ∷ 0 ∷ []) ≡ line.Wrong reason.Nul)
-    × (line_in (99 ∷ 104 ∷ 101 ∷ 99 ∷ 107 ∷ 13 ∷ 99 ∷ 108 ∷ 101 ∷ 97 ∷ 114 ∷ []) ≡ line.Wrong reason.Return)
+stray_line : (line_in (35 ∷ 0 ∷ []) ≡ Err reason.Nul)
+    × (line_in (99 ∷ 104 ∷ 101 ∷ 99 ∷ 107 ∷ 13 ∷ 99 ∷ 108 ∷ 101 ∷ 97 ∷ 114 ∷ []) ≡ Err reason.Return)
 unfolding stray_of stray_from
 stray_line = (refl, refl)
 
 -- "check" and a return; a comment with a full-width 1, which begins as the mark does
-plain_line : (line_in (99 ∷ 104 ∷ 101 ∷ 99 ∷ 107 ∷ 13 ∷ []) ≡ line.Check) × (line_in (35 ∷ 239 ∷ 188 ∷ 145 ∷ []) ≡ line.Nothing)
+plain_line : (line_in (99 ∷ 104 ∷ 101 ∷ 99 ∷ 107 ∷ 13 ∷ []) ≡ Ok line.Check) × (line_in (35 ∷ 239 ∷ 188 ∷ 145 ∷ []) ≡ Ok line.Nothing)
 unfolding stray_of stray_from run_of before_comment without_return pieces words all_digits decimal number_of last_command_of answer_command_of later_command_of command_of numbers_of arguments_of
 plain_line = (refl, refl)

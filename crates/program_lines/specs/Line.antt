@@ -1,6 +1,6 @@
 -- What a line says, by its bytes and its words: the command and the numbers after it.
 -- Assumes nothing.
-use Rattle.std.specs.Prelude.{◌≡◌, Bool, List, [], ◌∷◌, ℕ, ◌-◌, nat_eq, leb, length, get_or, take, Option, Some, None}
+use Rattle.std.specs.Prelude.{◌≡◌, Bool, List, [], ◌∷◌, ℕ, ◌-◌, nat_eq, leb, length, get_or, take, Option, Some, None, Result, Ok, Err}
 use Rattle.std.specs.Cmp.Lexicographic.{pointwise}
 use Rattle.ir_records.specs.Result.{pick}
 use Rattle.program_words.specs.Words.{text_of, words}
@@ -9,6 +9,7 @@ use Rattle.program_words.specs.declared.Stray.{Stray}
 use Rattle.program_arguments.specs.Arguments.{Arguments, read, wrong, reason_of_stray, numbers_of}
 use Rattle.program_arguments.specs.declared.Command.{Command}
 use Rattle.program_arguments.specs.declared.Command.TheVariants as command
+use Rattle.program_arguments.specs.declared.Reason.{Reason}
 use Rattle.program_arguments.specs.declared.Reason.TheVariants as reason
 use Rattle.program_lines.specs.declared.Line.{Line}
 use Rattle.program_lines.specs.declared.Line.TheVariants as line
@@ -139,12 +140,12 @@ line_by command.Clear ns = line.Clear
 line_by command.Order ns = line.Order (get_or ns 0 0) (length ns - 1)
 line_by command.Unknown ns = line.Nothing
 
-abbrev pub line_with : Command → Arguments → Line
-line_with c (read ns) = line_by c ns
-line_with c (wrong r) = line.Wrong r
+abbrev pub line_with : Command → Arguments → Result Line Reason
+line_with c (read ns) = Ok (line_by c ns)
+line_with c (wrong r) = Err r
 
-abbrev pub line_of : List (List ℕ) → Line
-line_of [] = line.Nothing
+abbrev pub line_of : List (List ℕ) → Result Line Reason
+line_of [] = Ok line.Nothing
 line_of (w ∷ ws) = line_with (command_of w) (arguments_of (command_of w) ws)
 
 -- the numbers of a line that is read
@@ -153,11 +154,11 @@ numbers_read [] = []
 numbers_read (w ∷ ws) = list_of (arguments_of (command_of w) ws)
 
 -- ---- a line of bytes: a byte that no line may hold, or what its words say
-abbrev pub line_unless : Option Stray → List (List ℕ) → Line
+abbrev pub line_unless : Option Stray → List (List ℕ) → Result Line Reason
 line_unless None ws = line_of ws
-line_unless (Some s) ws = line.Wrong (reason_of_stray s)
+line_unless (Some s) ws = Err (reason_of_stray s)
 
-abbrev pub line_in : List ℕ → Line
+abbrev pub line_in : List ℕ → Result Line Reason
 line_in s = line_unless (stray_in s) (words (text_of s))
 
 abbrev pub numbers_unless : Option Stray → List (List ℕ) → List ℕ

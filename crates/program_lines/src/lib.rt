@@ -7,6 +7,7 @@ ghost use Rattle.program_lines.specs.Line.{last_command_of, answer_command_of, l
 
 use program_arguments::{Command, Reason};
 
+/// What a line says. What asks for nothing is `Nothing`.
 #[derive(Clone, Copy, Debug, PartialEq, Eq)]
 pub enum Line {
     Nothing,
@@ -65,108 +66,46 @@ pub enum Line {
         span: u32,
         given: u32,
     },
-    Wrong(Reason),
-}
-
-// pass, set, choose, run, clear and order.
-#[tactic(auto, unfolding(crate::specs::Line::last_command_of))]
-fn last_command_of(word: &[u8]) -> Command
-    ensures { result ≡ last_command_of word.now }
-{
-    if word == b"pass".as_slice() {
-        return Command::Pass;
-    }
-    if word == b"set".as_slice() {
-        return Command::SetRange;
-    }
-    if word == b"choose".as_slice() {
-        return Command::Choose;
-    }
-    if word == b"run".as_slice() {
-        return Command::Run;
-    }
-    if word == b"clear".as_slice() {
-        return Command::Clear;
-    }
-    if word == b"order".as_slice() {
-        return Command::Order;
-    }
-    Command::Unknown
-}
-
-// range, place, short, report, plain, and those above.
-#[tactic(auto, unfolding(crate::specs::Line::answer_command_of))]
-fn answer_command_of(word: &[u8]) -> Command
-    ensures { result ≡ answer_command_of word.now }
-{
-    if word == b"range".as_slice() {
-        return Command::Range;
-    }
-    if word == b"place".as_slice() {
-        return Command::Place;
-    }
-    if word == b"short".as_slice() {
-        return Command::Short;
-    }
-    if word == b"report".as_slice() {
-        return Command::Report;
-    }
-    if word == b"plain".as_slice() {
-        return Command::Plain;
-    }
-    last_command_of(word)
-}
-
-// layout, judge, check, members, slots, and those above.
-#[tactic(auto, unfolding(crate::specs::Line::later_command_of))]
-fn later_command_of(word: &[u8]) -> Command
-    ensures { result ≡ later_command_of word.now }
-{
-    if word == b"layout".as_slice() {
-        return Command::Layout;
-    }
-    if word == b"judge".as_slice() {
-        return Command::Judge;
-    }
-    if word == b"check".as_slice() {
-        return Command::Check;
-    }
-    if word == b"members".as_slice() {
-        return Command::Members;
-    }
-    if word == b"slots".as_slice() {
-        return Command::Slots;
-    }
-    answer_command_of(word)
 }
 
 /// The command that a word is, by its bytes.
-#[tactic(auto, unfolding(crate::specs::Line::command_of))]
+#[tactic(auto, unfolding(crate::specs::Line::command_of, crate::specs::Line::later_command_of, crate::specs::Line::answer_command_of, crate::specs::Line::last_command_of))]
 pub fn command_of(word: &[u8]) -> Command
     ensures { result ≡ command_of word.now }
 {
-    if word == b"caps".as_slice() {
-        return Command::Capabilities;
+    match word {
+        b"caps" => Command::Capabilities,
+        b"rule" => Command::Rule,
+        b"type" => Command::TypeRecord,
+        b"member" => Command::MemberRecord,
+        b"layout" => Command::Layout,
+        b"judge" => Command::Judge,
+        b"check" => Command::Check,
+        b"members" => Command::Members,
+        b"slots" => Command::Slots,
+        b"range" => Command::Range,
+        b"place" => Command::Place,
+        b"short" => Command::Short,
+        b"report" => Command::Report,
+        b"plain" => Command::Plain,
+        b"pass" => Command::Pass,
+        b"set" => Command::SetRange,
+        b"choose" => Command::Choose,
+        b"run" => Command::Run,
+        b"clear" => Command::Clear,
+        b"order" => Command::Order,
+        _ => Command::Unknown,
     }
-    if word == b"rule".as_slice() {
-        return Command::Rule;
-    }
-    if word == b"type".as_slice() {
-        return Command::TypeRecord;
-    }
-    if word == b"member".as_slice() {
-        return Command::MemberRecord;
-    }
-    later_command_of(word)
 }
 
 // The fewest and the most numbers that a command takes. No count of numbers is right after a word that is no command.
-#[derive(Clone, Copy)]
+#[derive(Clone, Copy, Debug, PartialEq, Eq)]
 struct Usage {
     least: u32,
     most: u32,
 }
 
+// Kept: each arm is a command's row, under its name; a table by the command's number would say the same with the names beside it in comments.
 fn usage_of(command: Command) -> Usage
     ensures { (result.least ≡ least_of command) × (result.most ≡ most_of command) × (result.most ≤ 1025) }
 {
@@ -205,6 +144,7 @@ fn usage_of(command: Command) -> Usage
 }
 
 // A command with the numbers after it, of which there are as many as it takes.
+// Kept: each command has numbers of its own, so a match says which ones; a conversion for each command would be a function of one line.
 fn line_by(command: Command, numbers: &[u32]) -> Line
     requires { (least_of command ≤ length numbers.now) × (length numbers.now ≤ 1025) }
     ensures { result ≡ line_by command numbers.now }
@@ -258,33 +198,29 @@ fn line_by(command: Command, numbers: &[u32]) -> Line
 }
 
 // A command, with its numbers from `at` on.
-fn read_command(s: &[u8], at: usize, command: Command, numbers: &mut [u32]) -> Line
+fn read_command(s: &[u8], at: usize, command: Command, numbers: &mut [u32]) -> Result<Line, Reason>
     requires at_in_bounds { at ≤ length s.now }
     requires in_bounds { 1025 ≤ length numbers.old }
     ensures value { result ≡ line_with command (arguments_of command (words (drop at s.now))) }
     ensures holds { Holds numbers.new (list_of (arguments_of command (words (drop at s.now)))) }
 {
     let usage = usage_of(command);
-    match program_arguments::read_numbers(s, at, command, usage.most, numbers) {
-        Ok(count) => {
-            if count < usage.least {
-                return Line::Wrong(Reason::Usage(command));
-            }
-            line_by(command, &numbers[..count as usize])
-        }
-        Err(reason) => Line::Wrong(reason),
+    let count = program_arguments::read_numbers(s, at, command, usage.most, numbers)?;
+    if count < usage.least {
+        return Err(Reason::Usage(command));
     }
+    Ok(line_by(command, &numbers[..count as usize]))
 }
 
 // What the words of a line say.
-fn read_words(line: &[u8], numbers: &mut [u32]) -> Line
+fn read_words(line: &[u8], numbers: &mut [u32]) -> Result<Line, Reason>
     requires { 1025 ≤ length numbers.old }
     ensures value { result ≡ line_of (words (text_of line.now)) }
     ensures holds { Holds numbers.new (numbers_read (words (text_of line.now))) }
 {
     let s = program_words::text_of(line);
     match program_words::next_word(s, 0) {
-        None => Line::Nothing,
+        None => Ok(Line::Nothing),
         Some(word) => {
             let command = command_of(&s[word.start..word.end]);
             read_command(s, word.end, command, numbers)
@@ -293,13 +229,13 @@ fn read_words(line: &[u8], numbers: &mut [u32]) -> Line
 }
 
 /// What a line says. Its numbers are left in the lent words.
-pub fn read_line(line: &[u8], numbers: &mut [u32]) -> Line
+pub fn read_line(line: &[u8], numbers: &mut [u32]) -> Result<Line, Reason>
     requires { 1025 ≤ length numbers.old }
     ensures value { result ≡ line_in line.now }
     ensures holds { Holds numbers.new (line_numbers line.now) }
 {
     match program_words::stray_in(line) {
         None => read_words(line, numbers),
-        Some(stray) => Line::Wrong(Reason::from(stray)),
+        Some(stray) => Err(Reason::from(stray)),
     }
 }

@@ -8,6 +8,11 @@ use Rattle.immediates_ranges.specs.Answer.{SlotsAnswer}
 use Rattle.immediates_ranges.specs.Answer as slots
 use Rattle.program_arguments.specs.declared.Command.{Command}
 use Rattle.program_arguments.specs.declared.Command.TheVariants as command
+use Rattle.program_arguments.specs.declared.Reason.{Reason}
+use Rattle.program_arguments.specs.declared.Reason.TheVariants as reason
+use Rattle.program_input.specs.Input.{error_of}
+use Rattle.program_output.specs.declared.Stop.{Stop}
+use Rattle.program_output.specs.declared.Stop.TheVariants as stop
 use Rattle.program_output.specs.Bytes.{ascii, line_at, number, named, newline, words_line, row_lines, report_lines}
 
 abbrev pub refusal_line : (number ty member detail : ℕ) → List ℕ
@@ -62,6 +67,36 @@ usage_line command.Run = 28
 usage_line command.Clear = 29
 usage_line command.Order = 30
 usage_line command.Unknown = 31
+
+-- the line of why a line cannot be read
+abbrev pub reason_line : Reason → ℕ
+reason_line (reason.NotANumber word) = 4
+reason_line (reason.TooLarge word) = 5
+reason_line (reason.Usage command) = usage_line command
+reason_line reason.ByteOrderMark = 8
+reason_line reason.Nul = 9
+reason_line reason.Return = 10
+
+abbrev pub why_of : Stop → ℕ
+why_of (stop.Input e) = error_of e
+why_of stop.TypesFull = 6
+why_of stop.MembersFull = 7
+why_of (stop.Line r) = reason_line r
+
+-- the number of the word that is wrong, or 0
+abbrev pub wrong_word : Reason → ℕ
+wrong_word (reason.NotANumber word) = word
+wrong_word (reason.TooLarge word) = word
+wrong_word (reason.Usage command) = 0
+wrong_word reason.ByteOrderMark = 0
+wrong_word reason.Nul = 0
+wrong_word reason.Return = 0
+
+abbrev pub word_of : Stop → ℕ
+word_of (stop.Input e) = 0
+word_of stop.TypesFull = 0
+word_of stop.MembersFull = 0
+word_of (stop.Line r) = wrong_word r
 
 abbrev pub word_part : (word : ℕ) → List ℕ
 word_part word = pick (ltb 0 word) (named (ascii ": word") word) []

@@ -4,6 +4,7 @@ use Rattle.std.specs.Prelude.{◌≡◌, List, [], ◌∷◌, ◌++◌, ℕ, zer
 use Prim.Native.Char.{code}
 use Prim.Native.String.{String, [] as none, ◌∷◌ as ◌then◌}
 use Rattle.ir_records.specs.Result.{pick}
+use Rattle.program_output.specs.declared.Output.{Output}
 
 -- ---- the buffer
 -- how many bytes it has room for
@@ -20,6 +21,10 @@ pub record Puts (was : List ℕ) (at : ℕ) (bytes is : List ℕ) (end : ℕ) : 
   pub ends : end ≡ after at (length bytes)
   pub keeps : length is ≡ length was
   pub holds : length was ≡ room → take end is ≡ take room (take at was ++ bytes)
+
+-- the same of an output: the bytes stand after those that wait
+abbrev pub Adds : Output → List ℕ → Output → Type 0
+Adds was bytes is = Puts was.bytes was.end bytes is.bytes is.end
 
 -- ---- texts
 -- the bytes of a text in ASCII

@@ -1,68 +1,54 @@
 // The records of an arena as lines that `inspect` takes.
 #![tactic(auto)]
 
-ghost use Rattle.program_output.specs.Bytes.{Puts, joined};
-ghost use Rattle.program_record_lines.specs.Lines.{type_line, member_line, record_lines};
+ghost use Rattle.std.specs.Prelude.{◌≤◌};
+ghost use Rattle.program_output.specs.Bytes.{Adds, joined};
+ghost use Rattle.program_record_lines.specs.Lines.{record_line, record_lines};
 
-use program_output::Buffer;
+use ir_records::Records;
+use program_output::Output;
 
-// Type record i.
-fn put_type(out: &mut Buffer, at: usize, types: &[u32], i: u32) -> usize
-    ensures { Puts out.old at (type_line types.now i) out.new result }
+// Record i of WIDTH words: the head and the record's first SHOWN words, where they are there.
+#[tactic(auto, unfolding(crate::specs::Lines::record_line))]
+fn put_record<const WIDTH: usize, const SHOWN: usize>(
+    out: &mut Output,
+    head: &[u8],
+    words: &[u32],
+    i: u32,
+)
+    requires { (WIDTH ≤ 6) × (SHOWN ≤ 6) }
+    ensures { Adds out.old (record_line head.now WIDTH SHOWN words.now i) out.new }
 {
-    let first = (i as usize) * ir_records::TYPE_WORDS;
-    let last = first + ir_records::TYPE_WORDS;
-    if last <= types.len() {
-        return program_output::put_words(out, at, b"type", &types[first..last]);
+    let first = (i as usize) * WIDTH;
+    let last = first + SHOWN;
+    if last <= words.len() {
+        out.put_words(head, &words[first..last]);
     }
-    at
 }
 
-// Member record i, with type and offset: there is no location and no blend source.
-fn put_member(out: &mut Buffer, at: usize, members: &[u32], i: u32) -> usize
-    ensures { Puts out.old at (member_line members.now i) out.new result }
-{
-    let first = (i as usize) * ir_records::MEMBER_WORDS;
-    let last = first + 2;
-    if last <= members.len() {
-        return program_output::put_words(out, at, b"member", &members[first..last]);
-    }
-    at
-}
-
-// A line for each of the first n type records.
-fn put_types(out: &mut Buffer, at: usize, types: &[u32], n: u32) -> usize
-    ensures { Puts out.old at (joined (type_line types.now) n) out.new result }
-{
-    let mut end = at;
-    for i in 0..n {
-        end = put_type(out, end, types, i);
-    }
-    end
-}
-
-// A line for each of the first n member records.
-fn put_members(out: &mut Buffer, at: usize, members: &[u32], n: u32) -> usize
-    ensures { Puts out.old at (joined (member_line members.now) n) out.new result }
-{
-    let mut end = at;
-    for i in 0..n {
-        end = put_member(out, end, members, i);
-    }
-    end
-}
-
-// The first n type records, then the first m member records.
-pub fn put_records(
-    out: &mut Buffer,
-    at: usize,
-    types: &[u32],
+// Kept: a reader says how many records it made, and the definition `record_lines` takes the table with that number.
+// A line for each of the first n records.
+fn put_lines<const WIDTH: usize, const SHOWN: usize>(
+    out: &mut Output,
+    head: &[u8],
+    words: &[u32],
     n: u32,
-    members: &[u32],
-    m: u32,
-) -> usize
-    ensures { Puts out.old at (record_lines types.now n members.now m) out.new result }
+)
+    requires { (WIDTH ≤ 6) × (SHOWN ≤ 6) }
+    ensures { Adds out.old (joined (record_line head.now WIDTH SHOWN words.now) n) out.new }
 {
-    let end = put_types(out, at, types, n);
-    put_members(out, end, members, m)
+    for i in 0..n {
+        put_record::<WIDTH, SHOWN>(out, head, words, i);
+    }
+}
+
+/// The first type records, then the first member records, as many of each as were read. A member's line has its type and its offset: there is no
+/// location and no blend source.
+pub fn put_records(out: &mut Output, types: &[u32], members: &[u32], read: Records)
+    ensures { Adds out.old (record_lines types.now read.types members.now read.members) out.new }
+{
+    put_lines::<{ ir_records::TYPE_WORDS }, { ir_records::TYPE_WORDS }>(
+        out, b"type", types, read.types,
+    );
+    put_lines::<{ ir_records::MEMBER_WORDS }, 2>(out, b"member", members, read.members);
 }

@@ -1,305 +1,157 @@
 // The answer to a line.
-ghost use Rattle.std.specs.Prelude.{◌≡◌, length};
-
-use immediates_pass::Tried;
+use immediates_pass::Pass;
 use ir_records::Refusal;
 use place_descent::Place;
 use program_commands::{Arena, Rows, Session};
 use program_lines::Line;
-use program_output::Buffer;
+use program_output::Output;
 use valid_type_info::UniformRule;
 
-fn put_rows(
-    out: &mut Buffer,
-    at: usize,
-    outcome: Result<(), Refusal>,
-    types: &[u32],
-    rows: &Rows,
-) -> usize {
-    let end = ir_records::type_count(types) * ir_records::ROW_WORDS;
-    program_output::put_outcome(out, at, outcome, program_commands::part(rows, 0, end))
+/// A session, and the memory that it works in. It is not Copy: a copy of so much memory would be a mistake.
+#[derive(Drop)]
+pub struct Program {
+    pub session: Session,
+    pub arena: Arena,
+    pub rows: Rows,
+    pub out: Output,
 }
 
-fn put_layout(
-    out: &mut Buffer,
-    at: usize,
-    types: &[u32],
-    members: &[u32],
-    rows: &mut Rows,
-) -> usize {
-    let outcome = proc_layouter::layout(types, members, rows);
-    put_rows(out, at, outcome, types, rows)
-}
-
-fn put_judge(
-    out: &mut Buffer,
-    at: usize,
-    types: &[u32],
-    members: &[u32],
+/// The records of an arena, and what they are judged by.
+#[derive(Clone, Copy)]
+struct Tables<'a> {
+    types: &'a [u32],
+    members: &'a [u32],
     capabilities: u32,
     rule: UniformRule,
-    rows: &mut Rows,
-) -> usize {
-    let outcome = valid_arena::judge(types, members, capabilities, rule, rows);
-    put_rows(out, at, outcome, types, rows)
 }
 
-fn put_check(
-    out: &mut Buffer,
-    at: usize,
-    types: &[u32],
-    members: &[u32],
-    capabilities: u32,
-    rule: UniformRule,
-    rows: &mut Rows,
-) -> usize {
-    let outcome = valid_arena::check(types, members, capabilities, rule, rows);
-    put_rows(out, at, outcome, types, rows)
-}
-
-fn put_slots(
-    out: &mut Buffer,
-    at: usize,
-    types: &[u32],
-    members: &[u32],
-    capabilities: u32,
-    rule: UniformRule,
-    rows: &mut Rows,
-    ty: u32,
-    offset: u32,
-) -> usize {
-    let answer = immediates_slots::immediate_slots(
-        types,
-        members,
-        capabilities,
-        rule,
-        rows,
-        ty,
-        offset,
-    );
-    program_output::put_slots(out, at, answer)
-}
-
-fn put_found(out: &mut Buffer, at: usize, found: Result<Place, Refusal>) -> usize {
-    match found {
-        Ok(place) => program_output::put_place(out, at, place.byte, place.leaf),
-        Err(refusal) => program_output::put_refusal(out, at, refusal),
-    }
-}
-
-fn put_place(
-    out: &mut Buffer,
-    at: usize,
-    types: &[u32],
-    members: &[u32],
-    capabilities: u32,
-    rule: UniformRule,
-    rows: &mut Rows,
-    start: u32,
-    steps: &[u32],
-) -> usize {
-    let found = place_lookup::lookup(types, members, capabilities, rule, rows, start, steps);
-    put_found(out, at, found)
-}
-
-// The same by three words for each type; they take the first words of the rows.
-fn put_short(
-    out: &mut Buffer,
-    at: usize,
-    types: &[u32],
-    members: &[u32],
-    capabilities: u32,
-    rows: &mut Rows,
-    start: u32,
-    steps: &[u32],
-) -> usize {
-    let found = place_short::lookup(types, members, capabilities, rows, start, steps);
-    put_found(out, at, found)
-}
-
-// The first words of a report.
-fn first_words(report: &[u64], count: usize) -> &[u64] {
-    report.get(..count).unwrap_or(&[])
-}
-
-fn put_report(
-    out: &mut Buffer,
-    at: usize,
-    types: &[u32],
-    members: &[u32],
-    capabilities: u32,
-    rule: UniformRule,
-    rows: &mut Rows,
-) -> usize {
-    let mut words = [0u64; 2048];
-    match place_report::report(types, members, capabilities, rule, rows, &mut words) {
-        Ok(totals) => {
-            let own = first_words(&words, ir_records::type_count(types) * 2);
-            program_output::put_report(out, at, totals.carried, totals.wasted, own)
+impl<'a> Tables<'a> {
+    fn of(s: Session, arena: &'a [u32]) -> Tables<'a> {
+        Tables {
+            types: program_commands::part(arena, 0, s.types),
+            members: program_commands::part(arena, program_commands::MEMBERS_AT, s.members),
+            capabilities: valid_rule_word::capabilities_by(s.rule, s.capabilities),
+            rule: valid_rule_word::rule_of(s.rule),
         }
-        Err(refusal) => program_output::put_refusal(out, at, refusal),
     }
 }
 
-fn put_plain(out: &mut Buffer, at: usize, shape: u32, width: u32) -> usize {
+fn put_judged(judged: Result<(), Refusal>, types: &[u32], rows: &Rows, out: &mut Output) {
+    let end = ir_records::type_count(types) * ir_records::ROW_WORDS;
+    out.put_judged(judged, program_commands::part(rows, 0, end));
+}
+
+fn put_place(found: Result<Place, Refusal>, out: &mut Output) {
+    match found {
+        Ok(place) => out.put_place(place.byte, place.leaf),
+        Err(refusal) => out.put_refusal(refusal),
+    }
+}
+
+fn put_report(t: Tables, rows: &mut Rows, out: &mut Output) {
+    let mut words = [0u64; 2048];
+    match place_report::report(t.types, t.members, t.capabilities, t.rule, rows, &mut words) {
+        Ok(totals) => {
+            let own = words
+                .get(..ir_records::type_count(t.types) * 2)
+                .unwrap_or(&[]);
+            out.put_report(totals.carried, totals.wasted, own);
+        }
+        Err(refusal) => out.put_refusal(refusal),
+    }
+}
+
+fn put_plain(shape: u32, width: u32, out: &mut Output) {
     match proc_plain_types::plain(shape, width) {
-        Ok(plain) => program_output::put_plain(out, at, plain.size, plain.alignment, plain.step),
-        Err(refusal) => program_output::put_refusal(out, at, refusal),
+        Ok(plain) => out.put_plain(plain.size, plain.alignment, plain.step),
+        Err(refusal) => out.put_refusal(refusal),
     }
 }
 
-// The step of a pass that a line asks for; any other line is tried as a dispatch, which leaves the pass.
-fn step_of(line: Line, session: Session, arena: &[u32], rows: &mut Rows) -> Tried {
-    let pass = session.pass;
-    let types = program_commands::part(arena, 0, session.types);
-    let members = program_commands::part(arena, program_commands::MEMBERS_AT, session.members);
+// Tries the step of a pass that a line asks for, and gives the pass after it; any other line leaves the pass.
+fn try_step(line: Line, pass: Pass, t: Tables, rows: &mut Rows, out: &mut Output) -> Pass {
     match line {
-        Line::SetRange { offset, size } => immediates_pass::set_range(pass, offset, size),
-        Line::Choose(ty) => immediates_pass::choose(
-            pass,
-            types,
-            members,
-            valid_rule_word::capabilities_by(session.rule, session.capabilities),
-            valid_rule_word::rule_of(session.rule),
-            rows,
-            ty,
-        ),
-        _ => immediates_pass::dispatch(pass),
+        Line::SetRange { offset, size } => {
+            let tried = immediates_pass::set_range(pass, offset, size);
+            out.put_step(b"set", tried.pass.set, tried.outcome);
+            tried.pass
+        }
+        Line::Choose(ty) => {
+            let tried = immediates_pass::choose(
+                pass,
+                t.types,
+                t.members,
+                t.capabilities,
+                t.rule,
+                rows,
+                ty,
+            );
+            out.put_step(b"needs", tried.pass.needed, tried.outcome);
+            tried.pass
+        }
+        Line::Run => {
+            let tried = immediates_pass::dispatch(pass);
+            out.put_dispatch(tried.outcome, tried.missing);
+            tried.pass
+        }
+        _ => pass,
     }
 }
 
-// Puts the answer to a step of a pass; any other line puts nothing.
-fn put_step(line: Line, tried: Tried, at: usize, out: &mut Buffer) -> usize {
-    let pass = tried.pass;
-    let outcome = tried.outcome;
-    match line {
-        Line::SetRange { offset: _, size: _ } => program_output::put_step(
-            out, at, b"set", pass.set, outcome,
-        ),
-        Line::Choose(_) => program_output::put_step(out, at, b"needs", pass.needed, outcome),
-        Line::Run => program_output::put_dispatch(out, at, outcome, tried.missing),
-        _ => at,
-    }
+// The numbers of a line after its first.
+fn later(numbers: &[u32], count: u32) -> &[u32] {
+    program_commands::part(numbers, 1, count as usize + 1)
 }
 
 // Puts what a line asks for; any other puts nothing.
-fn put_answer(
-    line: Line,
-    numbers: &[u32],
-    session: Session,
-    arena: &[u32],
-    rows: &mut Rows,
-    out: &mut Buffer,
-) -> usize {
-    let at = session.waiting;
-    let capabilities = valid_rule_word::capabilities_by(session.rule, session.capabilities);
-    let rule = valid_rule_word::rule_of(session.rule);
-    let types = program_commands::part(arena, 0, session.types);
-    let members = program_commands::part(arena, program_commands::MEMBERS_AT, session.members);
+// Kept: each kind of line has an answer of its own, and the match says which.
+fn put_answer(line: Line, numbers: &[u32], t: Tables, rows: &mut Rows, out: &mut Output) {
     match line {
-        Line::Layout => put_layout(out, at, types, members, rows),
-        Line::Judge => put_judge(out, at, types, members, capabilities, rule, rows),
-        Line::Check => put_check(out, at, types, members, capabilities, rule, rows),
-        Line::Members(ty) => program_output::put_members(
-            out,
-            at,
-            ir_records::struct_members(types, members, ty),
-        ),
-        Line::Slots { ty, offset } => put_slots(
-            out,
-            at,
-            types,
-            members,
-            capabilities,
-            rule,
+        Line::Layout => {
+            let laid = proc_layouter::layout(t.types, t.members, rows);
+            put_judged(laid, t.types, rows, out);
+        }
+        Line::Judge => {
+            let judged = valid_arena::judge(t.types, t.members, t.capabilities, t.rule, rows);
+            put_judged(judged, t.types, rows, out);
+        }
+        Line::Check => {
+            let judged = valid_arena::check(t.types, t.members, t.capabilities, t.rule, rows);
+            put_judged(judged, t.types, rows, out);
+        }
+        Line::Members(ty) => out.put_members(ir_records::struct_members(t.types, t.members, ty)),
+        Line::Slots { ty, offset } => out.put_slots(immediates_slots::immediate_slots(
+            t.types,
+            t.members,
+            t.capabilities,
+            t.rule,
             rows,
             ty,
             offset,
-        ),
-        Line::Range { offset, size } => program_output::put_slots(
-            out,
-            at,
-            immediates_ranges::range(offset, size),
-        ),
+        )),
+        Line::Range { offset, size } => out.put_slots(immediates_ranges::range(offset, size)),
         Line::Place { start, steps } => {
-            put_place(
-                out,
-                at,
-                types,
-                members,
-                capabilities,
-                rule,
+            let steps = later(numbers, steps);
+            let found = place_lookup::lookup(
+                t.types,
+                t.members,
+                t.capabilities,
+                t.rule,
                 rows,
                 start,
-                program_commands::part(numbers, 1, steps as usize + 1),
-            )
-        }
-        Line::Short { start, steps } => {
-            put_short(
-                out,
-                at,
-                types,
-                members,
-                capabilities,
-                rows,
-                start,
-                program_commands::part(numbers, 1, steps as usize + 1),
-            )
-        }
-        Line::Report => put_report(out, at, types, members, capabilities, rule, rows),
-        Line::Plain { shape, width } => put_plain(out, at, shape, width),
-        _ => at,
-    }
-}
-
-// The member rows of the arena.
-fn take_members(members: &mut [u32], arena: &[u32])
-    requires { (length members.old ≡ 16384) × (length arena.now ≡ 22528) }
-{
-    order_struct::put(members, 0, &arena[program_commands::MEMBERS_AT..], 16384);
-}
-
-// The members are copied for the call, since both tables stand in one run of words; a struct that was found is then part of the arena.
-fn put_order(
-    given: &[u32],
-    span: u32,
-    mut s: Session,
-    arena: &mut Arena,
-    rows: &mut Rows,
-    out: &mut Buffer,
-) -> Session {
-    let mut members = [0u32; 16384];
-    take_members(&mut members, arena);
-    let n = program_commands::types_held(s);
-    let m = program_commands::rows_held(s);
-    let capabilities = valid_rule_word::capabilities_by(s.rule, s.capabilities);
-    let rule = valid_rule_word::rule_of(s.rule);
-    let made = order_call::order(
-        arena,
-        n,
-        &mut members,
-        m,
-        capabilities,
-        rule,
-        rows,
-        given,
-        span,
-    );
-    match made {
-        Ok(_) => {
-            let words = order_words::found_words(given.len(), made);
-            s.waiting = program_output::put_order(
-                out,
-                s.waiting,
-                program_commands::part(&words, 0, given.len() + 2),
+                steps,
             );
-            order_struct::put(arena, program_commands::MEMBERS_AT, &members, 16384);
-            program_commands::held(s, n, m, given.len())
+            put_place(found, out);
         }
-        Err(refusal) => {
-            s.waiting = program_output::put_refusal(out, s.waiting, refusal);
-            s
+        // By three words for each type, which take the first words of the rows.
+        Line::Short { start, steps } => {
+            let steps = later(numbers, steps);
+            let found = place_short::lookup(t.types, t.members, t.capabilities, rows, start, steps);
+            put_place(found, out);
         }
+        Line::Report => put_report(t, rows, out),
+        Line::Plain { shape, width } => put_plain(shape, width, out),
+        _ => {}
     }
 }
 
@@ -310,39 +162,60 @@ const FREE: usize = 851968;
 const FULL: usize = 1114113;
 
 // Writes out what waits where there may be no room for an answer. After a write that failed nothing more waits, and the next one fails too.
-fn with_room(mut s: Session, out: &Buffer) -> Session {
-    if s.waiting > FREE {
-        let written = program_output::write_out(out, s.waiting);
-        s.waiting = if written { 0 } else { FULL };
+fn make_room(out: &mut Output) {
+    if out.end > FREE && !out.write_out() {
+        out.end = FULL;
     }
-    s
 }
 
-// Answers a line.
-pub fn answer(
-    line: &[u8],
-    mut s: Session,
-    arena: &mut Arena,
-    rows: &mut Rows,
-    out: &mut Buffer,
-) -> Session {
-    s = with_room(s, out);
-    let mut numbers = [0u32; 1025];
-    let read = program_lines::read_line(line, &mut numbers);
-    s = program_commands::change(read, s, arena);
-    let tried = step_of(read, s, arena, rows);
-    s.pass = tried.pass;
-    s.waiting = put_step(read, tried, s.waiting, out);
-    s.waiting = put_answer(read, &numbers, s, arena, rows, out);
-    match read {
-        Line::Order { span, given } => put_order(
-            program_commands::part(&numbers, 1, given as usize + 1),
+impl Program {
+    // The members are copied for the call, since both tables stand in one run of words; a struct that was found is then part of the arena.
+    fn order(&mut self, given: &[u32], span: u32) {
+        let mut members = [0u32; 16384];
+        members.copy_from_slice(&self.arena[program_commands::MEMBERS_AT..]);
+        let s = self.session;
+        let n = program_commands::types_held(s);
+        let m = program_commands::rows_held(s);
+        let made = order_call::order(
+            &mut self.arena,
+            n,
+            &mut members,
+            m,
+            valid_rule_word::capabilities_by(s.rule, s.capabilities),
+            valid_rule_word::rule_of(s.rule),
+            &mut self.rows,
+            given,
             span,
-            s,
-            arena,
-            rows,
-            out,
-        ),
-        _ => s,
+        );
+        match made {
+            Ok(_) => {
+                let words = order_words::found_words(given.len(), made);
+                self.out
+                    .put_order(program_commands::part(&words, 0, given.len() + 2));
+                self.arena[program_commands::MEMBERS_AT..].copy_from_slice(&members);
+                self.session = program_commands::held(s, n, m, given.len());
+            }
+            Err(refusal) => self.out.put_refusal(refusal),
+        }
+    }
+
+    fn answer_read(&mut self, line: Line, numbers: &[u32]) {
+        self.session = program_commands::change(line, self.session, &mut self.arena);
+        let t = Tables::of(self.session, &self.arena);
+        self.session.pass = try_step(line, self.session.pass, t, &mut self.rows, &mut self.out);
+        put_answer(line, numbers, t, &mut self.rows, &mut self.out);
+        if let Line::Order { span, given } = line {
+            self.order(later(numbers, given), span);
+        }
+    }
+
+    /// Answers a line.
+    pub fn answer(&mut self, line: &[u8]) {
+        make_room(&mut self.out);
+        let mut numbers = [0u32; 1025];
+        match program_lines::read_line(line, &mut numbers) {
+            Ok(read) => self.answer_read(read, &numbers),
+            Err(reason) => self.session = program_commands::stop(self.session, reason),
+        }
     }
 }

@@ -45,6 +45,7 @@ pub enum Stray {
 // One above the largest number.
 const ABOVE: u64 = 4294967296;
 
+// Kept: the match is these four tests, each under its name; as closures they would need clauses of their own at `run_end` and at each call.
 fn is_in(class: Class, b: u8) -> bool
     ensures { result ≡ is_in class b }
 {
@@ -57,6 +58,8 @@ fn is_in(class: Class, b: u8) -> bool
 }
 
 /// Where the run of bytes of a class that starts at `at` ends.
+// Kept: `run_end` of wgsl_tokens has the same loop over classes of its own. One function would need a trait for a class, with a ghost test and two
+// impls, which is more than the loop.
 pub fn run_end(s: &[u8], at: usize, class: Class) -> usize
     requires { at ≤ length s.now }
     ensures value { result ≡ at + run_of (is_in class) (drop at s.now) }
@@ -126,13 +129,12 @@ fn capped(word: &[u8]) -> u64
 }
 
 /// The number that a word is.
+// Kept: a word is bytes, and `FromStr` reads a `str`.
+#[tactic(auto, unfolding(crate::specs::Number::number_of))]
 pub fn number_of(word: &[u8]) -> Result<u32, NumberError>
     ensures { result ≡ number_of word.now }
 {
-    if word.is_empty() {
-        return Err(NumberError::NotANumber);
-    }
-    if !all_digits(word) {
+    if word.is_empty() || !all_digits(word) {
         return Err(NumberError::NotANumber);
     }
     let n = capped(word);
@@ -143,6 +145,7 @@ pub fn number_of(word: &[u8]) -> Result<u32, NumberError>
     }
 }
 
+// Kept: `item_or` of ir_records says the same; the words of a line stand on no other crate.
 fn byte_at(s: &[u8], at: usize) -> u8
     ensures { result ≡ get_or s.now at 0 }
 {
@@ -159,6 +162,7 @@ fn is_mark(a: u8, b: u8, c: u8) -> bool
 }
 
 // What a byte is, by the two after it and whether it is not the last.
+#[tactic(auto, unfolding(crate::specs::Stray::stray_of))]
 fn stray_of(a: u8, b: u8, c: u8, more: bool) -> Option<Stray>
     ensures { result ≡ stray_of a b c more }
 {

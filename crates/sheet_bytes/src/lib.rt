@@ -1,12 +1,15 @@
 // Which member a byte of a struct belongs to, and whether a leaf holds it.
 #![tactic(auto)]
 
-ghost use Rattle.std.specs.Prelude.{◌≡◌, ◌<◌};
+ghost use Rattle.std.specs.Prelude.{◌≡◌};
 ghost use Rattle.ir_records.specs.Record.{type_word, struct_members};
 ghost use Rattle.sheet_bytes.specs.Holder.{holds, holder_of};
 
+use ir_records::Kind;
+use sheet_names::Type;
+
 // One step from a type towards the byte: to a byte of a part of it; or, at the end of the way, whether a leaf holds the byte.
-#[derive(Clone, Copy)]
+#[derive(Clone, Copy, Debug, PartialEq, Eq)]
 enum Inside {
     Within { ty: u32, byte: u64 },
     Leaf(bool),
@@ -20,11 +23,12 @@ fn holds(part: &[u32], rows: &[u32], j: u32, byte: u64) -> bool
     ensures { result ≡ holds part.now rows.now j byte }
 {
     let offset = ir_records::member_offset(part, j) as u64;
-    let size = sheet_verdicts::row_word(rows, ir_records::member_type(part, j), 0) as u64;
+    let size = ir_rows::row_word(rows, ir_records::member_type(part, j), 0) as u64;
     (offset <= byte) & (byte < offset + size)
 }
 
 // The member that holds a byte of a struct of so many members; their count where none does.
+// Kept: a number in place of an Option, since `holder_of` in specs/ is this number; `count` is of members, and no length of the rows.
 fn holder_in(part: &[u32], rows: &[u32], count: u32, byte: u64) -> u32
     ensures { result ≡ holder_of part.now rows.now count byte }
 {
@@ -36,82 +40,68 @@ fn holder_in(part: &[u32], rows: &[u32], count: u32, byte: u64) -> u32
     count
 }
 
-// The member of struct i that holds a byte; the number of its members where none does.
-pub fn holder(types: &[u32], members: &[u32], rows: &[u32], i: u32, byte: u64) -> u32
-    ensures { result ≡ holder_of (struct_members types.now members.now i) rows.now (type_word types.now i 2) byte }
+// The member of a struct that holds a byte; the number of its members where none does.
+pub fn holder(t: Type, byte: u64) -> u32
+    ensures { result ≡ holder_of (struct_members t.entry.sheet.types.now t.entry.sheet.members.now t.entry.i) t.entry.sheet.rows.now (type_word t.entry.sheet.types.now t.entry.i 2) byte }
 {
-    let part = ir_records::struct_members(types, members, i);
-    holder_in(part, rows, ir_records::type_word(types, i, 2), byte)
+    let part = ir_records::struct_members(t.sheet.types, t.sheet.members, t.i);
+    holder_in(part, t.sheet.rows, t.count(), byte)
 }
 
-fn in_struct(types: &[u32], members: &[u32], rows: &[u32], t: u32, byte: u64) -> Inside {
-    let part = ir_records::struct_members(types, members, t);
-    let count = ir_records::type_word(types, t, 2);
-    let j = holder_in(part, rows, count, byte);
-    if j == count {
+fn in_struct(t: Type, byte: u64) -> Inside {
+    let j = holder(t, byte);
+    if j == t.count() {
         return Inside::Leaf(false);
     }
-    let offset = ir_records::member_offset(part, j) as u64;
+    let member = t.member(j);
     Inside::Within {
-        ty: ir_records::member_type(part, j),
-        byte: sheet_output::gap(offset, byte),
+        ty: member.ty,
+        byte: sheet_output::gap(u64::from(member.offset), byte),
     }
 }
 
 // The byte as one of an element.
-fn in_array(types: &[u32], t: u32, byte: u64) -> Inside {
-    let stride = ir_records::type_word(types, t, 4) as u64;
+fn in_array(t: Type, byte: u64) -> Inside {
+    let stride = u64::from(t.word(4));
     if stride == 0 {
         return Inside::Leaf(false);
     }
     Inside::Within {
-        ty: ir_records::type_word(types, t, 1),
+        ty: t.word(1),
         byte: byte % stride,
     }
 }
 
-// The bytes of a column of 2, 3 or 4 rows.
-fn column_bytes(rows: u32, width: u64) -> u64
-    requires { width < 4294967296 }
-{
-    match rows {
-        2 => width * 2,
-        3 => width * 3,
-        _ => width * 4,
-    }
-}
-
 // The byte as one of a column.
-fn in_matrix(types: &[u32], t: u32, byte: u64) -> Inside {
-    let step = sheet_types::column_step(types, t);
+fn in_matrix(t: Type, byte: u64) -> Inside {
+    let step = sheet_types::column_step(t.sheet.types, t.i);
     if step == 0 {
         return Inside::Leaf(false);
     }
-    let rows = ir_records::type_word(types, t, 2);
-    let width = ir_records::type_word(types, t, 4) as u64;
-    Inside::Leaf(byte % step < column_bytes(rows, width))
+    let column = u64::from(t.word(2)) * u64::from(t.word(4));
+    Inside::Leaf(byte % step < column)
 }
 
-fn step(types: &[u32], members: &[u32], rows: &[u32], t: u32, byte: u64) -> Inside {
-    match ir_records::type_word(types, t, 0) {
-        2 => in_matrix(types, t, byte),
-        7 => in_array(types, t, byte),
-        8 => in_struct(types, members, rows, t, byte),
-        _ => Inside::Leaf(byte < sheet_verdicts::row_word(rows, t, 0) as u64),
+fn step(t: Type, byte: u64) -> Inside {
+    match Kind::try_from(t.word(0)) {
+        Ok(Kind::Matrix) => in_matrix(t, byte),
+        Ok(Kind::Array) => in_array(t, byte),
+        Ok(Kind::Struct) => in_struct(t, byte),
+        _ => Inside::Leaf(byte < u64::from(t.size())),
     }
 }
 
 // Whether a leaf of a type holds a byte of it.
-pub fn in_leaf(types: &[u32], members: &[u32], rows: &[u32], ty: u32, byte: u64) -> bool {
-    let mut t = ty;
+pub fn in_leaf(of: Type, byte: u64) -> bool {
+    let mut t = of;
     let mut b = byte;
     for _ in 0..MOST_DEPTH {
-        match step(types, members, rows, t, b) {
+        match step(t, b) {
             Inside::Leaf(held) => {
                 return held;
             }
             Inside::Within { ty, byte } => {
-                t = ty;
+                t = t.other(ty);
                 b = byte;
             }
         }

@@ -1,23 +1,27 @@
 // A C header of the sheet: a struct each, with padding, and an assertion for every offset and size.
 #![tactic(auto)]
 
+ghost use Rattle.std.specs.Prelude.{◌≡◌, ◌-◌, ◌&&◌, nat_lt};
+ghost use Rattle.ir_records.specs.Result.{pick};
+ghost use Rattle.ir_records.specs.Record.{type_word, struct_members, member_type};
+ghost use Rattle.ir_rows.specs.Rows.{row_word};
+ghost use Rattle.sheet_dimensions.specs.Scalars.{is_runtime};
+
+use ir_records::ScalarKind;
 use sheet_dimensions::Dimensions;
-use sheet_names::Named;
+use sheet_names::{Member, Type};
 use sheet_output::Writer;
+use sheet_types::Scalar;
 
 // The type of a scalar. A host has no f16: its bits are an uint16_t.
-fn put_scalar(out: &mut Writer, kind: u32, width: u32) {
-    let bits = (width as u64) * 8;
-    match kind {
-        0 => out.put_with(b"int", bits, b"_t"),
-        1 => out.put_with(b"uint", bits, b"_t"),
-        _ => {
-            match width {
-                2 => out.put_text(b"uint16_t"),
-                4 => out.put_text(b"float"),
-                _ => out.put_text(b"double"),
-            }
-        }
+fn put_scalar(out: &mut Writer, scalar: Scalar) {
+    let bits = scalar.bits();
+    match (ScalarKind::try_from(scalar.kind), scalar.width) {
+        (Ok(ScalarKind::Sint), _) => out.put_with(b"int", bits, b"_t"),
+        (Ok(ScalarKind::Uint), _) => out.put_with(b"uint", bits, b"_t"),
+        (_, 2) => out.put_text(b"uint16_t"),
+        (_, 4) => out.put_text(b"float"),
+        _ => out.put_text(b"double"),
     }
 }
 
@@ -31,15 +35,15 @@ pub fn put_start(out: &mut Writer) {
     );
 }
 
-// The name of struct i, with `struct ` before it.
-fn put_tag(out: &mut Writer, named: Named, i: u32) {
+// The name of a struct, with `struct ` before it.
+fn put_tag(out: &mut Writer, t: Type) {
     out.put_text(b"struct ");
-    sheet_identifiers::put_type(out, named, i);
+    sheet_identifiers::put_type(out, t);
 }
 
-pub fn put_open(out: &mut Writer, named: Named, i: u32) {
+pub fn put_open(out: &mut Writer, t: Type) {
     out.put_byte(b'\n');
-    put_tag(out, named, i);
+    put_tag(out, t);
     out.put_text(b" {\n");
 }
 
@@ -48,9 +52,9 @@ pub fn put_close(out: &mut Writer) {
 }
 
 // A struct that has no form for a host.
-pub fn put_none(out: &mut Writer, named: Named, i: u32) {
+pub fn put_none(out: &mut Writer, t: Type) {
     out.put_text(b"\n/* ");
-    put_tag(out, named, i);
+    put_tag(out, t);
     out.put_text(
         b" has no form here: it is not host-shareable, or its storage verdict is not ok. */\n",
     );
@@ -62,14 +66,12 @@ pub fn put_gap(out: &mut Writer, start: u64, bytes: u64) {
 }
 
 // The type inside the dimensions.
-fn put_base(out: &mut Writer, named: Named, t: u32) {
-    if ir_records::type_word(named.types, t, 0) == ir_records::STRUCT_KIND {
-        put_tag(out, named, t);
-        return;
+fn put_base(out: &mut Writer, t: Type) {
+    if t.is_struct() {
+        put_tag(out, t);
+    } else {
+        put_scalar(out, sheet_dimensions::scalar_of(t));
     }
-    let kind = sheet_dimensions::kind_of(named.types, t);
-    let width = sheet_dimensions::width_of(named.types, t);
-    put_scalar(out, kind, width);
 }
 
 // `[n]`; a runtime-sized array has none, or 1 where it is the only member.
@@ -91,83 +93,88 @@ fn put_dimensions(out: &mut Writer, dimensions: Dimensions, alone: bool) {
     }
 }
 
-fn put_name(out: &mut Writer, named: Named, i: u32, j: u32) {
-    sheet_identifiers::put_member(out, named, i, j);
-}
-
 // A member whose steps no dimensions keep.
-fn put_as_bytes(out: &mut Writer, named: Named, i: u32, j: u32, size: u64) {
+fn put_as_bytes(out: &mut Writer, member: Member) {
     out.put_text(b"uint8_t ");
-    put_name(out, named, i, j);
-    out.put_with(b"[", size, b"]");
+    sheet_identifiers::put_member(out, member);
+    out.put_with(b"[", u64::from(member.own_type().size()), b"]");
 }
 
-// Type, name and dimensions of member j.
-fn put_declared(out: &mut Writer, named: Named, rows: &[u32], i: u32, j: u32, ty: u32) {
-    match sheet_dimensions::of_type(named.types, rows, ty) {
+// Type, name and dimensions of a member.
+fn put_declared(out: &mut Writer, member: Member) {
+    match sheet_dimensions::of_type(member.own_type()) {
         Some(dimensions) => {
-            put_base(out, named, dimensions.base);
+            put_base(out, member.of.other(dimensions.base));
             out.put_byte(b' ');
-            put_name(out, named, i, j);
-            put_dimensions(out, dimensions, j == 0);
+            sheet_identifiers::put_member(out, member);
+            put_dimensions(out, dimensions, member.j == 0);
         }
-        None => {
-            let size = sheet_verdicts::row_word(rows, ty, 0) as u64;
-            put_as_bytes(out, named, i, j, size);
-        }
+        None => put_as_bytes(out, member),
     }
 }
 
-// The line of member j of struct i.
-pub fn put_member(
-    out: &mut Writer,
-    named: Named,
-    rows: &[u32],
-    i: u32,
-    j: u32,
-    ty: u32,
-    offset: u32,
-) {
+// The line of a member.
+pub fn put_member(out: &mut Writer, member: Member) {
     out.put_text(b"    ");
-    put_declared(out, named, rows, i, j, ty);
-    out.put_with(b"; /* ", offset as u64, b": ");
-    sheet_types::put_type(out, named, ty, false);
+    put_declared(out, member);
+    out.put_with(b"; /* ", u64::from(member.offset), b": ");
+    sheet_types::put_type(out, member.own_type());
     out.put_text(b" */\n");
 }
 
 // The assertion of a member's offset.
-pub fn put_offset(out: &mut Writer, named: Named, i: u32, j: u32, offset: u32) {
+pub fn put_offset(out: &mut Writer, member: Member) {
     out.put_text(b"_Static_assert(offsetof(");
-    put_tag(out, named, i);
+    put_tag(out, member.of);
     out.put_text(b", ");
-    put_name(out, named, i, j);
-    out.put_with(b") == ", offset as u64, b", \"offset\");\n");
+    sheet_identifiers::put_member(out, member);
+    out.put_with(b") == ", u64::from(member.offset), b", \"offset\");\n");
 }
 
 // The assertion of the size.
-fn put_size(out: &mut Writer, named: Named, i: u32, size: u64) {
+fn put_size(out: &mut Writer, t: Type) {
     out.put_text(b"_Static_assert(sizeof(");
-    put_tag(out, named, i);
-    out.put_with(b") == ", size, b", \"size\");\n");
+    put_tag(out, t);
+    out.put_with(b") == ", u64::from(t.size()), b", \"size\");\n");
 }
 
 // The assertion of the step of a runtime-sized array, which has no part in sizeof.
-fn put_step(out: &mut Writer, named: Named, i: u32, j: u32, step: u64) {
+fn put_step(out: &mut Writer, member: Member) {
     out.put_text(b"_Static_assert(sizeof(((");
-    put_tag(out, named, i);
+    put_tag(out, member.of);
     out.put_text(b" *)0)->");
-    put_name(out, named, i, j);
-    out.put_with(b"[0]) == ", step, b", \"step\");\n");
+    sheet_identifiers::put_member(out, member);
+    out.put_with(
+        b"[0]) == ",
+        u64::from(member.own_type().word(4)),
+        b", \"step\");\n",
+    );
+}
+
+// Whether a struct ends with a runtime-sized array after other members.
+fn is_open(last: Member) -> bool
+    ensures { result ≡ (nat_lt 0 last.entry.j && is_runtime last.entry.of.sheet.types.now last.entry.ty) }
+{
+    (0 < last.j) & sheet_dimensions::is_runtime(last.of.sheet.types, last.ty)
+}
+
+/// Where the lines of a struct end: at its size, but nothing may stand after a runtime-sized array that stands after others.
+pub fn last_byte(t: Type) -> u64
+    ensures { result ≡ pick (nat_lt 0 (type_word t.entry.sheet.types.now t.entry.i 2 - 1) && is_runtime t.entry.sheet.types.now (member_type (struct_members t.entry.sheet.types.now t.entry.sheet.members.now t.entry.i) (type_word t.entry.sheet.types.now t.entry.i 2 - 1))) 0 (row_word t.entry.sheet.rows.now t.entry.i 0) }
+{
+    if is_open(t.last_member()) {
+        0
+    } else {
+        u64::from(t.size())
+    }
 }
 
 // After the offsets: the size, or the step of the last member where that is a runtime-sized array after others.
-pub fn put_end(out: &mut Writer, named: Named, rows: &[u32], i: u32, last: u32, ty: u32) {
-    let runtime = sheet_dimensions::is_runtime(named.types, ty);
-    if runtime & (0 < last) {
-        let step = ir_records::type_word(named.types, ty, 4) as u64;
-        put_step(out, named, i, last, step);
-        return;
+pub fn put_end(out: &mut Writer, t: Type) {
+    let last = t.last_member();
+    if is_open(last) {
+        put_step(out, last);
+    } else {
+        put_size(out, t);
     }
-    let size = sheet_verdicts::row_word(rows, i, 0) as u64;
-    put_size(out, named, i, size);
 }

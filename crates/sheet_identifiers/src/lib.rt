@@ -1,7 +1,7 @@
 // Names as identifiers that C and Rust both take. What is no identifier, or stands there already, goes by its number.
 #![tactic(auto)]
 
-use sheet_names::Named;
+use sheet_names::{Member, Type};
 use sheet_output::Writer;
 
 fn is_letter(c: u8) -> bool {
@@ -63,46 +63,24 @@ fn put_identifier(out: &mut Writer, name: &[u8]) {
     }
 }
 
-// Whether a type before type i has this name.
-fn is_earlier_type(named: Named, name: &[u8], i: u32) -> bool {
-    for k in 0..i {
-        if name == named.type_name(k) {
-            return true;
-        }
-    }
-    false
-}
-
-// Whether a member before member j has this name.
-fn is_earlier_member(named: Named, name: &[u8], i: u32, j: u32) -> bool {
-    for k in 0..j {
-        if name == named.member_name(i, k) {
-            return true;
-        }
-    }
-    false
-}
-
 // The identifier of struct i.
-pub fn put_type(out: &mut Writer, named: Named, i: u32) {
-    let name = named.type_name(i);
-    if is_identifier(name) {
-        if !is_earlier_type(named, name, i) {
-            put_identifier(out, name);
-            return;
-        }
+pub fn put_type(out: &mut Writer, t: Type) {
+    let name = t.name();
+    let earlier = (0..t.i).any(|k| t.other(k).name() == name);
+    if is_identifier(name) & !earlier {
+        put_identifier(out, name);
+        return;
     }
-    out.put_with(b"type_", i as u64, b"");
+    out.put_with(b"type_", u64::from(t.i), b"");
 }
 
-// The identifier of member j of struct i.
-pub fn put_member(out: &mut Writer, named: Named, i: u32, j: u32) {
-    let name = named.member_name(i, j);
-    if is_identifier(name) {
-        if !is_earlier_member(named, name, i, j) {
-            put_identifier(out, name);
-            return;
-        }
+// The identifier of a member.
+pub fn put_member(out: &mut Writer, member: Member) {
+    let name = member.name();
+    let earlier = (0..member.j).any(|k| member.of.member_name(k) == name);
+    if is_identifier(name) & !earlier {
+        put_identifier(out, name);
+        return;
     }
-    out.put_with(b"member_", j as u64, b"");
+    out.put_with(b"member_", u64::from(member.j), b"");
 }

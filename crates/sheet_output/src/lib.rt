@@ -3,7 +3,7 @@
 
 ghost use Rattle.std.specs.Prelude.{◌≡◌, ◌+◌, ◌-◌, ◌≤◌};
 
-use program_output::Buffer;
+use program_output::Output;
 
 // How far n lies below a width.
 pub fn missing(n: usize, width: usize) -> usize
@@ -19,70 +19,70 @@ pub fn gap(end: u64, start: u64) -> u64
     start.saturating_sub(end)
 }
 
+// Past the buffer.
+// Kept: a position, since this is how `Output` says that there was no room.
 const FULL: usize = 1114113;
 
-// The position after a write of what waits.
-fn written(out: &Buffer, at: usize) -> usize {
-    if program_output::write_out(out, at) {
-        0
-    } else {
-        FULL
-    }
-}
-
-// A position with room for n bytes after it: a sheet may be longer than the buffer, and what waits is written out where there is no room.
-fn room(out: &Buffer, at: usize, n: usize) -> usize
-    ensures { at + n ≤ 1114112 → result ≡ at }
+// Writes out what waits where there is no room for n more bytes: a sheet may be longer than the buffer. Once that fails nothing is written any more.
+fn make_room(out: &mut Output, n: usize)
+    ensures { out.old.end + n ≤ 1114112 → out.new ≡ out.old }
 {
-    if (at <= out.len()) && (n <= out.len() - at) {
-        return at;
+    let fits = (out.end <= out.bytes.len()) && (n <= out.bytes.len() - out.end);
+    if !fits && !out.write_out() {
+        out.end = FULL;
     }
-    written(out, at)
 }
 
-/// The buffer of the answers and how many bytes wait in it. What waits is written out where there is no room for more.
+/// Whether `<`, `>` and `&` are written as they are, or as a page has them.
+#[derive(Clone, Copy, Debug, PartialEq, Eq)]
+pub enum Markup {
+    Plain,
+    Page,
+}
+
+/// The answers that wait, and how marks are written. What waits is written out where there is no room for more.
 pub struct Writer<'a> {
-    pub out: &'a mut Buffer,
-    pub end: usize,
+    pub out: &'a mut Output,
+    pub markup: Markup,
 }
 
 impl<'a> Writer<'a> {
-    pub fn new(out: &'a mut Buffer) -> Writer<'a> {
-        Writer { out, end: 0 }
+    pub fn new(out: &'a mut Output, markup: Markup) -> Writer<'a> {
+        Writer { out, markup }
     }
 
     /// Writes out what waits at the end of a sheet; a writer is not let go without it.
     pub fn finish(self) {
-        let Writer { out, end } = self;
-        program_output::write_out(out, end);
+        let Writer { out, markup: _ } = self;
+        out.write_out();
     }
 
     /// Makes room for n more bytes.
     pub fn make_room(&mut self, n: usize) {
-        self.end = room(self.out, self.end, n);
+        make_room(self.out, n);
     }
 
     pub fn put_byte(&mut self, b: u8) {
         self.make_room(1);
-        self.end = program_output::put_byte(self.out, self.end, b);
+        self.out.put_byte(b);
     }
 
     /// No text is longer than the buffer: it is a part of the input, or one of the program's own.
     pub fn put_text(&mut self, text: &[u8]) {
         self.make_room(text.len());
-        self.end = program_output::put_text(self.out, self.end, text);
+        self.out.put_text(text);
     }
 
     /// A line of a text whose lines are numbered from `first` on.
     pub fn put_line_of(&mut self, text: &[u8], first: u32, number: u32) {
         self.make_room(text.len());
-        self.end = program_output::put_line_of(self.out, self.end, text, first, number);
+        self.out.put_line_of(text, first, number);
     }
 
     /// A number with nothing before it.
     pub fn put_number(&mut self, n: u64) {
         self.make_room(20);
-        self.end = program_output::put_decimal(self.out, self.end, n);
+        self.out.put_decimal(n);
     }
 
     /// A number between two texts.
@@ -107,19 +107,19 @@ impl<'a> Writer<'a> {
     }
 
     /// `<`, `>` or `&`, which a page writes in another way.
-    pub fn put_mark(&mut self, mark: u8, page: bool) {
-        match mark {
-            b'<' if page => self.put_text(b"&lt;"),
-            b'>' if page => self.put_text(b"&gt;"),
-            b'&' if page => self.put_text(b"&amp;"),
+    pub fn put_mark(&mut self, mark: u8) {
+        match (self.markup, mark) {
+            (Markup::Page, b'<') => self.put_text(b"&lt;"),
+            (Markup::Page, b'>') => self.put_text(b"&gt;"),
+            (Markup::Page, b'&') => self.put_text(b"&amp;"),
             _ => self.put_byte(mark),
         }
     }
 
     /// A name, byte by byte as a page has it.
-    pub fn put_name(&mut self, name: &[u8], page: bool) {
+    pub fn put_name(&mut self, name: &[u8]) {
         for b in name {
-            self.put_mark(*b, page);
+            self.put_mark(*b);
         }
     }
 }

@@ -1,7 +1,7 @@
-// The sheet as a page that stands alone: its head and its end, and for each struct what it measures and a table of its members.
+// The sheet as a page that stands alone: its head and its end, and for each struct a table of its members.
 #![tactic(auto)]
 
-use sheet_names::Named;
+use sheet_names::Member;
 use sheet_output::Writer;
 
 pub fn put_start(out: &mut Writer) {
@@ -43,27 +43,7 @@ pub fn put_end(out: &mut Writer) {
     out.put_text(b"</body>\n</html>\n");
 }
 
-// The name, the size and the alignment.
-pub fn put_head(out: &mut Writer, named: Named, rows: &[u32], i: u32) {
-    out.put_text(b"<h2>struct ");
-    sheet_types::put_struct_name(out, named, i, true);
-    out.put_text(b"</h2>\n<p>");
-    sheet_verdicts::put_measures(out, rows, i);
-    out.put_text(b"<br>\nstorage: ");
-}
-
-// The verdicts, after the word `storage:`.
-pub fn put_verdicts(out: &mut Writer, named: Named, rows: &[u32], i: u32) {
-    sheet_verdicts::put_verdict(out, named, rows, i, 8, true);
-    out.put_text(b"<br>\nuniform: ");
-    sheet_verdicts::put_verdict(out, named, rows, i, 3, true);
-}
-
-pub fn put_bytes(out: &mut Writer, carried: u64, wasted: u64) {
-    out.put_with(b"<br>\nbytes: ", carried, b" carried, ");
-    out.put_with(b"", wasted, b" wasted");
-}
-
+// Kept: alike the start of a C header in that each puts one text.
 pub fn put_table_head(out: &mut Writer) {
     out.put_text(
         b"</p>
@@ -90,31 +70,17 @@ pub fn put_gap(out: &mut Writer, start: u64, bytes: u64) {
     out.put_text(b"<td></td><td class=\"gap\"></td><td>unused</td></tr>\n");
 }
 
-// The offset, the size and the alignment of a member.
-fn put_measures(out: &mut Writer, rows: &[u32], ty: u32, offset: u32) {
-    let size = sheet_verdicts::row_word(rows, ty, 0) as u64;
-    let alignment = sheet_verdicts::row_word(rows, ty, 1) as u64;
+// The line of a member: its offset, size and alignment, its name and its type.
+pub fn put_member(out: &mut Writer, member: Member) {
+    let t = member.own_type();
     out.put_text(b"<tr>");
-    put_cell(out, offset as u64);
-    put_cell(out, size);
-    put_cell(out, alignment);
-}
-
-// The line of member j of struct i.
-pub fn put_member(
-    out: &mut Writer,
-    named: Named,
-    rows: &[u32],
-    i: u32,
-    j: u32,
-    ty: u32,
-    offset: u32,
-) {
-    put_measures(out, rows, ty, offset);
-    out.put_with(b"<td class=\"c", (j % 8) as u64, b"\">");
-    sheet_types::put_member_name(out, named, i, j, true);
+    put_cell(out, u64::from(member.offset));
+    put_cell(out, u64::from(t.size()));
+    put_cell(out, u64::from(t.alignment()));
+    out.put_with(b"<td class=\"c", u64::from(member.j % 8), b"\">");
+    sheet_types::put_member_name(out, member);
     out.put_text(b"</td><td>");
-    sheet_types::put_type(out, named, ty, true);
-    sheet_table::put_steps(out, named.types, ty);
+    sheet_types::put_type(out, t);
+    sheet_table::put_steps(out, t);
     out.put_text(b"</td></tr>\n");
 }

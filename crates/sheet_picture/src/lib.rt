@@ -1,9 +1,7 @@
 // The picture of a struct's bytes on a page, sixteen to a row.
 #![tactic(auto)]
 
-ghost use Rattle.std.specs.Prelude.{◌≤◌, ◌<◌};
-
-use sheet_names::Named;
+use sheet_names::Type;
 use sheet_output::Writer;
 
 // Bytes of a struct that are drawn at most.
@@ -19,106 +17,56 @@ pub fn put_head(out: &mut Writer) {
     );
 }
 
-// Whether two bytes of struct i belong to one member and both lie in leaves, or neither.
-fn alike(types: &[u32], members: &[u32], rows: &[u32], i: u32, a: u64, b: u64) -> bool {
-    let same = sheet_bytes::holder(types, members, rows, i, a)
-        == sheet_bytes::holder(types, members, rows, i, b);
-    let first = sheet_bytes::in_leaf(types, members, rows, i, a);
-    let second = sheet_bytes::in_leaf(types, members, rows, i, b);
-    (same | !first) & (first == second)
-}
-
-// The end of the run of bytes that are like the one at `from`, before the limit.
-fn run_end(types: &[u32], members: &[u32], rows: &[u32], i: u32, from: u64, limit: u64) -> u64 {
-    for b in from..limit {
-        if !alike(types, members, rows, i, from, b) {
-            return b;
-        }
+// The member in whose leaf a byte of a struct lies, where it lies in one.
+fn drawn_as(t: Type, byte: u64) -> Option<u32> {
+    if sheet_bytes::in_leaf(t, byte) {
+        Some(sheet_bytes::holder(t, byte))
+    } else {
+        None
     }
-    limit
 }
 
 // A run of so many bytes: a member's name, or nothing where no leaf holds them.
-fn put_run(
-    out: &mut Writer,
-    named: Named,
-    members: &[u32],
-    rows: &[u32],
-    i: u32,
-    from: u64,
-    bytes: u64,
-) {
+fn put_run(out: &mut Writer, t: Type, member: Option<u32>, bytes: u64) {
     out.put_with(b"<td colspan=\"", bytes, b"\" class=\"");
-    if !sheet_bytes::in_leaf(named.types, members, rows, i, from) {
-        out.put_text(b"gap\"></td>");
-        return;
+    match member {
+        Some(j) => {
+            out.put_with(b"c", u64::from(j % 8), b"\">");
+            sheet_types::put_member_name(out, t.member(j));
+            out.put_text(b"</td>");
+        }
+        None => out.put_text(b"gap\"></td>"),
     }
-    let j = sheet_bytes::holder(named.types, members, rows, i, from);
-    out.put_with(b"c", (j % 8) as u64, b"\">");
-    sheet_types::put_member_name(out, named, i, j, true);
-    out.put_text(b"</td>");
 }
 
-fn put_row_start(out: &mut Writer, from: u64) {
+// The row of the bytes from one up to a limit, in runs of one member's bytes.
+fn put_row(out: &mut Writer, t: Type, from: u64, limit: u64) {
     out.put_with(b"<tr><th>", from, b"</th>");
-}
-
-fn put_row_end(out: &mut Writer) {
+    let mut start = from;
+    for b in from..limit {
+        let member = drawn_as(t, b);
+        let next = b + 1;
+        if (next == limit) || (drawn_as(t, next) != member) {
+            put_run(out, t, member, sheet_output::gap(start, next));
+            start = next;
+        }
+    }
     out.put_text(b"</tr>\n");
 }
 
-// The row of the bytes from one up to a limit.
-fn put_row(
-    out: &mut Writer,
-    named: Named,
-    members: &[u32],
-    rows: &[u32],
-    i: u32,
-    from: u64,
-    limit: u64,
-) {
-    put_row_start(out, from);
-    let mut b = from;
-    // Kept: a step is as long as a run of bytes, so no range counts it.
-    while b < limit {
-        let next = run_end(named.types, members, rows, i, b, limit);
-        let bytes = sheet_output::gap(b, next);
-        put_run(out, named, members, rows, i, b, bytes);
-        b = past(next, b, limit);
-    }
-    put_row_end(out);
-}
-
-// Where the row goes on after a run.
-fn past(next: u64, b: u64, limit: u64) -> u64
-    requires { b < limit }
-    ensures { b < result }
-{
-    if b < next { next } else { b + 1 }
-}
-
-// The bytes of struct i that are drawn.
-fn drawn_bytes(rows: &[u32], i: u32) -> u64
-    ensures { result ≤ 4096 }
-{
-    MOST_DRAWN.min(sheet_verdicts::row_word(rows, i, 0) as u64)
-}
-
-// The bytes of struct i, as far as they are drawn.
-pub fn put_rows(out: &mut Writer, named: Named, members: &[u32], rows: &[u32], i: u32) {
-    let drawn = drawn_bytes(rows, i);
+// The bytes of a struct, as far as they are drawn.
+pub fn put_rows(out: &mut Writer, t: Type) {
+    let drawn = MOST_DRAWN.min(u64::from(t.size()));
     for row in 0..drawn.div_ceil(ROW_BYTES) {
         let from = row * ROW_BYTES;
-        let limit = drawn.min(from + ROW_BYTES);
-        put_row(out, named, members, rows, i, from, limit);
+        put_row(out, t, from, drawn.min(from + ROW_BYTES));
     }
 }
 
 // Under the picture: what is not drawn.
-pub fn put_rest(out: &mut Writer, rows: &[u32], i: u32) {
-    let size = sheet_verdicts::row_word(rows, i, 0) as u64;
+pub fn put_rest(out: &mut Writer, t: Type) {
     out.put_text(b"</table>\n");
-    if MOST_DRAWN < size {
+    if MOST_DRAWN < u64::from(t.size()) {
         out.put_with(b"<p>Bytes from ", MOST_DRAWN, b" on are not drawn.</p>\n");
     }
 }

@@ -31,6 +31,7 @@ pub fn before(words: &[u32], k: usize) -> &[u32]
 }
 
 // Whether the words are refused as a module. The tables hold what the reader leaves there.
+// Kept: words and both tables are three parameters here and in the next ones, as in the reader that is called.
 pub fn is_refused(words: &[u32], types: &mut [u32], members: &mut [u32]) -> bool
     ensures { (result ≡ is_refusal (section_of (read_into words.now types.old members.old))) × (types.new ≡ types_after (read_into words.now types.old members.old) types.old) × (members.new ≡ members_after (read_into words.now types.old members.old) members.old) }
 {
@@ -38,38 +39,41 @@ pub fn is_refused(words: &[u32], types: &mut [u32], members: &mut [u32]) -> bool
 }
 
 // So many instructions from one on, among which the refused one is.
-#[derive(Clone, Copy)]
+#[derive(Clone, Copy, Debug, PartialEq, Eq)]
 struct Span {
     low: usize,
     count: usize,
 }
 
 // One half of them: the words before its first are not refused, and those up to its end are.
-fn halved(words: &[u32], types: &mut [u32], members: &mut [u32], low: usize, count: usize) -> Span
-    requires { 1 < count }
-    ensures { result.count < count }
+fn halved(words: &[u32], types: &mut [u32], members: &mut [u32], span: Span) -> Span
+    requires { 1 < span.count }
+    ensures { result.count < span.count }
 {
-    let half = count / 2;
-    let middle = std::num::wrapping_add_usize(low, half);
+    let half = span.count / 2;
+    let middle = span.low.wrapping_add(half);
     if is_refused(before(words, middle), types, members) {
-        return Span { low, count: half };
+        return Span {
+            low: span.low,
+            count: half,
+        };
     }
     Span {
         low: middle,
-        count: count - half,
+        count: span.count - half,
     }
 }
 
 // The number of the instruction at which a module is refused. What an instruction is refused for stands before it, so halves are enough. Both
 // tables are scratch.
 pub fn refused_at(words: &[u32], types: &mut [u32], members: &mut [u32]) -> usize {
-    let mut low: usize = 0;
-    let mut count = words.len();
+    let mut span = Span {
+        low: 0,
+        count: words.len(),
+    };
     // Kept: each step halves the count, so no range counts it.
-    while 1 < count {
-        let span = halved(words, types, members, low, count);
-        low = span.low;
-        count = span.count;
+    while 1 < span.count {
+        span = halved(words, types, members, span);
     }
-    low
+    span.low
 }

@@ -6,25 +6,22 @@ ghost use Rattle.std.specs.Prelude.{◌≡◌, length};
 use program_files::ReadError;
 use program_words::NumberError;
 use sheet_answers::Asked;
-use sheet_lines::Form;
+use sheet_structs::Form;
 use std::io::Read;
 use std::rt::{Env, Files};
 use valid_type_info::UniformRule;
 
-// What the arguments say so far: the next one, whether an option has no file after it yet, whether a file was named, whether all is answered.
-#[derive(Clone, Copy)]
+// What the arguments say so far: what is asked of a file, the next argument, whether an option has no file after it yet, whether a file was named.
+#[derive(Clone, Copy, Debug, PartialEq, Eq)]
 pub struct Options {
-    pub form: Form,
-    pub rule: UniformRule,
-    pub capabilities: u32,
+    pub asked: Asked,
     pub next: usize,
     pub open: bool,
     pub files: bool,
-    pub done: bool,
 }
 
 // What an argument is: a form, an option that takes the next argument, a file.
-#[derive(Clone, Copy)]
+#[derive(Clone, Copy, Debug, PartialEq, Eq)]
 enum Argument {
     OfForm(Form),
     Rule,
@@ -46,8 +43,8 @@ fn no_bytes() -> [u8; 1048577]
 fn answer_held(asked: Asked, name: &[u8], bytes: &[u8], held: Result<usize, ReadError>) {
     match held {
         Ok(n) => {
-            if n <= bytes.len() {
-                sheet_answers::answer(asked, name, &bytes[0..n]);
+            if let Some(read) = bytes.get(..n) {
+                sheet_answers::answer(asked, name, read);
             }
         }
         Err(ReadError::Long) => program_files::tell(
@@ -63,25 +60,17 @@ fn answer_open<S: Read>(asked: Asked, name: &[u8], source: &mut S) {
     answer_held(asked, name, &bytes, held);
 }
 
-// What the options ask of a file.
-fn asked_by(o: Options) -> Asked {
-    Asked {
-        form: o.form,
-        rule: o.rule,
-        capabilities: o.capabilities,
-    }
-}
-
-fn tell_unopened(name: &[u8]) {
+// What is wrong with an argument.
+fn tell_of(argument: &[u8], what: &[u8]) {
     program_files::tell(b"sheet: ");
-    program_files::tell(name);
-    program_files::tell(b": the file cannot be opened\n");
+    program_files::tell(argument);
+    program_files::tell(what);
 }
 
-fn answer_file<R: Files>(rt: &R, options: Options, name: &[u8]) {
+fn answer_file<R: Files>(rt: &R, asked: Asked, name: &[u8]) {
     match program_files::open(rt, name) {
-        Some(mut file) => answer_open(asked_by(options), name, &mut file),
-        None => tell_unopened(name),
+        Some(mut file) => answer_open(asked, name, &mut file),
+        None => tell_of(name, b": the file cannot be opened\n"),
     }
 }
 
@@ -105,142 +94,127 @@ A refusal is one line `refused NUMBER: ` with its meaning, and then where it sta
 
 // What an argument is by its name.
 fn argument_of(word: &[u8]) -> Argument {
-    if wgsl_tokens::byte_at(word, 0) != b'-' {
-        return Argument::File;
+    match word {
+        b"--c" => Argument::OfForm(Form::C),
+        b"--rust" => Argument::OfForm(Form::Rust),
+        b"--html" => Argument::OfForm(Form::Page),
+        b"--text" => Argument::OfForm(Form::Text),
+        b"--rule" => Argument::Rule,
+        b"--capabilities" => Argument::Capabilities,
+        b"--help" => Argument::Help,
+        [b'-', ..] => Argument::Unknown,
+        _ => Argument::File,
     }
-    if word == b"--c".as_slice() {
-        return Argument::OfForm(Form::C);
-    }
-    if word == b"--rust".as_slice() {
-        return Argument::OfForm(Form::Rust);
-    }
-    if word == b"--html".as_slice() {
-        return Argument::OfForm(Form::Page);
-    }
-    if word == b"--text".as_slice() {
-        return Argument::OfForm(Form::Text);
-    }
-    other_argument(word)
 }
 
-fn other_argument(word: &[u8]) -> Argument {
-    if word == b"--rule".as_slice() {
-        return Argument::Rule;
+impl Options {
+    // After an option that took so many arguments.
+    fn after_option(self, taken: usize, asked: Asked) -> Options {
+        Options {
+            asked,
+            next: std::num::wrapping_add_usize(self.next, taken),
+            open: true,
+            files: self.files,
+        }
     }
-    if word == b"--capabilities".as_slice() {
-        return Argument::Capabilities;
+
+    fn after_file(self) -> Options {
+        Options {
+            asked: self.asked,
+            next: std::num::wrapping_add_usize(self.next, 1),
+            open: false,
+            files: true,
+        }
     }
-    if word == b"--help".as_slice() {
-        return Argument::Help;
+}
+
+// The rule of that name.
+fn rule_of(name: &[u8]) -> Option<UniformRule> {
+    match name {
+        b"older" => Some(UniformRule::Older),
+        b"newer" => Some(UniformRule::Newer),
+        _ => None,
     }
-    Argument::Unknown
 }
 
-// After an option that took so many arguments.
-fn after_option(mut o: Options, taken: usize) -> Options {
-    o.next = std::num::wrapping_add_usize(o.next, taken);
-    o.open = true;
-    o
-}
-
-fn after_file(mut o: Options) -> Options {
-    o.next = std::num::wrapping_add_usize(o.next, 1);
-    o.open = false;
-    o.files = true;
-    o
-}
-
-// Nothing more is answered.
-fn stop(mut o: Options) -> Options {
-    o.done = true;
-    o
-}
-
-// The rule that argument i names.
-fn rule_step<R: Env>(rt: &R, mut o: Options, i: usize) -> Options {
+// The rule that argument i names; none where it names none, and is told.
+fn rule_at<R: Env>(rt: &R, i: usize) -> Option<UniformRule> {
     let mut word = io::buffer();
     let n = program_files::argument(rt, i, &mut word);
-    if &word[..n] == b"older".as_slice() {
-        o.rule = UniformRule::Older;
-        return after_option(o, 2);
+    let rule = rule_of(&word[..n]);
+    if rule.is_none() {
+        program_files::tell(b"sheet: --rule takes older or newer\n");
     }
-    if &word[..n] == b"newer".as_slice() {
-        o.rule = UniformRule::Newer;
-        return after_option(o, 2);
-    }
-    program_files::tell(b"sheet: --rule takes older or newer\n");
-    stop(o)
+    rule
 }
 
-// The capability word that argument i is.
-fn capabilities_step<R: Env>(rt: &R, mut o: Options, i: usize) -> Options {
+// The capability word that argument i is; none where it is none, and is told.
+fn capabilities_at<R: Env>(rt: &R, i: usize) -> Option<u32> {
     let mut word = io::buffer();
     let n = program_files::argument(rt, i, &mut word);
     match program_words::number_of(&word[..n]) {
-        Ok(capabilities) => {
-            o.capabilities = capabilities;
-            after_option(o, 2)
-        }
+        Ok(capabilities) => Some(capabilities),
         Err(NumberError::TooLarge) => {
             program_files::tell(b"sheet: --capabilities takes a number of at most 4294967295\n");
-            stop(o)
+            None
         }
         Err(NumberError::NotANumber) => {
             program_files::tell(b"sheet: --capabilities takes a decimal number\n");
-            stop(o)
+            None
         }
     }
 }
 
-fn tell_unknown(word: &[u8]) {
-    program_files::tell(b"sheet: ");
-    program_files::tell(word);
-    program_files::tell(b": no such option; see --help\n");
-}
-
-// One argument, and the one after it where an option takes that.
-fn answer_argument<R: Env + Files>(rt: &R, mut o: Options, word: &[u8]) -> Options {
+// One argument, and the one after it where an option takes that; none where nothing more is answered.
+fn answer_argument<R: Env + Files>(rt: &R, o: Options, word: &[u8]) -> Option<Options> {
     let value = std::num::wrapping_add_usize(o.next, 1);
     match argument_of(word) {
-        Argument::OfForm(form) => {
-            o.form = form;
-            after_option(o, 1)
+        Argument::OfForm(form) => Some(o.after_option(1, Asked { form, ..o.asked })),
+        Argument::Rule => {
+            let rule = rule_at(rt, value)?;
+            Some(o.after_option(2, Asked { rule, ..o.asked }))
         }
-        Argument::Rule => rule_step(rt, o, value),
-        Argument::Capabilities => capabilities_step(rt, o, value),
+        Argument::Capabilities => {
+            let capabilities = capabilities_at(rt, value)?;
+            Some(o.after_option(
+                2,
+                Asked {
+                    capabilities,
+                    ..o.asked
+                },
+            ))
+        }
         Argument::File => {
-            answer_file(rt, o, word);
-            after_file(o)
+            answer_file(rt, o.asked, word);
+            Some(o.after_file())
         }
         Argument::Help => {
             put_help();
-            stop(o)
+            None
         }
         Argument::Unknown => {
-            tell_unknown(word);
-            stop(o)
+            tell_of(word, b": no such option; see --help\n");
+            None
         }
     }
 }
 
 // After the last argument: standard input where no file was named; an option that no file follows is told.
-fn finish<R: Input>(rt: &R, o: Options) -> Options {
+fn finish<R: Input>(rt: &R, o: Options) {
     if !o.files {
-        answer_open(asked_by(o), b"", &mut rt.reader());
-        return stop(o);
-    }
-    if o.open {
+        answer_open(o.asked, b"", &mut rt.reader());
+    } else if o.open {
         program_files::tell(
             b"sheet: an option stands after the last file; options hold for the files after them\n",
         );
     }
-    stop(o)
 }
 
-// The next argument, or what is to do after the last one.
-fn step<R: Env + Files + Input>(rt: &R, o: Options, count: usize) -> Options {
+// The next argument, or what is to do after the last one; none where nothing more is answered.
+fn step<R: Env + Files + Input>(rt: &R, o: Options, count: usize) -> Option<Options> {
     if count <= o.next {
-        return finish(rt, o);
+        finish(rt, o);
+        return None;
     }
     let mut word = io::buffer();
     let n = program_files::argument(rt, o.next, &mut word);
@@ -250,19 +224,20 @@ fn step<R: Env + Files + Input>(rt: &R, o: Options, count: usize) -> Options {
 pub fn run<R: Env + Files + Input>(rt: &R) {
     let count = program_files::argument_count(rt);
     let mut options = Options {
-        form: Form::Text,
-        rule: UniformRule::Older,
-        capabilities: 0,
+        asked: Asked {
+            form: Form::Text,
+            rule: UniformRule::Older,
+            capabilities: 0,
+        },
         next: 1,
         open: false,
         files: false,
-        done: false,
     };
     // Each step but the last passes an argument.
     for _ in 0..=count {
-        options = step(rt, options, count);
-        if options.done {
-            return;
+        match step(rt, options, count) {
+            Some(next) => options = next,
+            None => return,
         }
     }
 }

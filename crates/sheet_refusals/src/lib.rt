@@ -2,8 +2,8 @@
 #![tactic(auto)]
 
 use ir_records::{Fault, Refusal};
-use sheet_names::Named;
-use sheet_output::Writer;
+use sheet_names::{Member, Sheet, Type};
+use sheet_output::{Markup, Writer};
 
 const MOST_TYPES: u32 = 1024;
 
@@ -16,7 +16,7 @@ pub fn put_text(out: &mut Writer, text: &[u8], refusal: wgsl_grammar::Refusal) {
     sheet_meanings::put_number(out, u32::from(refusal.fault));
     out.put_text(b"  ");
     out.make_room(MESSAGE);
-    out.end = wgsl_messages::put_message(out.out, out.end, text, refusal);
+    wgsl_messages::put_message(out.out, text, refusal);
 }
 
 // The word at which an instruction stands, and the instruction.
@@ -35,9 +35,9 @@ pub fn put_module(
     words: &[u32],
     types: &mut [u32],
     members: &mut [u32],
-    number: u32,
+    fault: Fault,
 ) {
-    sheet_meanings::put_number(out, number);
+    sheet_meanings::put_number(out, u32::from(fault));
     out.put_text(b"  ");
     if sheet_places::is_refused(sheet_places::before(words, 0), types, members) {
         put_word(out, words, 0);
@@ -50,47 +50,42 @@ pub fn put_module(
     );
 }
 
-// The first member row with a type that is not before this one: where a text writes it.
-fn row_of(members: &[u32], ty: u32) -> u32 {
-    for r in 0..MOST_MEMBERS {
-        if ty <= ir_records::member_type(members, r) {
-            return r;
-        }
-    }
-    MOST_MEMBERS
+// Whether a member row is one of a struct.
+fn has_row(t: Type, row: u32) -> bool {
+    let first = u64::from(t.word(1));
+    let end = first + u64::from(t.count());
+    t.is_struct() & (first <= u64::from(row)) & (u64::from(row) < end)
 }
 
-// Whether a member row is one of struct i.
-fn has_row(types: &[u32], i: u32, row: u32) -> bool {
-    let kind = ir_records::type_word(types, i, 0);
-    let first = ir_records::type_word(types, i, 1);
-    let count = ir_records::type_word(types, i, 2) as u64;
-    let end = (first as u64) + count;
-    (kind == ir_records::STRUCT_KIND) & (first <= row) & ((row as u64) < end)
+// The member in whose type a type of a text stands: the first one whose type is not before it.
+fn member_with<'a>(sheet: Sheet<'a>, ty: u32) -> Option<Member<'a>> {
+    let row = (0..MOST_MEMBERS).find(|r| ty <= ir_records::member_type(sheet.members, *r))?;
+    let i = (0..MOST_TYPES).find(|i| has_row(sheet.type_at(*i), row))?;
+    let t = sheet.type_at(i);
+    Some(t.member(row.saturating_sub(t.word(1))))
 }
 
-// The struct that a member row belongs to; 1,024 for none.
-fn struct_of(types: &[u32], row: u32) -> u32 {
-    for i in 0..MOST_TYPES {
-        if has_row(types, i, row) {
-            return i;
-        }
-    }
-    MOST_TYPES
+fn put_member(out: &mut Writer, member: Member) {
+    out.put_text(b", ");
+    sheet_types::put_numbered_member(out, member);
 }
 
 // The name of a struct, of a member of it where one is meant, and where the last of them stands in the text.
-fn put_place(out: &mut Writer, named: Named, i: u32, j: u32, meant: bool) {
+fn put_place(out: &mut Writer, t: Type, member: Option<Member>) {
     out.put_text(b"  struct ");
-    sheet_types::put_struct_name(out, named, i, false);
-    let mut entry = sheet_names::type_entry(i);
-    if meant {
-        out.put_with(b", member ", j as u64, b" (");
-        sheet_types::put_member_name(out, named, i, j, false);
-        out.put_byte(b')');
-        entry = sheet_names::member_entry(sheet_names::member_row(named.types, i, j));
-    }
-    put_position(out, named.text, sheet_names::start_of(named.names, entry));
+    sheet_types::put_struct_name(out, t);
+    let entry = match member {
+        Some(member) => {
+            put_member(out, member);
+            sheet_names::member_entry(sheet_names::member_row(t.sheet.types, t.i, member.j))
+        }
+        None => sheet_names::type_entry(t.i),
+    };
+    put_position(
+        out,
+        t.sheet.text,
+        sheet_names::start_of(t.sheet.names, entry),
+    );
 }
 
 fn put_position(out: &mut Writer, text: &[u8], byte: usize) {
@@ -113,39 +108,39 @@ fn names_member(fault: Fault) -> bool {
     )
 }
 
-// The type that is refused, in a text: the struct, or the member in whose type it stands.
-fn put_in_text(out: &mut Writer, named: Named, members: &[u32], refusal: Refusal) {
-    if ir_records::type_word(named.types, refusal.ty, 0) == ir_records::STRUCT_KIND {
-        put_place(
-            out,
-            named,
-            refusal.ty,
-            refusal.member,
-            names_member(refusal.fault),
-        );
-        return;
+// The member of the refused type that a refusal names, where it names one.
+fn named_member<'a>(t: Type<'a>, refusal: Refusal) -> Option<Member<'a>> {
+    if names_member(refusal.fault) {
+        Some(t.member(refusal.member))
+    } else {
+        None
     }
-    let row = row_of(members, refusal.ty);
-    let i = struct_of(named.types, row);
-    let first = ir_records::type_word(named.types, i, 1);
-    put_place(out, named, i, row.saturating_sub(first), true);
+}
+
+// The type that is refused, in a text: the struct, or the member in whose type it stands.
+fn put_in_text(out: &mut Writer, sheet: Sheet, refusal: Refusal) {
+    let t = sheet.type_at(refusal.ty);
+    if t.is_struct() {
+        put_place(out, t, named_member(t, refusal));
+    } else if let Some(member) = member_with(sheet, refusal.ty) {
+        put_place(out, member.of, Some(member));
+    }
 }
 
 // The type that is refused, in a module: its instruction.
-fn put_in_module(out: &mut Writer, named: Named, words: &[u32], place: usize, refusal: Refusal) {
+fn put_in_module(out: &mut Writer, t: Type, words: &[u32], place: usize, refusal: Refusal) {
     out.put_text(b"  ");
-    sheet_types::put_type(out, named, refusal.ty, false);
-    if names_member(refusal.fault) {
-        out.put_with(b", member ", refusal.member as u64, b" (");
-        sheet_types::put_member_name(out, named, refusal.ty, refusal.member, false);
-        out.put_byte(b')');
+    sheet_types::put_type(out, t);
+    if let Some(member) = named_member(t, refusal) {
+        put_member(out, member);
     }
     out.put_text(b", ");
     put_word(out, words, place);
 }
 
-// The number, its meaning, and the capability that is missing.
+// The number, its meaning, and the capability that is missing. A refusal is no part of a page, so what comes after it is plain text.
 fn put_arena_number(out: &mut Writer, refusal: Refusal) {
+    out.markup = Markup::Plain;
     sheet_meanings::put_number(out, u32::from(refusal.fault));
     if refusal.fault == Fault::MissingCapability {
         out.put_text(b"  ");
@@ -154,23 +149,23 @@ fn put_arena_number(out: &mut Writer, refusal: Refusal) {
 }
 
 /// A refusal of the records of a text.
-pub fn put_text_arena(out: &mut Writer, named: Named, members: &[u32], refusal: Refusal) {
+pub fn put_text_arena(out: &mut Writer, sheet: Sheet, refusal: Refusal) {
     put_arena_number(out, refusal);
     if refusal.fault != Fault::TableLength {
-        put_in_text(out, named, members, refusal);
+        put_in_text(out, sheet, refusal);
     }
 }
 
-/// A refusal of the records of a module.
+/// A refusal of the records of a module; the instruction of the refused type stands at `place`.
 pub fn put_module_arena(
     out: &mut Writer,
-    named: Named,
+    sheet: Sheet,
     words: &[u32],
     place: usize,
     refusal: Refusal,
 ) {
     put_arena_number(out, refusal);
     if refusal.fault != Fault::TableLength {
-        put_in_module(out, named, words, place, refusal);
+        put_in_module(out, sheet.type_at(refusal.ty), words, place, refusal);
     }
 }

@@ -1,23 +1,20 @@
 // The sheet as Rust: a struct each, its numbers as constants, and an assertion for every offset and size.
 #![tactic(auto)]
 
+use ir_records::ScalarKind;
 use sheet_dimensions::Dimensions;
-use sheet_names::Named;
+use sheet_names::{Member, Type};
 use sheet_output::Writer;
+use sheet_types::Scalar;
 
 // The type of a scalar. A host has no f16: its bits are a u16.
-fn put_scalar(out: &mut Writer, kind: u32, width: u32) {
-    let bits = (width as u64) * 8;
-    match kind {
-        0 => out.put_with(b"i", bits, b""),
-        1 => out.put_with(b"u", bits, b""),
-        _ => {
-            if width == 2 {
-                out.put_text(b"u16");
-                return;
-            }
-            out.put_with(b"f", bits, b"")
-        }
+fn put_scalar(out: &mut Writer, scalar: Scalar) {
+    let bits = scalar.bits();
+    match ScalarKind::try_from(scalar.kind) {
+        Ok(ScalarKind::Sint) => out.put_with(b"i", bits, b""),
+        Ok(ScalarKind::Uint) => out.put_with(b"u", bits, b""),
+        _ if scalar.width == 2 => out.put_text(b"u16"),
+        _ => out.put_with(b"f", bits, b""),
     }
 }
 
@@ -27,7 +24,7 @@ pub fn put_start(out: &mut Writer) {
     );
 }
 
-pub fn put_open(out: &mut Writer, named: Named, i: u32) {
+pub fn put_open(out: &mut Writer, t: Type) {
     out.put_text(
         b"
 #[repr(C)]
@@ -35,14 +32,14 @@ pub fn put_open(out: &mut Writer, named: Named, i: u32) {
 #[allow(dead_code, non_camel_case_types, non_snake_case)]
 pub struct ",
     );
-    sheet_identifiers::put_type(out, named, i);
+    sheet_identifiers::put_type(out, t);
     out.put_text(b" {\n");
 }
 
 // A struct that has no form for a host.
-pub fn put_none(out: &mut Writer, named: Named, i: u32) {
+pub fn put_none(out: &mut Writer, t: Type) {
     out.put_text(b"\n// struct ");
-    sheet_identifiers::put_type(out, named, i);
+    sheet_identifiers::put_type(out, t);
     out.put_text(
         b" has no form here: it is not host-shareable, or its storage verdict is not ok.\n",
     );
@@ -53,14 +50,13 @@ pub fn put_gap(out: &mut Writer, start: u64, bytes: u64) {
     out.put_with(b"", bytes, b"],\n");
 }
 
-fn put_base(out: &mut Writer, named: Named, t: u32) {
-    if ir_records::type_word(named.types, t, 0) == ir_records::STRUCT_KIND {
-        sheet_identifiers::put_type(out, named, t);
-        return;
+// The type inside the dimensions.
+fn put_base(out: &mut Writer, t: Type) {
+    if t.is_struct() {
+        sheet_identifiers::put_type(out, t);
+    } else {
+        put_scalar(out, sheet_dimensions::scalar_of(t));
     }
-    let kind = sheet_dimensions::kind_of(named.types, t);
-    let width = sheet_dimensions::width_of(named.types, t);
-    put_scalar(out, kind, width);
 }
 
 fn put_dimension(out: &mut Writer, n: u64) {
@@ -75,75 +71,69 @@ fn put_dimensions(out: &mut Writer, dimensions: Dimensions) {
 }
 
 // The type of a member.
-fn put_type(out: &mut Writer, named: Named, rows: &[u32], ty: u32) {
-    match sheet_dimensions::of_type(named.types, rows, ty) {
+fn put_type(out: &mut Writer, t: Type) {
+    match sheet_dimensions::of_type(t) {
         Some(dimensions) => {
             for _ in dimensions.as_slice() {
                 out.put_byte(b'[');
             }
-            put_base(out, named, dimensions.base);
+            put_base(out, t.other(dimensions.base));
             put_dimensions(out, dimensions);
         }
-        None => {
-            let size = sheet_verdicts::row_word(rows, ty, 0) as u64;
-            out.put_with(b"[u8; ", size, b"]");
-        }
+        None => out.put_with(b"[u8; ", u64::from(t.size()), b"]"),
     }
 }
 
-// The line of member j of struct i.
-pub fn put_member(
-    out: &mut Writer,
-    named: Named,
-    rows: &[u32],
-    i: u32,
-    j: u32,
-    ty: u32,
-    offset: u32,
-) {
+// The line of a member.
+pub fn put_member(out: &mut Writer, member: Member) {
+    let t = member.own_type();
     out.put_text(b"    pub ");
-    sheet_identifiers::put_member(out, named, i, j);
+    sheet_identifiers::put_member(out, member);
     out.put_text(b": ");
-    put_type(out, named, rows, ty);
-    out.put_with(b", // ", offset as u64, b": ");
-    sheet_types::put_type(out, named, ty, false);
+    put_type(out, t);
+    out.put_with(b", // ", u64::from(member.offset), b": ");
+    sheet_types::put_type(out, t);
     out.put_byte(b'\n');
 }
 
-fn put_impl(out: &mut Writer, named: Named, i: u32) {
+fn put_impl(out: &mut Writer, t: Type) {
     out.put_text(b"}\n#[allow(dead_code)]\nimpl ");
-    sheet_identifiers::put_type(out, named, i);
+    sheet_identifiers::put_type(out, t);
     out.put_text(b" {\n");
 }
 
 // After the members: the numbers of the struct, up to its offsets.
-pub fn put_numbers(out: &mut Writer, named: Named, rows: &[u32], i: u32) {
-    put_impl(out, named, i);
-    let size = sheet_verdicts::row_word(rows, i, 0) as u64;
-    let alignment = sheet_verdicts::row_word(rows, i, 1) as u64;
-    let count = ir_records::type_word(named.types, i, 2) as u64;
-    out.put_with(b"    pub const SIZE: usize = ", size, b";\n");
-    out.put_with(b"    pub const ALIGNMENT: usize = ", alignment, b";\n");
-    out.put_with(b"    pub const OFFSETS: [usize; ", count, b"] = [\n");
+pub fn put_numbers(out: &mut Writer, t: Type) {
+    put_impl(out, t);
+    out.put_with(b"    pub const SIZE: usize = ", u64::from(t.size()), b";\n");
+    out.put_with(
+        b"    pub const ALIGNMENT: usize = ",
+        u64::from(t.alignment()),
+        b";\n",
+    );
+    out.put_with(
+        b"    pub const OFFSETS: [usize; ",
+        u64::from(t.count()),
+        b"] = [\n",
+    );
 }
 
-pub fn put_offset(out: &mut Writer, offset: u32) {
-    out.put_with(b"        ", offset as u64, b",\n");
+pub fn put_offset(out: &mut Writer, member: Member) {
+    out.put_with(b"        ", u64::from(member.offset), b",\n");
 }
 
 // The end of the constants, and the assertion of the size.
-pub fn put_size(out: &mut Writer, named: Named, rows: &[u32], i: u32) {
+pub fn put_size(out: &mut Writer, t: Type) {
     out.put_text(b"    ];\n}\nconst _: () = assert!(::core::mem::size_of::<");
-    sheet_identifiers::put_type(out, named, i);
-    let size = sheet_verdicts::row_word(rows, i, 0) as u64;
-    out.put_with(b">() == ", size, b");\n");
+    sheet_identifiers::put_type(out, t);
+    out.put_with(b">() == ", u64::from(t.size()), b");\n");
 }
 
 // The assertion of a member's offset.
-pub fn put_assertion(out: &mut Writer, named: Named, i: u32, j: u32, offset: u32) {
+pub fn put_assertion(out: &mut Writer, member: Member) {
     out.put_text(b"const _: () = assert!(::core::mem::offset_of!(");
-    sheet_identifiers::put_type(out, named, i);
+    sheet_identifiers::put_type(out, member.of);
     out.put_text(b", ");
-    sheet_identifiers::put_member(out, named, i, j);
-    out.put_with(b") == ", offset as u64, b");\n");
+    sheet_identifiers::put_member(out, member);
+    out.put_with(b") == ", u64::from(member.offset), b");\n");
 }

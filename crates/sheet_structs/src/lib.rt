@@ -1,143 +1,155 @@
 // The structs of a sheet in the order of their records, in one of four forms.
 #![tactic(auto)]
 
-use sheet_lines::{Form, Offsets};
-use sheet_names::Named;
+use sheet_names::{Member, Sheet, Type};
 use sheet_output::Writer;
+use sheet_verdicts::Space;
 
 const MOST_TYPES: u32 = 1024;
 
-// The table of struct i as text.
-fn put_table(out: &mut Writer, named: Named, members: &[u32], rows: &[u32], i: u32) {
-    let part = ir_records::struct_members(named.types, members, i);
-    let width = sheet_table::name_width(named, i, ir_records::type_word(named.types, i, 2));
+/// What a sheet is written as.
+#[derive(Clone, Copy, Debug, PartialEq, Eq)]
+pub enum Form {
+    Text,
+    C,
+    Rust,
+    Page,
+}
+
+// What a struct measures, its verdicts, its bytes where they were counted, and its slots; a line begins with `line`.
+fn put_facts(out: &mut Writer, t: Type, line: &[u8]) {
+    sheet_verdicts::put_measures(out, t);
+    out.put_text(line);
+    out.put_text(b"storage: ");
+    sheet_verdicts::put_verdict(out, t, Space::Storage);
+    out.put_text(line);
+    out.put_text(b"uniform: ");
+    sheet_verdicts::put_verdict(out, t, Space::Uniform);
+    if sheet_counts::is_counted(t.sheet.rows, t.sheet.report, t.i) {
+        out.put_text(line);
+        out.put_with(
+            b"bytes: ",
+            sheet_counts::carried(t.sheet.report, t.i),
+            b" carried, ",
+        );
+        out.put_with(b"", sheet_counts::wasted(t.sheet.report, t.i), b" wasted");
+    }
+    out.put_text(line);
+    out.put_text(b"immediates: ");
+    sheet_counts::put_slots(out, t);
+}
+
+fn put_text(out: &mut Writer, t: Type) {
+    out.put_text(b"struct ");
+    sheet_types::put_struct_name(out, t);
+    out.put_text(b"\n  ");
+    put_facts(out, t, b"\n  ");
+    out.put_byte(b'\n');
+    let width = sheet_table::name_width(t, t.count());
     sheet_table::put_table_head(out, width);
-    sheet_lines::put_lines(Form::Text, out, named, part, rows, i, width);
+    sheet_lines::put_lines(
+        out,
+        t,
+        u64::from(t.size()),
+        sheet_table::put_gap,
+        |out: &mut Writer, member: Member| sheet_table::put_member(out, member, width),
+    );
     out.put_byte(b'\n');
 }
 
-// The bytes of struct i, where they were counted.
-fn put_bytes(out: &mut Writer, rows: &[u32], counts: &[u64], i: u32, page: bool) {
-    if !sheet_counts::is_counted(rows, counts, i) {
+fn put_c(out: &mut Writer, t: Type) {
+    if !sheet_verdicts::is_usable(t.sheet.rows, t.i) {
+        sheet_c::put_none(out, t);
         return;
     }
-    let carried = sheet_counts::carried(counts, i);
-    let wasted = sheet_counts::wasted(counts, i);
-    if page {
-        sheet_page::put_bytes(out, carried, wasted);
-    } else {
-        sheet_table::put_bytes(out, carried, wasted);
-    }
-}
-
-fn put_text(out: &mut Writer, named: Named, members: &[u32], rows: &[u32], counts: &[u64], i: u32) {
-    sheet_table::put_head(out, named, rows, i);
-    sheet_table::put_verdicts(out, named, rows, i);
-    put_bytes(out, rows, counts, i, false);
-    out.put_text(b"  immediates: ");
-    sheet_counts::put_slots(out, rows, counts, i);
-    out.put_text(b"\n");
-    put_table(out, named, members, rows, i);
-}
-
-fn put_c(out: &mut Writer, named: Named, members: &[u32], rows: &[u32], i: u32) {
-    if !sheet_verdicts::is_usable(rows, i) {
-        sheet_c::put_none(out, named, i);
-        return;
-    }
-    let part = ir_records::struct_members(named.types, members, i);
-    let last = sheet_lines::last_member(named.types, i);
-    sheet_c::put_open(out, named, i);
-    sheet_lines::put_lines(Form::C, out, named, part, rows, i, 0);
-    sheet_c::put_close(out);
-    sheet_lines::put_offsets(Offsets::CAssertions, out, named, part, i);
-    sheet_c::put_end(
+    sheet_c::put_open(out, t);
+    sheet_lines::put_lines(
         out,
-        named,
-        rows,
-        i,
-        last,
-        ir_records::member_type(part, last),
+        t,
+        sheet_c::last_byte(t),
+        sheet_c::put_gap,
+        sheet_c::put_member,
     );
+    sheet_c::put_close(out);
+    sheet_lines::put_each(out, t, sheet_c::put_offset);
+    sheet_c::put_end(out, t);
 }
 
-fn put_rust(out: &mut Writer, named: Named, members: &[u32], rows: &[u32], i: u32) {
-    if !sheet_verdicts::is_usable(rows, i) {
-        sheet_rust::put_none(out, named, i);
+fn put_rust(out: &mut Writer, t: Type) {
+    if !sheet_verdicts::is_usable(t.sheet.rows, t.i) {
+        sheet_rust::put_none(out, t);
         return;
     }
-    let part = ir_records::struct_members(named.types, members, i);
-    sheet_rust::put_open(out, named, i);
-    sheet_lines::put_lines(Form::Rust, out, named, part, rows, i, 0);
-    sheet_rust::put_numbers(out, named, rows, i);
-    sheet_lines::put_offsets(Offsets::RustConstants, out, named, part, i);
-    sheet_rust::put_size(out, named, rows, i);
-    sheet_lines::put_offsets(Offsets::RustAssertions, out, named, part, i);
+    sheet_rust::put_open(out, t);
+    sheet_lines::put_lines(
+        out,
+        t,
+        u64::from(t.size()),
+        sheet_rust::put_gap,
+        sheet_rust::put_member,
+    );
+    sheet_rust::put_numbers(out, t);
+    sheet_lines::put_each(out, t, sheet_rust::put_offset);
+    sheet_rust::put_size(out, t);
+    sheet_lines::put_each(out, t, sheet_rust::put_assertion);
 }
 
-// The table and the picture of struct i.
-fn put_drawn(out: &mut Writer, named: Named, members: &[u32], rows: &[u32], i: u32) {
-    let part = ir_records::struct_members(named.types, members, i);
+fn put_page(out: &mut Writer, t: Type) {
+    out.put_text(b"<h2>struct ");
+    sheet_types::put_struct_name(out, t);
+    out.put_text(b"</h2>\n<p>");
+    put_facts(out, t, b"<br>\n");
     sheet_page::put_table_head(out);
-    sheet_lines::put_lines(Form::Page, out, named, part, rows, i, 0);
+    sheet_lines::put_lines(
+        out,
+        t,
+        u64::from(t.size()),
+        sheet_page::put_gap,
+        sheet_page::put_member,
+    );
     sheet_page::put_table_end(out);
-    if !sheet_verdicts::is_shareable(rows, i) {
-        return;
+    if sheet_verdicts::is_shareable(t.sheet.rows, t.i) {
+        sheet_picture::put_head(out);
+        sheet_picture::put_rows(out, t);
+        sheet_picture::put_rest(out, t);
     }
-    sheet_picture::put_head(out);
-    sheet_picture::put_rows(out, named, members, rows, i);
-    sheet_picture::put_rest(out, rows, i);
 }
 
-fn put_page(out: &mut Writer, named: Named, members: &[u32], rows: &[u32], counts: &[u64], i: u32) {
-    sheet_page::put_head(out, named, rows, i);
-    sheet_page::put_verdicts(out, named, rows, i);
-    put_bytes(out, rows, counts, i, true);
-    out.put_text(b"<br>\nimmediates: ");
-    sheet_counts::put_slots(out, rows, counts, i);
-    put_drawn(out, named, members, rows, i);
-}
-
-// Type i, where it is a struct.
-fn put_one(
-    form: Form,
-    out: &mut Writer,
-    named: Named,
-    members: &[u32],
-    rows: &[u32],
-    counts: &[u64],
-    i: u32,
-) {
-    if ir_records::type_word(named.types, i, 0) != ir_records::STRUCT_KIND {
+// A type, where it is a struct.
+// Kept: the form is known only when the program runs, so a trait of forms would need this choice too, and four implementations beside it.
+fn put_one(form: Form, out: &mut Writer, t: Type) {
+    if !t.is_struct() {
         return;
     }
     match form {
-        Form::Text => put_text(out, named, members, rows, counts, i),
-        Form::C => put_c(out, named, members, rows, i),
-        Form::Rust => put_rust(out, named, members, rows, i),
-        Form::Page => put_page(out, named, members, rows, counts, i),
+        Form::Text => put_text(out, t),
+        Form::C => put_c(out, t),
+        Form::Rust => put_rust(out, t),
+        Form::Page => put_page(out, t),
     }
 }
 
 // What stands before the first struct. A name is that of the file; where there is none, or it cannot be printed, it is left out.
+// Kept: chosen as in `put_one`.
 pub fn put_start(form: Form, out: &mut Writer, name: &[u8]) {
     match form {
         Form::Text => {
             out.put_text(b"Layout sheet");
-            sheet_types::put_file(out, name, false);
+            sheet_types::put_file(out, name);
             out.put_text(b"\n\n")
         }
         Form::C => sheet_c::put_start(out),
         Form::Rust => sheet_rust::put_start(out),
         Form::Page => {
             sheet_page::put_start(out);
-            sheet_types::put_file(out, name, true);
+            sheet_types::put_file(out, name);
             out.put_text(b"</h1>\n")
         }
     }
 }
 
 // What stands after the last struct, in the forms that people read: how much was read, and the limits.
+// Kept: chosen as in `put_one`.
 fn put_end(form: Form, out: &mut Writer, types: u64, structs: u64) {
     match form {
         Form::Text => put_counts(out, types, structs, b"\n"),
@@ -160,33 +172,18 @@ fn put_counts(out: &mut Writer, types: u64, structs: u64, last: &[u8]) {
     out.put_text(last);
 }
 
-// How many types are structs.
-fn struct_count(types: &[u32]) -> u64 {
-    let mut n: u64 = 0;
+/// All structs of an accepted arena.
+pub fn put_all(form: Form, out: &mut Writer, sheet: Sheet) {
     for i in 0..MOST_TYPES {
-        if ir_records::type_word(types, i, 0) == ir_records::STRUCT_KIND {
-            n = std::num::wrapping_add_u64(n, 1);
-        }
+        put_one(form, out, sheet.type_at(i));
     }
-    n
-}
-
-// All structs of an accepted arena.
-pub fn put_all(
-    form: Form,
-    out: &mut Writer,
-    named: Named,
-    members: &[u32],
-    rows: &[u32],
-    counts: &[u64],
-) {
-    for i in 0..MOST_TYPES {
-        put_one(form, out, named, members, rows, counts, i);
-    }
+    let structs = (0..MOST_TYPES)
+        .filter(|i| sheet.type_at(*i).is_struct())
+        .count();
     put_end(
         form,
         out,
-        ir_records::type_count(named.types) as u64,
-        struct_count(named.types),
+        ir_records::type_count(sheet.types) as u64,
+        structs as u64,
     );
 }

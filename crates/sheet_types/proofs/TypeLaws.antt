@@ -36,8 +36,5 @@ digits_length zero n = refl
 digits_length (suc k) n =
     length-append (last_digits 10 k (n / 10)) (hex_digit_ascii (n % 10) ∷ []) ∙ (ap (λ (m : ℕ). m + 1) (digits_length k (n / 10)) ∙ add-one k)
 
-pub length_printed : (name : List ℕ) (j : ℕ) → is_printable name ≡ true → length name ≡ name_length name j
-length_printed name j p = rw p
-
 pub length_numbered : (name : List ℕ) (j k : ℕ) → is_printable name ≡ false → IsDigitCount 10 1 j k → j < 18446744073709551616 → k ≡ name_length name j
 length_numbered name j k p f h = rw p (sym (ap length (sym (fewest_digits k 20 j f (fewest_few j k f h))) ∙ digits_length k j))

@@ -1,21 +1,18 @@
 -- The instructions before a place, split at one of them; how many types are read before it; where a search may begin.
 -- Assumes nothing.
 use mathlib.Core.Path.{◌≡◌, refl, sym, ap, ◌∙◌}
-use mathlib.Core.Bool.{Bool, true, false, not, ◌&&◌, ◌||◌}
+use mathlib.Core.Bool.{Bool, true, false, ◌&&◌, ◌||◌}
 use mathlib.Core.List.{List, [], ◌∷◌, ◌++◌, append_assoc}
 use Prim.Native.Nat.{ℕ, ◌+◌, ◌-◌, ◌≤◌, ◌<◌}
 use native.Mathlib.Omega.{arith}
 use native.Mathlib.Decide.{dec_le}
 use lib.Dec.{eqb, leb}
-use borrow.Author.Tests.{leb-true, le-leb, eqb-true, eqb-false, ne_eqb}
+use borrow.Author.Tests.{leb-true, le-leb, eqb-true, ne_eqb}
 use Rattle.std.specs.Prelude.{None, Some}
-use Rattle.std.specs.Option.{is_some}
-use Rattle.std.proofs.lemmas.Option.{none-some, same_Some}
 use Rattle.ir_records.specs.Result.{pick}
 use Rattle.spirv_words.specs.Module.{opcode, word_count, is_type, is_read, type_int, header_words, starts, between, before, first, count}
 use Rattle.spirv_words.specs.Decorations.{is_integer}
 use Rattle.spirv_words.proofs.SearchLaws.{between_next, between_end, search_on, search_end, found_below}
-use Rattle.spirv_ids.specs.declared.Giver.{Giver}
 use Rattle.spirv_ids.specs.Ids.{integer_before, is_constant, gives, giver, giver_found, type_number}
 use Rattle.spirv_ids.specs.Places.{Stands, may_give, GivesFrom}
 
@@ -130,11 +127,6 @@ pub gives_first : (ws : List ℕ) → GivesFrom ws header_words
 unfolding type_number starts count
 gives_first ws = record { stands = stands_first ws; search = λ test quiet end. refl; none = refl }
 
--- no type is read before what is none
-pub number_none : (ws : List ℕ) → type_number ws 0 ≡ 0
-unfolding type_number starts count
-number_none ws = refl
-
 pub giver_below : (ws : List ℕ) (at id : ℕ) → 0 < giver ws at id → giver ws at id < at
 unfolding giver
 giver_below ws at id h = (found_below ws at (gives ws id) (at - header_words) header_words h).0
@@ -153,29 +145,3 @@ module _ (ws : List ℕ) (at id : ℕ) where
 
   pub giver_here : (p n : ℕ) → 0 < p → p ≡ giver ws at id → n ≡ type_number ws p → Some (record { at = p; number = n }) ≡ giver_found ws at id
   giver_here p n h e f = rw (sym e, ne_eqb p 0 (λ z. omega (arith, h, z)), f)
-
-  pub giver_none : None ≡ giver_found ws at id → giver ws at id ≡ 0
-  giver_none e = by (eqb (giver ws at id) 0) refl
-    where
-      by : (b : Bool) → eqb (giver ws at id) 0 ≡ b → giver ws at id ≡ 0
-      by true t = eqb-true (giver ws at id) 0 t
-      by false t = absurd (none-some _ (rw t at e))
-
-  pub giver_some : (g : Giver) → Some g ≡ giver_found ws at id → (giver ws at id ≡ g.at) × (g.number ≡ type_number ws g.at) × (0 < g.at)
-  giver_some g e = by (eqb (giver ws at id) 0) refl
-    where
-      by : (b : Bool) → eqb (giver ws at id) 0 ≡ b → (giver ws at id ≡ g.at) × (g.number ≡ type_number ws g.at) × (0 < g.at)
-      by true t = absurd (none-some _ (sym (rw t at e)))
-      by false t =
-          let is = same_Some _ _ (rw t at e) in
-          let place : g.at ≡ giver ws at id = ap (λ (x : Giver). x.at) is in
-          (sym place, ap (λ (x : Giver). x.number) is ∙ ap (type_number ws) (sym place), omega (arith, eqb-false (giver ws at id) 0 t, place))
-
-  pub giver_is : (r : Bool) → is_some (giver_found ws at id) ≡ not r → r ≡ eqb (giver ws at id) 0
-  giver_is r e = by r (eqb (giver ws at id) 0) refl e
-    where
-      by : (r b : Bool) → eqb (giver ws at id) 0 ≡ b → is_some (giver_found ws at id) ≡ not r → r ≡ eqb (giver ws at id) 0
-      by true true t e = sym t
-      by false false t e = sym t
-      by true false t e = absurd (true_false (rw t at e))
-      by false true t e = absurd (true_false (sym (rw t at e)))

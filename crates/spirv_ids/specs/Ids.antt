@@ -5,8 +5,7 @@ use Rattle.ir_records.specs.Result.{pick}
 use Rattle.spirv_words.specs.Module.{opcode, word, is_type, is_read, constant, before, first, count}
 use Rattle.spirv_words.specs.Decorations.{is_integer}
 use Rattle.spirv_ids.specs.declared.Giver.{Giver}
-use Rattle.spirv_ids.specs.declared.Sort.{Sort}
-use Rattle.spirv_ids.specs.declared.Sort.TheVariants.{Unknown, OtherType, TypeRead, ConstantAt}
+use Rattle.spirv_ids.specs.Sorts.{Sort, Unknown, OtherType, TypeRead, ConstantAt}
 
 -- the OpTypeInt before `at` that gives the id; 0 for none
 unfoldable pub integer_before : (ws : List ℕ) (at id : ℕ) → ℕ

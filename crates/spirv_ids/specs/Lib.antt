@@ -1,2 +1,3 @@
+pub mod Sorts
 pub mod Ids
 pub mod Places

@@ -1,6 +1,7 @@
 -- Where a search for what gives an id may begin. It says nothing of the answers; it spares the names and decorations before the types.
 -- Assumes nothing.
 use Rattle.std.specs.Prelude.{◌≡◌, Bool, false, ◌||◌, List, ◌++◌, ℕ, ◌≤◌, eqb}
+use Rattle.std.specs.Coded.{le_prop, coded_ℕ, coded_list, Coded-set}
 use Rattle.spirv_words.specs.Module.{opcode, is_type, constant, header_words, between, before, first}
 use Rattle.spirv_ids.specs.Ids.{type_number}
 
@@ -18,3 +19,16 @@ pub record GivesFrom (ws : List ℕ) (p : ℕ) : Type 0 where
   pub stands : Stands ws p
   pub search : (test : ℕ → Bool) → ((q : ℕ) → may_give (opcode ws q) ≡ false → test q ≡ false) → (end : ℕ) → first test (before ws end) ≡ first test (between ws p end)
   pub none : type_number ws p ≡ 0
+
+-- each of the two has at most one proof
+pub Stands-prop : (ws : List ℕ) (p : ℕ) → IsProp (Stands ws p)
+Stands-prop ws p a b =
+    λ i. record { start = le_prop a.start b.start i; split = λ end h. Coded-set (coded_list coded_ℕ) _ _ (a.split end h) (b.split end h) i }
+
+pub GivesFrom-prop : (ws : List ℕ) (p : ℕ) → IsProp (GivesFrom ws p)
+GivesFrom-prop ws p a b =
+    λ i. record {
+      stands = Stands-prop ws p a.stands b.stands i;
+      search = λ test quiet end. Coded-set coded_ℕ _ _ (a.search test quiet end) (b.search test quiet end) i;
+      none = Coded-set coded_ℕ _ _ a.none b.none i;
+    }

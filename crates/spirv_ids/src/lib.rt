@@ -1,34 +1,39 @@
 // What an id stands for at an instruction: searches for the instruction that gives it.
 #![tactic(auto)]
 
-ghost use Rattle.std.specs.Prelude.{◌≡◌, true, ◌≤◌, ◌<◌, eqb, length};
+ghost use Rattle.std.specs.Prelude.{◌≡◌, Some, ◌≤◌, ◌<◌, eqb};
 ghost use Rattle.ir_records.specs.Fields.{most_types};
-ghost use Rattle.spirv_words.specs.Module.{opcode, is_type, is_read, found};
+ghost use Rattle.spirv_words.specs.Module.{is_type, is_read, found};
 ghost use Rattle.spirv_ids.specs.Ids.{integer_before, is_constant, gives, giver, giver_found, type_number, sort_at, sort};
-ghost use Rattle.spirv_ids.specs.Places.{may_give, GivesFrom};
-
-use spirv_words::Wanted;
+ghost use Rattle.spirv_ids.specs.Places.{may_give, GivesFrom, GivesFrom-prop};
+ghost use Rattle.spirv_ids.specs.Sorts.{sort_said};
 
 // The instruction that gives an id, and how many types are read before it.
-#[derive(Clone, Copy)]
+#[derive(Clone, Copy, Debug, PartialEq, Eq)]
 pub struct Giver {
     pub at: usize,
     pub number: u32,
 }
 
-/// The instruction at `at` of a module's words, and where a search for what gives an id may begin.
-#[derive(Clone, Copy)]
-pub struct Place<'a> {
+/// The words of a module, and where a search for what gives an id may begin.
+#[derive(Clone, Copy, Debug, PartialEq, Eq)]
+pub struct Module<'a> {
     pub words: &'a [u32],
     pub from: usize,
-    pub at: usize,
+    ghost gives: { GivesFrom words.now from } by { GivesFrom-prop words.now from },
 }
 
-// What an id stands for.
-#[derive(Clone, Copy)]
-pub enum Sort {
-    // Missing or still to come.
-    Unknown,
+/// A place in a module before which no more types are read than there may be.
+#[derive(Clone, Copy, Debug, PartialEq, Eq)]
+pub struct Place<'a> {
+    pub input: Module<'a>,
+    pub at: usize,
+    ghost few: { type_number input.words.now at ≤ most_types },
+}
+
+// What gives an id.
+#[derive(Clone, Copy, Debug, PartialEq, Eq)]
+pub enum Given {
     // A type that is not read.
     OtherType,
     // A type by its number.
@@ -75,97 +80,96 @@ pub fn first_giver(words: &[u32]) -> usize
     p
 }
 
+impl<'a> Module<'a> {
+    pub fn new(words: &'a [u32]) -> Self
+        ensures { result.words ≡ words.entry }
+    {
+        Module {
+            words,
+            from: first_giver(words),
+        }
+    }
+}
+
 // The OpTypeInt before `at` that gives the id.
-pub fn integer_before(place: Place, id: u32) -> Option<usize>
-    requires at_in_bounds { place.at ≤ length place.words.now }
-    requires gives_from { GivesFrom place.words.now place.from }
-    ensures { result ≡ found (integer_before place.entry.words.now place.entry.at id) }
+pub fn integer_before(input: Module, at: usize, id: u32) -> Option<usize>
+    ensures { result ≡ found (integer_before input.entry.words.now at id) }
 {
-    spirv_words::first_between(place.words, place.from, place.at, Wanted::Integer(id))
+    spirv_words::first_between(input.words, input.from, at, |p| {
+        spirv_words::is_integer(input.words, id, p)
+    })
 }
 
 // An OpConstant of an earlier integer type. The words are searched for an OpConstant alone.
-pub fn is_constant(place: Place) -> bool
-    requires at_in_bounds { place.at < length place.words.now }
-    requires gives_from { GivesFrom place.words.now place.from }
-    ensures { result ≡ is_constant place.entry.words.now place.entry.at }
+#[tactic(auto, unfolding(crate::specs::Ids::is_constant))]
+pub fn is_constant(input: Module, at: usize) -> bool
+    ensures { result ≡ is_constant input.entry.words.now at }
 {
-    let op = spirv_words::opcode_of(place.words, place.at);
-    let ty = spirv_words::word_of(place.words, place.at, 1);
-    op == spirv_words::CONSTANT && integer_before(place, ty).is_some()
+    let op = spirv_words::opcode_of(input.words, at);
+    let ty = spirv_words::word_of(input.words, at, 1);
+    op == spirv_words::CONSTANT && integer_before(input, at, ty).is_some()
 }
 
-fn is_giver(place: Place, id: u32) -> bool
-    requires at_in_bounds { place.at < length place.words.now }
-    requires gives_from { GivesFrom place.words.now place.from }
-    ensures { result ≡ gives place.entry.words.now id place.entry.at }
+#[tactic(auto, unfolding(crate::specs::Ids::gives))]
+fn is_giver(input: Module, id: u32, at: usize) -> bool
+    ensures { result ≡ gives input.entry.words.now id at }
 {
-    let op = spirv_words::opcode_of(place.words, place.at);
-    let a = spirv_words::word_of(place.words, place.at, 1);
-    let b = spirv_words::word_of(place.words, place.at, 2);
-    (is_type(op) & (a == id)) || (b == id && is_constant(place))
+    let op = spirv_words::opcode_of(input.words, at);
+    (is_type(op) && spirv_words::word_of(input.words, at, 1) == id)
+        || (spirv_words::word_of(input.words, at, 2) == id && is_constant(input, at))
 }
 
-// The instruction before `at` that gives the id.
+// The instruction before a place that gives the id.
 pub fn giver_of(place: Place, id: u32) -> Option<Giver>
-    requires at_in_bounds { place.at ≤ length place.words.now }
-    requires gives_from { GivesFrom place.words.now place.from }
-    requires at_bound { type_number place.words.now place.at ≤ most_types }
-    ensures { result ≡ giver_found place.entry.words.now place.entry.at id }
+    ensures { result ≡ giver_found place.entry.input.words.now place.entry.at id }
 {
-    let mut p = place.from;
+    let words = place.input.words;
+    let mut p = place.input.from;
     let mut number: u32 = 0;
     // Kept: each step is the word count of an instruction; no range has such steps.
     while p < place.at {
-        let count = spirv_words::word_count(place.words, p);
+        let count = spirv_words::word_count(words, p);
         if count == 0 {
             return None;
         }
-        if is_giver(Place { at: p, ..place }, id) {
+        if is_giver(place.input, id, p) {
             return Some(Giver { at: p, number });
         }
-        number += u32::from(is_read(spirv_words::opcode_of(place.words, p)));
+        number += u32::from(is_read(spirv_words::opcode_of(words, p)));
         p += count;
     }
     None
 }
 
-// An id that nothing before `at` gives.
+// An id that nothing before a place gives.
 pub fn is_new(place: Place, id: u32) -> bool
-    requires at_in_bounds { place.at ≤ length place.words.now }
-    requires gives_from { GivesFrom place.words.now place.from }
-    requires at_bound { type_number place.words.now place.at ≤ most_types }
-    ensures { result ≡ eqb (giver place.entry.words.now place.entry.at id) 0 }
+    ensures { result ≡ eqb (giver place.entry.input.words.now place.entry.at id) 0 }
 {
     giver_of(place, id).is_none()
 }
 
 // What an instruction gives.
-fn sort_at(words: &[u32], giver: Giver) -> Sort
-    requires place_in_bounds { giver.at < length words.now }
+#[tactic(auto, unfolding(crate::specs::Ids::sort_at))]
+fn given_at(words: &[u32], giver: Giver) -> Given
     requires is_place { 0 < giver.at }
     requires number_value { giver.number ≡ type_number words.now giver.at }
-    ensures { result ≡ sort_at words.now giver.at }
+    ensures { sort_said (Some result) ≡ sort_at words.now giver.at }
 {
     let op = spirv_words::opcode_of(words, giver.at);
     if op == spirv_words::CONSTANT {
-        return Sort::ConstantAt(giver.at);
+        return Given::ConstantAt(giver.at);
     }
     if is_read(op) {
-        return Sort::TypeRead(giver.number);
+        return Given::TypeRead(giver.number);
     }
-    Sort::OtherType
+    Given::OtherType
 }
 
-// What the id stands for at the instruction at `at`.
-pub fn sort_of(place: Place, id: u32) -> Sort
-    requires at_in_bounds { place.at < length place.words.now }
-    requires gives_from { GivesFrom place.words.now place.from }
-    requires at_bound { type_number place.words.now place.at ≤ most_types }
-    ensures { result ≡ sort place.entry.words.now place.entry.at id }
+// What the id stands for at a place; none where it is missing or still to come.
+#[tactic(auto, unfolding(crate::specs::Ids::sort, crate::specs::Ids::sort_at))]
+pub fn sort_of(place: Place, id: u32) -> Option<Given>
+    ensures { sort_said result ≡ sort place.entry.input.words.now place.entry.at id }
 {
-    match giver_of(place, id) {
-        None => Sort::Unknown,
-        Some(giver) => sort_at(place.words, giver),
-    }
+    let giver = giver_of(place, id)?;
+    Some(given_at(place.input.words, giver))
 }

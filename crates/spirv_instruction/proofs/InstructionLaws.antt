@@ -1,21 +1,21 @@
 -- One instruction by cases, and what the code's caller goes by.
 -- Assumes nothing.
 use mathlib.Core.Path.{◌≡◌}
-use mathlib.Core.Bool.{true, false, ◌&&◌}
+use mathlib.Core.Bool.{true, ◌&&◌}
 use mathlib.Core.List.{List}
 use Prim.Native.Nat.{ℕ, ◌+◌, ◌*◌, ◌<◌}
 use native.Mathlib.Omega.{arith}
 use lib.Dec.{leb}
 use lib.ListN.{length, replicate, length-replicate}
 use borrow.Author.Tests.{leb-true}
-use Rattle.ir_records.specs.Result.{err, ok}
+use Rattle.ir_records.specs.Result.{ok}
 use Rattle.ir_records.specs.Record.{member_words, member_count}
-use Rattle.spirv_words.specs.Module.{word_count, opcode, is_read}
+use Rattle.spirv_words.specs.Module.{word_count, opcode}
 use Rattle.spirv_members.specs.Members.{member_rows}
 use Rattle.spirv_members.proofs.NumberLaws.{and_true}
 use Rattle.spirv_types.specs.declared.Typed.{Typed}
 use Rattle.spirv_types.specs.Types.{State, type_at}
-use Rattle.spirv_instruction.specs.Instruction.{told_by, words_ok, row_count, fits, with_type, type_read, other_read, instruction}
+use Rattle.spirv_instruction.specs.Instruction.{told_by, words_ok, row_count, fits, with_type, type_read}
 
 -- a table of so many rows
 abbrev pub some_rows : (n : ℕ) → List ℕ
@@ -36,23 +36,3 @@ module _ (t m : ℕ) (ws : List ℕ) (at : ℕ) where
     pub read_made : (y : Typed) → type_at ws s at ≡ ok y → fits t m ws at s ≡ true → type_read t m ws at s ≡ ok (with_type s y (member_rows ws at (row_count ws at)))
     unfolding type_read
     read_made y e f = rw (e, f)
-
-    pub read_full : (y : Typed) → type_at ws s at ≡ ok y → fits t m ws at s ≡ false → type_read t m ws at s ≡ err 1 0 0
-    unfolding type_read
-    read_full y e f = rw (e, f)
-
-    pub read_refused : (n : ℕ) → type_at ws s at ≡ err n 0 0 → type_read t m ws at s ≡ err n 0 0
-    unfolding type_read
-    read_refused n e = rw e
-
-    pub instruction_short : words_ok ws at ≡ false → instruction t m ws at s ≡ err 28 0 0
-    unfolding instruction
-    instruction_short e = rw e
-
-    pub instruction_type : words_ok ws at ≡ true → is_read (opcode ws at) ≡ true → instruction t m ws at s ≡ type_read t m ws at s
-    unfolding instruction
-    instruction_type e f = rw (e, f)
-
-    pub instruction_other : words_ok ws at ≡ true → is_read (opcode ws at) ≡ false → instruction t m ws at s ≡ other_read ws at s
-    unfolding instruction
-    instruction_other e f = rw (e, f)

@@ -1,16 +1,12 @@
--- The column step of a type, one step of its loop; bounds of a record's fields; the members' largest alignment is 01's.
+-- The column step of a type, one step of its loop; bounds of a record's fields.
 -- Assumes nothing.
 use mathlib.Core.Path.{◌≡◌}
-use mathlib.Core.Bool.{◌&&◌, ◌||◌}
 use mathlib.Core.List.{List}
-use Prim.Native.Nat.{ℕ, suc, ◌+◌, ◌≤◌, max}
-use native.Mathlib.Numerals.{add-one}
-use lib.ListN.{get_or}
+use Prim.Native.Nat.{ℕ, suc, ◌≤◌}
 use borrow.Author.Tests.{ne_eqb}
 use Rattle.ir_records.specs.Record.{type_word, type_inner, inner_of, scalar_kind, vector_kind, matrix_kind, array_kind}
 use Rattle.proc_type_methods.specs.TypeMethods.{column_step}
-use Rattle.spirv_members.specs.Members.{column_step_in, member_number, member_unsupported, members_unsupported, member_sound, members_sound}
-use Rattle.spirv_members.specs.Serving.{largest_alignment}
+use Rattle.spirv_members.specs.Members.{column_step_in}
 use Rattle.spirv_members.specs.Serving.{Bounded}
 
 module _ (ts : List ℕ) (k : ℕ) where
@@ -44,17 +40,3 @@ module _ (ts : List ℕ) (k : ℕ) where
     pub matrix-width : type_word ts k 0 ≡ matrix_kind → type_word ts k 4 ≤ 255
     unfolding type_inner inner_of
     matrix-width e = (rw e at (b k)).2
-
--- ---- one member more
-module _ (ws : List ℕ) (at j : ℕ) where
-  pub unsupported_more : (ts : List ℕ) → members_unsupported ws ts at (j + 1) ≡ (members_unsupported ws ts at j || member_unsupported ws ts at j)
-  unfolding members_unsupported
-  unsupported_more ts = rw (add-one j)
-
-  pub sound_more : members_sound ws at (j + 1) ≡ (members_sound ws at j && member_sound ws at j)
-  unfolding members_sound
-  sound_more = rw (add-one j)
-
-  pub largest_more : (al : List ℕ) → largest_alignment ws al at (j + 1) ≡ max (largest_alignment ws al at j) (get_or al (member_number ws at j) 0)
-  unfolding largest_alignment
-  largest_more al = rw (add-one j)

@@ -1,4 +1,4 @@
--- What an id stands for: a type that is read has a number below those still to come, a constant stands before.
+-- What an id stands for: a type that is read has a number below those still to come.
 -- Assumes nothing.
 use mathlib.Core.Path.{◌≡◌, refl}
 use mathlib.Core.Bool.{Bool, true, false, ◌&&◌}
@@ -7,14 +7,11 @@ use Prim.Native.Nat.{ℕ, zero, suc, ◌+◌, ◌-◌, ◌<◌}
 use native.Mathlib.Omega.{arith}
 use lib.Dec.{eqb, ltb}
 use borrow.Author.Tests.{ltb-true, eqb-false}
-use Rattle.ir_records.specs.Result.{pick}
 use Rattle.spirv_words.specs.Module.{opcode, word_count, is_read, constant, header_words, starts, first}
 use Rattle.spirv_ids.specs.Ids.{gives, giver, type_number, sort_at, sort}
-use Rattle.spirv_ids.specs.declared.Sort.TheVariants.{Unknown, OtherType, TypeRead, ConstantAt}
 use Rattle.spirv_ids.specs.Places.{Stands}
-use Rattle.spirv_ids.proofs.PlaceLaws.{stands_first, stands_next, number_upto, giver_below, giver_before}
+use Rattle.spirv_ids.proofs.PlaceLaws.{stands_first, stands_next, number_upto, giver_below}
 use Rattle.spirv_members.specs.Members.{is_type_read, number_of}
-use Rattle.spirv_members.specs.Serving.{SortBelow}
 
 pub and_true : (a b : Bool) → (a && b) ≡ true → (a ≡ true) × (b ≡ true)
 and_true true b e = (refl, e)
@@ -83,15 +80,3 @@ module _ (ws : List ℕ) (at id : ℕ) where
 
   pub read_below : is_type_read (sort ws at id) ≡ true → number_of (sort ws at id) < type_number ws at
   read_below e = let r = type-read e in rw r.number (number_below r.given r.opcode_read)
-
-  -- a constant stands before
-  pub sort_below : (n : ℕ) → at < n → SortBelow n (sort ws at id)
-  unfolding sort sort_at
-  sort_below n h =
-      none (eqb (giver ws at id) 0) (eqb (opcode ws (giver ws at id)) constant) (is_read (opcode ws (giver ws at id)))
-    where
-      none : (a b c : Bool) → SortBelow n (pick a Unknown (pick b (ConstantAt (giver ws at id)) (pick c (TypeRead (type_number ws (giver ws at id))) OtherType)))
-      none true b c = tt
-      none false true c = omega (arith, h, giver_before ws at id)
-      none false false true = tt
-      none false false false = tt

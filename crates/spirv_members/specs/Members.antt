@@ -8,8 +8,7 @@ use Rattle.proc_type_alignment.specs.declared.TypeLayout.{TypeLayout}
 use Rattle.proc_type_alignment.specs.TypeAlignment.{members_alignment}
 use Rattle.spirv_words.specs.Module.{word, word_count, before, first, only}
 use Rattle.spirv_words.specs.Decorations.{is_offset_of, is_otherwise}
-use Rattle.spirv_ids.specs.declared.Sort.{Sort}
-use Rattle.spirv_ids.specs.declared.Sort.TheVariants.{Unknown, OtherType, TypeRead, ConstantAt}
+use Rattle.spirv_ids.specs.Sorts.{Sort, Unknown, OtherType, TypeRead, ConstantAt}
 use Rattle.spirv_ids.specs.Ids.{sort}
 
 -- ---- what an operand id stands for

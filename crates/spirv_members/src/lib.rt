@@ -1,88 +1,87 @@
 // The members of a struct, from the words of a SPIR-V module: what each is, where it stands, and how far the last one reaches.
 #![tactic(auto)]
 
-ghost use Rattle.std.specs.Prelude.{◌≡◌, true, ◌&&◌, ◌||◌, suc, ◌*◌, ◌≤◌, ◌<◌, max, length, get_or};
+ghost use Rattle.std.specs.Prelude.{◌≡◌, true, ◌&&◌, ◌||◌, suc, ◌*◌, ◌≤◌, max, get_or};
 ghost use Rattle.ir_records.specs.Result.{ok};
 ghost use Rattle.ir_records.specs.Record.{type_inner};
 ghost use Rattle.ir_records.specs.Serving.{InnerBounds};
 ghost use Rattle.proc_type_methods.specs.TypeMethods.{try_size, size_of};
 ghost use Rattle.spirv_words.specs.Module.{found};
+ghost use Rattle.spirv_ids.specs.Sorts.{sort_said};
 ghost use Rattle.spirv_members.specs.Members.{is_other, is_type_read, number_of, member_count_at, member_sort, member_number, offset_at, offset_of, column_step_in, stored_otherwise, member_unsupported, members_unsupported, member_sound, members_sound, size_in, last_end};
 ghost use Rattle.spirv_members.specs.Serving.{largest_alignment};
-ghost use Rattle.spirv_members.specs.Serving.{Bounded, Ready};
+ghost use Rattle.spirv_members.specs.Serving.{Bounded, Bounded-prop};
 
-use ir_records::TypeInner;
-use spirv_ids::{Place, Sort};
-use spirv_words::Wanted;
+use ir_records::{Kind, TypeInner};
+use spirv_ids::{Given, Place};
 
-/// The type records that are made, and the layout alignment of each type.
-#[derive(Clone, Copy)]
+/// The type records that are made, their fields within bounds, and the layout alignment of each type.
+#[derive(Clone, Copy, Debug, PartialEq, Eq)]
 pub struct Tables<'a> {
     pub types: &'a [u32],
     pub alignments: &'a [u32],
+    ghost bounded: { Bounded types.now } by { Bounded-prop types.now },
 }
 
 // What is known of the first members: one is unsupported (29), all are sound (else 30), and their largest alignment.
-#[derive(Clone, Copy)]
+#[derive(Clone, Copy, Debug, PartialEq, Eq)]
 pub struct Members {
     pub unsupported: bool,
     pub sound: bool,
     pub alignment: u32,
 }
 
-const MATRIX_KIND: u32 = 2;
+const MATRIX_KIND: u32 = Kind::Matrix as u32;
 
-pub fn is_other(sort: Sort) -> bool
-    ensures { result ≡ is_other sort }
+pub fn is_other(given: Option<Given>) -> bool
+    ensures { result ≡ is_other (sort_said given) }
 {
-    matches!(sort, Sort::OtherType)
+    matches!(given, Some(Given::OtherType))
 }
 
-pub fn is_type_read(sort: Sort) -> bool
-    ensures { result ≡ is_type_read sort }
+pub fn is_type_read(given: Option<Given>) -> bool
+    ensures { result ≡ is_type_read (sort_said given) }
 {
-    matches!(sort, Sort::TypeRead(_))
+    matches!(given, Some(Given::TypeRead(_)))
 }
 
 // The number of a type that is read; 0 for what is none.
-pub fn number_of(sort: Sort) -> u32
-    ensures { result ≡ number_of sort }
+// Kept: a `From` of an Option into a number has no type of this crate, so it cannot stand here.
+pub fn number_of(given: Option<Given>) -> u32
+    ensures { result ≡ number_of (sort_said given) }
 {
-    match sort {
-        Sort::TypeRead(number) => number,
+    match given {
+        Some(Given::TypeRead(number)) => number,
         _ => 0,
     }
 }
 
 pub fn member_count(words: &[u32], at: usize) -> u32
-    requires { at < length words.now }
     ensures { (result ≡ member_count_at words.now at) × (result ≤ 65533) }
 {
     spirv_words::word_count(words, at).saturating_sub(2) as u32
 }
 
 // What member j is.
-pub fn member_sort(place: Place, j: u32) -> Sort
-    requires ready { Ready place.words.now place.from place.at }
-    requires j_bound { j ≤ 65533 }
-    ensures { result ≡ member_sort place.entry.words.now place.entry.at j }
+pub fn member_sort(place: Place, j: u32) -> Option<Given>
+    ensures { sort_said result ≡ member_sort place.entry.input.words.now place.entry.at j }
 {
     let k = 2 + (j as usize);
-    let id = spirv_words::word_of(place.words, place.at, k);
+    let id = spirv_words::word_of(place.input.words, place.at, k);
     spirv_ids::sort_of(place, id)
 }
 
 // The one Offset of member j; none where it has several.
+// Kept: words, at and j stay three parameters here and in the next ones, since a Place asks for facts that these do without.
+#[tactic(auto, unfolding(crate::specs::Members::offset_at))]
 fn offset_at(words: &[u32], at: usize, j: u32) -> Option<usize>
-    requires { at < length words.now }
     ensures { result ≡ found (offset_at words.now at j) }
 {
     let id = spirv_words::word_of(words, at, 1);
-    spirv_words::only_before(words, at, Wanted::Offset { id, member: j })
+    spirv_words::only_before(words, at, |p| spirv_words::is_offset_of(words, id, j, p))
 }
 
 pub fn offset_of(words: &[u32], at: usize, j: u32) -> u32
-    requires { at < length words.now }
     ensures { result ≡ offset_of words.now at j }
 {
     let place = offset_at(words, at, j).unwrap_or(0);
@@ -90,10 +89,10 @@ pub fn offset_of(words: &[u32], at: usize, j: u32) -> u32
 }
 
 // The column step of the matrix that a type is, or is an array of; 0 for none.
-fn column_step(types: &[u32], t: u32) -> u32
-    requires { Bounded types.now }
-    ensures { result ≡ column_step_in types.now (suc t) t }
+fn column_step(tables: Tables, t: u32) -> u32
+    ensures { result ≡ column_step_in tables.entry.types.now (suc t) t }
 {
+    let types = tables.types;
     let mut k = t;
     for _ in 0..=t {
         let kind = ir_records::type_word(types, k, 0);
@@ -111,34 +110,28 @@ fn column_step(types: &[u32], t: u32) -> u32
 
 // The matrix of member j is stored otherwise than in columns a step apart.
 fn stored_otherwise(words: &[u32], at: usize, j: u32, step: u32) -> bool
-    requires { at < length words.now }
     ensures { result ≡ stored_otherwise words.now at j step }
 {
     let id = spirv_words::word_of(words, at, 1);
-    let wanted = Wanted::Otherwise {
-        id,
-        member: j,
-        step,
-    };
-    0 < step && spirv_words::first_between(words, spirv_words::HEADER_WORDS, at, wanted).is_some()
+    let otherwise = |p| spirv_words::is_otherwise(words, id, j, step, p);
+    0 < step
+        && spirv_words::first_between(words, spirv_words::HEADER_WORDS, at, otherwise).is_some()
 }
 
 // What is known with member j.
+#[tactic(auto, unfolding(crate::specs::Members::member_number, crate::specs::Members::member_sound, crate::specs::Members::member_unsupported))]
 fn with_member(place: Place, tables: Tables, j: u32, seen: Members) -> Members
-    requires ready { Ready place.words.now place.from place.at }
-    requires bounded { Bounded tables.types.now }
-    requires j_bound { j ≤ 65533 }
-    ensures { (result.unsupported ≡ (seen.unsupported || member_unsupported place.entry.words.now tables.entry.types.now place.entry.at j)) × (result.sound ≡ (seen.sound && member_sound place.entry.words.now place.entry.at j)) × (result.alignment ≡ max seen.alignment (get_or tables.entry.alignments.now (member_number place.entry.words.now place.entry.at j) 0)) }
+    ensures { (result.unsupported ≡ (seen.unsupported || member_unsupported place.entry.input.words.now tables.entry.types.now place.entry.at j)) × (result.sound ≡ (seen.sound && member_sound place.entry.input.words.now place.entry.at j)) × (result.alignment ≡ max seen.alignment (get_or tables.entry.alignments.now (member_number place.entry.input.words.now place.entry.at j) 0)) }
 {
     let sort = member_sort(place, j);
     let number = number_of(sort);
-    let step = column_step(tables.types, number);
-    let stored = stored_otherwise(place.words, place.at, j, step);
+    let step = column_step(tables, number);
+    let stored = stored_otherwise(place.input.words, place.at, j, step);
     let read = is_type_read(sort);
     let other = is_other(sort);
-    let offset = offset_at(place.words, place.at, j);
+    let offset = offset_at(place.input.words, place.at, j);
     let own = ir_records::word_at(tables.alignments, number as usize);
-    let alignment = proc_alignment::larger(seen.alignment, own);
+    let alignment = seen.alignment.max(own);
     let unsupported = seen.unsupported | (other | (read & stored));
     let sound = seen.sound & (read & offset.is_some());
     Members {
@@ -149,11 +142,9 @@ fn with_member(place: Place, tables: Tables, j: u32, seen: Members) -> Members
 }
 
 // What is known of all n members.
+#[tactic(auto, unfolding(crate::specs::Serving::largest_alignment, crate::specs::Members::members_sound, crate::specs::Members::members_unsupported))]
 pub fn members_of(place: Place, tables: Tables, n: u32) -> Members
-    requires ready { Ready place.words.now place.from place.at }
-    requires bounded { Bounded tables.types.now }
-    requires n_bound { n ≤ 65533 }
-    ensures { (result.unsupported ≡ members_unsupported place.entry.words.now tables.entry.types.now place.entry.at n) × (result.sound ≡ members_sound place.entry.words.now place.entry.at n) × (result.alignment ≡ largest_alignment place.entry.words.now tables.entry.alignments.now place.entry.at n) }
+    ensures { (result.unsupported ≡ members_unsupported place.entry.input.words.now tables.entry.types.now place.entry.at n) × (result.sound ≡ members_sound place.entry.input.words.now place.entry.at n) × (result.alignment ≡ largest_alignment place.entry.input.words.now tables.entry.alignments.now place.entry.at n) }
 {
     let mut seen = Members {
         unsupported: false,
@@ -167,6 +158,7 @@ pub fn members_of(place: Place, tables: Tables, n: u32) -> Members
 }
 
 // Of a type that is no array.
+// Kept: that its fields are within bounds is said of the one type at the call, since a TypeInner does not carry it.
 fn plain_size(inner: TypeInner) -> u64
     requires inner_bounds { InnerBounds inner }
     requires inner_value { try_size inner ≡ ok (size_of inner) }
@@ -182,11 +174,11 @@ fn array_size(count: u32, stride: u32) -> u64
 }
 
 // What type t of the table measures.
-fn size_in(types: &[u32], t: u32) -> u64
-    requires { Bounded types.now }
-    ensures { (result ≡ size_in types.now t) × (result ≤ 18446744065119617025) }
+#[tactic(auto, unfolding(crate::specs::Members::size_in, proc_type_methods::specs::TypeMethods::try_size))]
+fn size_in(tables: Tables, t: u32) -> u64
+    ensures { (result ≡ size_in tables.entry.types.now t) × (result ≤ 18446744065119617025) }
 {
-    let inner = ir_records::type_inner(types, t);
+    let inner = ir_records::type_inner(tables.types, t);
     match inner {
         TypeInner::Plain(_) => plain_size(inner),
         TypeInner::Array {
@@ -201,18 +193,16 @@ fn size_in(types: &[u32], t: u32) -> u64
 }
 
 // The end of the last of n members; 0 for none.
-pub fn last_end(place: Place, types: &[u32], n: u32) -> u64
-    requires ready { Ready place.words.now place.from place.at }
-    requires bounded { Bounded types.now }
-    requires n_bound { n ≤ 65533 }
-    ensures { result ≡ last_end place.entry.words.now types.now place.entry.at n }
+#[tactic(auto, unfolding(crate::specs::Members::last_end, crate::specs::Members::member_number))]
+pub fn last_end(place: Place, tables: Tables, n: u32) -> u64
+    ensures { result ≡ last_end place.entry.input.words.now tables.entry.types.now place.entry.at n }
 {
     if n == 0 {
         return 0;
     }
     let j = n - 1;
     let number = number_of(member_sort(place, j));
-    let offset = offset_of(place.words, place.at, j);
-    let size = size_in(types, number);
+    let offset = offset_of(place.input.words, place.at, j);
+    let size = size_in(tables, number);
     (offset as u64) + size
 }

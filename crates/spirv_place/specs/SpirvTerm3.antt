@@ -1,7 +1,7 @@
 -- 02, E5: where the arena check accepts the records that were read, term 3 holds by the module's own Offsets and strides: the statement, of
 -- places and leaves by the words of the module. Acceptance, flags, verdicts and the sizes that strides must cover are the arena's.
 -- Assumes nothing.
-use Rattle.std.specs.Prelude.{◌≡◌, true, ◌≢◌, List, ℕ, ◌+◌, ◌*◌, ◌≤◌, ◌<◌, T}
+use Rattle.std.specs.Prelude.{◌≡◌, true, ◌≢◌, List, ℕ, ◌+◌, ◌≤◌, ◌<◌, T}
 use Rattle.std.specs.Int.{◌∣◌}
 use Rattle.std.proofs.Math.ListN.{get_elem?}
 use Rattle.ir_records.specs.Result.{ok}

@@ -6,12 +6,12 @@ use Prim.Native.Nat.{ℕ, ◌+◌, ◌*◌, ◌≤◌, ◌<◌}
 use native.Mathlib.Decide.{dec_le}
 use native.Mathlib.Numerals.{add-one}
 use native.Mathlib.Omega.{arith}
-use lib.ListN.{length, get_or, take, drop, replicate, drop_of_length-le, length-append, take-append-drop, get_or-append, get_or-eq_default}
+use lib.ListN.{length, get_or, take, drop, length-append, get_or-append, get_or-eq_default}
 use lib.Seq.{get_or-append-add}
 use Rattle.ir_records.specs.declared.Words.{Words}
 use Rattle.ir_records.specs.Record.{type_words, member_words, type_word, type_inner, inner_in, inner_of}
 use Rattle.ir_records.specs.Serving.{InnerBounds}
-use Rattle.ir_rows.specs.Rows.{with_part, cleared}
+use Rattle.ir_rows.specs.Rows.{with_part}
 use Rattle.ir_rows.proofs.RowLaws.{take_part, drop_part, part-length}
 use Rattle.spirv_members.specs.Members.{member_number, offset_of, member_rows}
 use Rattle.spirv_members.specs.Serving.{Bounded}
@@ -58,13 +58,6 @@ module _ (ws : List ℕ) (at : ℕ) (was : List ℕ) (m n : ℕ) where
         long = part-length member_words is (member_row j) ((m + j) * member_words) refl fits ∙ r.long;
       }
 
-  pub rows_all : (is : List ℕ) → Rows n is → is ≡ with_part (n * member_words) was (m * member_words) (member_rows ws at n)
-  rows_all is r =
-      let end : (m + n) * member_words ≡ m * member_words + n * member_words = omega arith in
-      sym (take-append-drop ((m + n) * member_words) is)
-      ∙ ap (λ l. l ++ drop ((m + n) * member_words) is) r.front
-      ∙ ap (λ l. (take (m * member_words) was ++ member_rows ws at n) ++ l) (r.rest ∙ ap (λ (k : ℕ). drop k was) end)
-
 -- ---- the bounds of one record more
 none_bounds : InnerBounds (inner_of 0 0 0 0 0 0)
 unfolding inner_of
@@ -106,9 +99,3 @@ module _ (ts : List ℕ) (w : Words) (n : ℕ) (whole : length ts ≡ n * type_w
 pub bounded_none : Bounded []
 unfolding type_inner inner_of
 bounded_none t = omega arith
-
--- all words zero
-pub cleared_all : (words : List ℕ) → cleared words (length words) ≡ replicate (length words) 0
-cleared_all words =
-    ap (λ l. replicate (length words) 0 ++ l) (drop_of_length-le words {i = length words} (omega arith))
-    ∙ append-nil (replicate (length words) 0)

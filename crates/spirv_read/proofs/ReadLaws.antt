@@ -1,29 +1,23 @@
 -- The reading of all instructions, step by step on the lent tables.
 -- Assumes nothing.
 use mathlib.Core.Path.{◌≡◌, refl, sym, ap, ◌∙◌}
-use mathlib.Core.Bool.{true, false}
 use mathlib.Core.List.{List, ◌++◌}
 use Prim.Native.Nat.{ℕ, zero, suc, ◌+◌, ◌*◌, ◌≤◌, ◌<◌}
 use native.Mathlib.Omega.{arith}
-use lib.ListN.{length, take, drop, replicate, take-append-drop}
+use lib.ListN.{length, take, drop, take-append-drop}
 use lib.Seq.{length-take-le}
 use borrow.Author.Tests.{lt-ltb, le-ltb}
 use Rattle.ir_records.specs.Result.{Result, err, ok}
 use Rattle.ir_records.specs.Record.{type_words, member_words, type_count, member_count}
 use Rattle.ir_rows.proofs.RowLaws.{drop_later}
-use Rattle.spirv_words.specs.Module.{header_ok, header_words, word_count, starts, count}
+use Rattle.spirv_words.specs.Module.{header_words, word_count, starts, count}
 use Rattle.spirv_ids.specs.Ids.{type_number}
 use Rattle.spirv_ids.specs.Places.{Stands}
 use Rattle.spirv_ids.proofs.PlaceLaws.{stands_first, stands_next, number_next}
 use Rattle.spirv_types.specs.Types.{State}
-use Rattle.spirv_instruction.specs.Instruction.{instruction, types_room, members_room}
-use Rattle.std.specs.Prelude as std
-use Rattle.std.specs.Result.{is_err}
-use Rattle.ir_records.specs.declared.Fault.{Fault}
-use Rattle.ir_records.specs.declared.Records.{Records}
-use Rattle.ir_records.specs.Refusal.{number_of}
-use Rattle.spirv_read.specs.Section.{Read, Refused, section_answer_of}
-use Rattle.spirv_read.specs.Read.{read_from, none, read_module, read_into, section_of, types_after, members_after}
+use Rattle.spirv_instruction.specs.Instruction.{instruction}
+use Rattle.spirv_read.specs.Section.{Read}
+use Rattle.spirv_read.specs.Read.{read_from, none, section_of}
 use Rattle.spirv_read.specs.Serving.{state_in, Room, Held, Stepped, FilledTypes, FilledMembers}
 use Rattle.spirv_read.proofs.PutLaws.{bounded_none}
 
@@ -136,44 +130,3 @@ module _ (t m : ℕ) (ws : List ℕ) (types₀ members₀ alignments₀ : List �
     ended_members h =
         rw (reading_ends h, members_long)
         (sym (take-append-drop (b * member_words) members) ∙ ap (λ l. take (b * member_words) members ++ l) r.rest_members)
-
--- ---- the call: by the header, and by what the reading answers
-module _ (ws types members : List ℕ) where
-  pub into_read : header_ok ws ≡ true
-      → read_into ws types members ≡ read_from (types_room (length types)) (members_room (length members)) ws (length ws) header_words none
-  unfolding read_into read_module
-  into_read e = rw e
-
-  pub into_short : header_ok ws ≡ false → read_into ws types members ≡ err 28 0 0
-  unfolding read_into read_module
-  into_short e = rw e
-
-read_refused : (a b n : ℕ) → Read a b ≡ Refused n → ⊥
-read_refused a b n e = let z : ◌≡◌ {A = ℕ} 0 1 = cc in absurd (omega arith)
-
-false_true : false ≡ true → ⊥
-false_true e = let z : ◌≡◌ {A = ℕ} 0 1 = cc in absurd (omega arith)
-
-pub filled_types : (r : Result State) (x : std.Result Records Fault) (was is : List ℕ) → is_err x ≡ false → section_answer_of x ≡ section_of r
-    → FilledTypes r was is → is ≡ types_after r was
-filled_types r (std.Err fault) was is b e f = absurd (false_true (sym b))
-filled_types (err n m d) (std.Ok records) was is b e f = absurd (read_refused _ _ n e)
-filled_types (ok s) (std.Ok records) was is b e f = f
-
-pub filled_members : (r : Result State) (x : std.Result Records Fault) (was is : List ℕ) → is_err x ≡ false → section_answer_of x ≡ section_of r
-    → FilledMembers r was is → is ≡ members_after r was
-filled_members r (std.Err fault) was is b e f = absurd (false_true (sym b))
-filled_members (err n m d) (std.Ok records) was is b e f = absurd (read_refused _ _ n e)
-filled_members (ok s) (std.Ok records) was is b e f = f
-
-pub refused_types : (r : Result State) (x : std.Result Records Fault) (was : List ℕ) → is_err x ≡ true → section_answer_of x ≡ section_of r
-    → replicate (length was) 0 ≡ types_after r was
-refused_types r (std.Ok records) was b e = absurd (false_true b)
-refused_types (err m d k) (std.Err fault) was b e = refl
-refused_types (ok s) (std.Err fault) was b e = absurd (read_refused _ _ (number_of fault) (sym e))
-
-pub refused_members : (r : Result State) (x : std.Result Records Fault) (was : List ℕ) → is_err x ≡ true → section_answer_of x ≡ section_of r
-    → replicate (length was) 0 ≡ members_after r was
-refused_members r (std.Ok records) was b e = absurd (false_true b)
-refused_members (err m d k) (std.Err fault) was b e = refl
-refused_members (ok s) (std.Err fault) was b e = absurd (read_refused _ _ (number_of fault) (sym e))

@@ -1,7 +1,7 @@
 -- One instruction on the lent tables: skipped, a record more, or refused.
 -- Assumes nothing.
 use mathlib.Core.Path.{◌≡◌, refl, ap, ◌∙◌}
-use mathlib.Core.Bool.{true, false}
+use mathlib.Core.Bool.{true}
 use mathlib.Core.List.{List, [], ◌∷◌, ◌++◌}
 use Prim.Native.Nat.{ℕ, ◌+◌, ◌*◌, ◌≤◌, ◌<◌}
 use native.Mathlib.Omega.{arith}
@@ -37,25 +37,6 @@ module _ (t m : ℕ) (ws : List ℕ) (at : ℕ) (types members alignments : List
 
   pub member-count : member_count (take (b * member_words) members) ≡ b
   member-count = omega (arith, members_held)
-
-  pub alignments_held : length (take a alignments) ≡ a
-  alignments_held = length-take-le a alignments (omega (arith, held.held_types, room.room_alignments))
-
-  pub skipped : instruction t m ws at s ≡ ok s → 0 < word_count ws at → is_read (opcode ws at) ≡ false
-      → Stepped t m ws at types members alignments types members alignments a b a b
-  skipped e k r =
-      record {
-        made = e;
-        rest_types = refl;
-        rest_members = refl;
-        more = k;
-        few = held.held_types;
-        few_members = held.held_members;
-        counted = rw r (omega arith);
-        rising = omega arith;
-        rising_members = omega arith;
-        bounded = held.bounded;
-      }
 
   module _ (w : Words) (al n : ℕ) (read : is_read (opcode ws at) ≡ true) (own : InnerBounds (inner_in w)) (less : a < t) (few : b + n ≤ m) where
     abbrev types' : List ℕ

@@ -9,7 +9,7 @@ ghost use Rattle.spirv_reader.specs.Section.{section_at, types_at, members_at};
 
 use ir_records::{Fault, Records};
 
-#[derive(Drop)]
+#[derive(Clone, Copy, Debug, PartialEq, Eq)]
 pub struct Reader<'a> {
     pub words: &'a [u32],
     pub at: usize,
@@ -20,26 +20,6 @@ pub fn head_at(words: &[u32], at: usize) -> Option<u32>
     ensures { result ≡ head_at words.now at }
 {
     words.get(at).copied()
-}
-
-// At the first word.
-pub fn new<'a>(words: &'a [u32]) -> Reader<'a>
-    ensures { (result.words ≡ words.entry) × (result.at ≡ 0) }
-{
-    Reader { words, at: 0 }
-}
-
-// What stands where the reader is.
-pub fn next<'a>(r: Reader<'a>) -> Option<u32>
-    ensures { result ≡ head_at r.entry.words.now r.entry.at }
-{
-    head_at(r.words, r.at)
-}
-
-pub fn moved<'a>(r: Reader<'a>, at: usize) -> Reader<'a>
-    ensures { (result.words ≡ r.entry.words) × (result.at ≡ at) }
-{
-    Reader { words: r.words, at }
 }
 
 // The module that begins at a position of a slice; past its end there is none.
@@ -58,16 +38,38 @@ pub fn read_from(
     spirv_read::read_words(&words[n..], types, members)
 }
 
-// The module that begins where the reader is.
-pub fn read<'a>(r: Reader<'a>, types: &mut [u32], members: &mut [u32]) -> Result<Records, Fault>
-    ensures { (section_answer_of result ≡ section_at r.entry.words.now r.entry.at types.old members.old) × (types.new ≡ types_at r.entry.words.now r.entry.at types.old members.old) × (members.new ≡ members_at r.entry.words.now r.entry.at types.old members.old) }
-{
-    read_from(r.words, r.at, types, members)
+impl<'a> Reader<'a> {
+    // At the first word.
+    pub fn new(words: &'a [u32]) -> Self
+        ensures { (result.words ≡ words.entry) × (result.at ≡ 0) }
+    {
+        Reader { words, at: 0 }
+    }
+
+    // What stands where the reader is.
+    pub fn next(self) -> Option<u32>
+        ensures { result ≡ head_at self.entry.words.now self.entry.at }
+    {
+        head_at(self.words, self.at)
+    }
+
+    pub fn moved(self, at: usize) -> Self
+        ensures { (result.words ≡ self.entry.words) × (result.at ≡ at) }
+    {
+        Reader { at, ..self }
+    }
+
+    // The module that begins where the reader is.
+    pub fn read(self, types: &mut [u32], members: &mut [u32]) -> Result<Records, Fault>
+        ensures { (section_answer_of result ≡ section_at self.entry.words.now self.entry.at types.old members.old) × (types.new ≡ types_at self.entry.words.now self.entry.at types.old members.old) × (members.new ≡ members_at self.entry.words.now self.entry.at types.old members.old) }
+    {
+        read_from(self.words, self.at, types, members)
+    }
 }
 
 // A module's words, with plain parameters. Nothing is asked of the caller.
 pub fn read_module(words: &[u32], types: &mut [u32], members: &mut [u32]) -> Result<Records, Fault>
     ensures { (section_answer_of result ≡ section_of (read_into words.now types.old members.old)) × (types.new ≡ types_after (read_into words.now types.old members.old) types.old) × (members.new ≡ members_after (read_into words.now types.old members.old) members.old) }
 {
-    read(new(words), types, members)
+    Reader::new(words).read(types, members)
 }

@@ -1,11 +1,10 @@
--- A width that is admitted is small; an integer type stands before what it is sought for.
+-- A width that is admitted is small.
 -- Assumes nothing.
 use mathlib.Core.Path.{◌≡◌, refl, sym, ap, ◌∙◌}
 use mathlib.Core.Bool.{Bool, true, false, not, ◌&&◌, ◌||◌}
 use mathlib.Core.List.{List}
-use Prim.Native.Nat.{ℕ, ◌-◌, ◌/◌, ◌≤◌}
+use Prim.Native.Nat.{ℕ, ◌/◌, ◌≤◌}
 use native.Mathlib.Omega.{arith}
-use native.Mathlib.Decide.{dec_le}
 use lib.Dec.{eqb, leb}
 use lib.ListN.{length}
 use borrow.Author.Tests.{eqb-true}
@@ -13,15 +12,9 @@ use Rattle.ir_records.specs.Result.{ok, require}
 use Rattle.ir_records.specs.declared.Words.{Words}
 use Rattle.ir_records.specs.Record.{member_count, inner_of, struct_kind}
 use Rattle.ir_records.specs.Serving.{record_words}
-use Rattle.proc_alignment.specs.Alignment.{vector_alignment, round_up, most}
-use Rattle.proc_alignment.proofs.PowerLaws.{vector_within}
+use Rattle.proc_alignment.specs.Alignment.{round_up, most}
 use Rattle.proc_type_alignment.specs.TypeAlignment.{alignment_of}
-use Rattle.spirv_words.specs.Module.{header_words, before, first}
-use Rattle.spirv_words.specs.Decorations.{is_integer}
-use Rattle.spirv_words.proofs.SearchLaws.{found_below}
-use Rattle.spirv_ids.specs.declared.Sort.{Sort}
-use Rattle.spirv_ids.specs.declared.Sort.TheVariants.{Unknown, OtherType, TypeRead, ConstantAt}
-use Rattle.spirv_ids.specs.Ids.{integer_before, type_number}
+use Rattle.spirv_ids.specs.Ids.{type_number}
 use Rattle.spirv_members.specs.Members.{member_count_at, members_unsupported, members_sound, struct_alignment, last_end}
 use Rattle.spirv_members.specs.Serving.{largest_alignment}
 use Rattle.spirv_members.specs.Serving.{Bounded}
@@ -31,7 +24,7 @@ use Rattle.spirv_members.proofs.AlignmentLaws.{largest_is}
 use Rattle.std.specs.Prelude as std
 use Rattle.ir_records.specs.declared.Fault.{Fault}
 use Rattle.ir_records.specs.declared.Fault.TheVariants.{ModuleType, ModuleOrder}
-use Rattle.spirv_types.specs.Types.{State, width_ok, words_of, length_of, struct_type}
+use Rattle.spirv_types.specs.Types.{State, width_ok, words_of, struct_type}
 use Rattle.spirv_types.specs.Serving.{made_result, checked}
 
 true_false : true ≡ false → ⊥
@@ -47,14 +40,6 @@ width_within bits b e = go (eqb bits 8) (eqb bits 16) (eqb bits 32) (eqb bits 64
     go false false false true a₁ a₂ a₃ a₄ = omega (arith, eqb-true bits 64 a₄)
     go false false false false a₁ a₂ a₃ a₄ = absurd (true_false (rw (a₁, a₂, a₃, a₄) at e))
 
-pub integer_within : (ws : List ℕ) (at id : ℕ) → integer_before ws at id ≤ at
-unfolding integer_before
-integer_within ws at id = by (dec_le 1 (first (is_integer ws id) (before ws at)))
-  where
-    by : Dec (1 ≤ first (is_integer ws id) (before ws at)) → first (is_integer ws id) (before ws at) ≤ at
-    by (yes h) = omega (arith, (found_below ws at (is_integer ws id) (at - header_words) header_words h).0)
-    by (no h) = omega (arith, h)
-
 -- ---- the record of a scalar, and of a vector: the width
 module _ (ts : List ℕ) (b : Bounded ts) (k : ℕ) (r : Words) (is : r ≡ record_words ts k) where
   pub base_scalar : (x : Bool) → (x && eqb r.kind 0) ≡ true → r.b ≤ 255
@@ -66,14 +51,6 @@ module _ (ts : List ℕ) (b : Bounded ts) (k : ℕ) (r : Words) (is : r ≡ reco
   base_vector x e =
       let kind = eqb-true r.kind 1 (and_true x _ e).1 in
       rw (ap (λ (w : Words). w.c) is) (vector_bounds ts k b (sym (ap (λ (w : Words). w.kind) is) ∙ kind)).1
-
--- what is no constant has no length
-pub other_length : (ws : List ℕ) (sort : Sort) → ((at : ℕ) → sort ≡ ConstantAt at → ⊥) → length_of ws sort ≡ 0
-unfolding length_of
-other_length ws Unknown h = refl
-other_length ws OtherType h = refl
-other_length ws (TypeRead number) h = refl
-other_length ws (ConstantAt at) h = absurd (h at refl)
 
 -- ---- 29 before 30
 err_ok : (fault : Fault) → ◌≡◌ {A = std.Result (Unit {0}) Fault} (std.Err fault) (std.Ok tt) → ⊥
@@ -111,6 +88,3 @@ module _ (ws : List ℕ) (s : State) (at : ℕ) (fresh : Bool) where
   struct_spanned whole u e a end ea ee =
       let al = s.alignments in
       rw (u, e, largest_is ws at al whole (member_count_at ws at) (and_true fresh _ e).1, sym ea, sym ee)
-
-pub vector_small : (r n : ℕ) → r ≡ vector_alignment n → r ≤ 16
-vector_small r n e = rw e (omega (arith, vector_within n))

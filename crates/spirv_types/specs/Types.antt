@@ -9,8 +9,7 @@ use Rattle.proc_type_alignment.specs.TypeAlignment.{alignment_of}
 use Rattle.spirv_words.specs.Module.{word_count, opcode, word, type_bool, type_int, type_float, type_vector, type_matrix, type_array, type_runtime_array, before, first, only}
 use Rattle.spirv_words.specs.Decorations.{is_stride_of, is_misplaced}
 use Rattle.spirv_types.specs.declared.Typed.{Typed}
-use Rattle.spirv_ids.specs.declared.Sort.{Sort}
-use Rattle.spirv_ids.specs.declared.Sort.TheVariants.{Unknown, OtherType, TypeRead, ConstantAt}
+use Rattle.spirv_ids.specs.Sorts.{Sort, Unknown, OtherType, TypeRead, ConstantAt}
 use Rattle.spirv_ids.specs.Ids.{integer_before, giver, sort}
 use Rattle.spirv_members.specs.Members.{is_other, is_type_read, number_of, member_count_at, member_rows, members_unsupported, members_sound, layouts_of, struct_alignment, last_end}
 

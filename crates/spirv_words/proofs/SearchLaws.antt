@@ -7,12 +7,11 @@ use mathlib.Core.List.{List, [], ◌∷◌}
 use mathlib.Core.Logic.{◌⊎◌, inl, inr}
 use Prim.Native.Nat.{ℕ, zero, suc, ◌+◌, ◌-◌, ◌≤◌, ◌<◌}
 use native.Mathlib.Omega.{arith}
-use native.Mathlib.Decide.{dec_le}
 use lib.Dec.{eqb, ltb}
 use borrow.Author.Tests.{lt-ltb, le-ltb, ltb-true, ne_eqb, eqb-true, eqb-false}
 use Rattle.ir_records.specs.Result.{pick}
 use Rattle.std.specs.Prelude.{None, Some}
-use Rattle.std.specs.Option.{is_some, unwrap_or}
+use Rattle.std.specs.Option.{is_some}
 use Rattle.spirv_words.specs.Module.{word_count, header_words, starts, between, before, first, find, found, only}
 
 and_true : (a b : Bool) → (a && b) ≡ true → (a ≡ true) × (b ≡ true)
@@ -46,16 +45,6 @@ found_some n q e = by (eqb n 0) refl
     by false t =
         let is : n ≡ q = sym (some_inj q n (rw t at e)) in
         (is, omega (arith, eqb-false n 0 t, is))
-
-pub found_here : (n : ℕ) → 0 < n → found n ≡ Some n
-found_here n h = rw (ne_eqb n 0 (λ e. omega (arith, h, e)))
-
-pub found_or : (n : ℕ) → unwrap_or (found n) 0 ≡ n
-found_or n = by (eqb n 0) refl
-  where
-    by : (b : Bool) → eqb n 0 ≡ b → unwrap_or (found n) 0 ≡ n
-    by true t = rw t (sym (eqb-true n 0 t))
-    by false t = rw t refl
 
 pub found_not : (n : ℕ) (r : Bool) → is_some (found n) ≡ not r → r ≡ eqb n 0
 found_not n r e = by r (eqb n 0) refl e
@@ -274,14 +263,3 @@ only_first test (p ∷ ps) = by (test p) refl (only_first test ps)
         again : (b : Bool) → eqb (first test ps) 0 ≡ b → (only test (p ∷ ps) ≡ 0) ⊎ (only test (p ∷ ps) ≡ first test (p ∷ ps))
         again true f = inr (rw (e, f) refl)
         again false f = inl (rw (e, f) refl)
-
-pub only_below : (ws : List ℕ) (test : ℕ → Bool) (end : ℕ) → only test (before ws end) ≤ end
-only_below ws test end = by (only_first test (before ws end))
-  where
-    by : (only test (before ws end) ≡ 0) ⊎ (only test (before ws end) ≡ first test (before ws end)) → only test (before ws end) ≤ end
-    by (inl e) = rw e (omega arith)
-    by (inr e) = rw e (below (dec_le 1 (first test (before ws end))))
-      where
-        below : Dec (1 ≤ first test (before ws end)) → first test (before ws end) ≤ end
-        below (yes h) = omega (arith, (found_below ws end test (end - header_words) header_words h).0)
-        below (no h) = omega (arith, h)

@@ -3,8 +3,6 @@
 -- Assumes nothing.
 use Rattle.std.specs.Prelude.{Bool, not, ◌&&◌, ◌||◌, List, ℕ, eqb}
 use Rattle.spirv_words.specs.Module.{opcode, word, type_int, type_array, type_runtime_array, type_struct, decorate, member_decorate}
-use Rattle.spirv_words.specs.declared.Wanted.{Wanted}
-use Rattle.spirv_words.specs.declared.Wanted.TheVariants.{Integer, Stride, Offset, Misplaced, Otherwise}
 
 -- ---- their numbers
 abbrev pub row_major : ℕ
@@ -49,11 +47,3 @@ is_misplaced ws op id at =
 -- ---- the OpTypeInt that gives an id
 abbrev pub is_integer : (ws : List ℕ) (id at : ℕ) → Bool
 is_integer ws id at = eqb (opcode ws at) type_int && eqb (word ws at 1) id
-
--- the test that the code's search makes
-abbrev pub passes : (ws : List ℕ) → Wanted → (at : ℕ) → Bool
-passes ws (Integer id) at = is_integer ws id at
-passes ws (Stride id) at = is_stride_of ws id at
-passes ws (Offset id member) at = is_offset_of ws id member at
-passes ws (Misplaced op id) at = is_misplaced ws op id at
-passes ws (Otherwise id member step) at = is_otherwise ws id member step at

@@ -1,9 +1,10 @@
 // Words and instructions of a SPIR-V module, and searches through the instructions before a place.
 #![tactic(auto)]
 
-ghost use Rattle.std.specs.Prelude.{◌≡◌, ◌+◌, ◌/◌, ◌≤◌, ◌<◌, length};
+ghost use Rattle.std.specs.Prelude.{◌≡◌, ◌&&◌, ◌≤◌, Bool, ℕ, eqb};
 ghost use Rattle.spirv_words.specs.Module.{word_count, opcode, word, between, before, find, only, found};
-ghost use Rattle.spirv_words.specs.Decorations.{passes};
+ghost use Rattle.spirv_words.specs.Decorations.{is_integer, is_stride_of, is_offset_of, is_misplaced, is_otherwise};
+ghost use Rattle.spirv_words.specs.Serving.{Tells};
 
 // Words of the header; the first instruction stands after them.
 pub const HEADER_WORDS: usize = 5;
@@ -42,88 +43,91 @@ pub const MATRIX_STRIDE: u32 = 7;
 
 pub const OFFSET: u32 = 35;
 
-// What an instruction is looked at for.
-#[derive(Clone, Copy)]
-pub enum Wanted {
-    // The OpTypeInt that gives an id.
-    Integer(u32),
-    // The ArrayStride of a type.
-    Stride(u32),
-    // The Offset of a member of a struct.
-    Offset { id: u32, member: u32 },
-    // A decoration that a type of this opcode cannot have.
-    Misplaced { op: u32, id: u32 },
-    // A member's matrix stored otherwise than in columns so many bytes apart.
-    Otherwise { id: u32, member: u32, step: u32 },
-}
-
 // Word k of the instruction at `at`; 0 past the words.
 pub fn word_of(words: &[u32], at: usize, k: usize) -> u32
-    requires at_in_bounds { at < length words.now }
-    requires k_bound { k ≤ 65535 }
     ensures { result ≡ word words.now at k }
 {
-    let place = at + k;
-    ir_records::word_at(words, place)
+    ir_records::word_at(words, at.saturating_add(k))
 }
 
-// The upper 16 bits of a word.
-fn upper(w: u32) -> usize
-    ensures { (result ≡ w / 65536) × (result ≤ 65535) }
-{
-    let c = w / 65536;
-    c as usize
-}
-
+// The upper 16 bits of its first word; 0 past the words.
 pub fn word_count(words: &[u32], at: usize) -> usize
-    requires { at < length words.now }
     ensures { (result ≡ word_count words.now at) × (result ≤ 65535) }
 {
-    upper(words[at])
+    let upper = ir_records::word_at(words, at) / 65536;
+    upper as usize
 }
 
+// The lower 16 bits.
 pub fn opcode_of(words: &[u32], at: usize) -> u32
-    requires { at < length words.now }
     ensures { result ≡ opcode words.now at }
 {
-    words[at] % 65536
+    ir_records::word_at(words, at) % 65536
 }
 
-pub fn is_wanted(words: &[u32], at: usize, wanted: Wanted) -> bool
-    requires { at < length words.now }
-    ensures { result ≡ passes words.now wanted at }
+// An instruction of this opcode whose first operand is this id.
+fn is_of(words: &[u32], op: u32, id: u32, at: usize) -> bool
+    ensures { result ≡ (eqb (opcode words.now at) op && eqb (word words.now at 1) id) }
 {
-    let opcode = opcode_of(words, at);
-    let a = word_of(words, at, 1);
-    let b = word_of(words, at, 2);
-    let c = word_of(words, at, 3);
-    let d = word_of(words, at, 4);
-    match wanted {
-        Wanted::Integer(id) => (opcode == TYPE_INT) & (a == id),
-        Wanted::Stride(id) => (opcode == DECORATE) & (b == ARRAY_STRIDE) & (a == id),
-        Wanted::Offset { id, member } => (opcode == MEMBER_DECORATE)
-            & (a == id)
-            & (b == member)
-            & (c == OFFSET),
-        Wanted::Misplaced { op, id } => ((opcode == DECORATE)
-            & (b == ARRAY_STRIDE)
-            & (a == id)
-            & !((op == TYPE_ARRAY) | (op == TYPE_RUNTIME_ARRAY)))
-            | ((opcode == MEMBER_DECORATE)
-                & (a == id)
-                & !(op == TYPE_STRUCT)
-                & ((c == OFFSET) | (c == MATRIX_STRIDE) | (c == ROW_MAJOR))),
-        Wanted::Otherwise { id, member, step } => (opcode == MEMBER_DECORATE)
-            & (a == id)
-            & (b == member)
-            & ((c == ROW_MAJOR) | ((c == MATRIX_STRIDE) & !(d == step))),
-    }
+    (opcode_of(words, at) == op) & (word_of(words, at, 1) == id)
+}
+
+// The OpTypeInt that gives an id.
+pub fn is_integer(words: &[u32], id: u32, at: usize) -> bool
+    ensures { result ≡ is_integer words.now id at }
+{
+    is_of(words, TYPE_INT, id, at)
+}
+
+// The ArrayStride of a type.
+pub fn is_stride_of(words: &[u32], id: u32, at: usize) -> bool
+    ensures { result ≡ is_stride_of words.now id at }
+{
+    (opcode_of(words, at) == DECORATE)
+        & (word_of(words, at, 2) == ARRAY_STRIDE)
+        & (word_of(words, at, 1) == id)
+}
+
+// The Offset of a member of a struct.
+pub fn is_offset_of(words: &[u32], id: u32, member: u32, at: usize) -> bool
+    ensures { result ≡ is_offset_of words.now id member at }
+{
+    is_of(words, MEMBER_DECORATE, id, at)
+        & (word_of(words, at, 2) == member)
+        & (word_of(words, at, 3) == OFFSET)
+}
+
+// A decoration that a type of this opcode cannot have.
+pub fn is_misplaced(words: &[u32], op: u32, id: u32, at: usize) -> bool
+    ensures { result ≡ is_misplaced words.now op id at }
+{
+    let decoration = word_of(words, at, 3);
+    (is_stride_of(words, id, at) & !((op == TYPE_ARRAY) | (op == TYPE_RUNTIME_ARRAY)))
+        | (is_of(words, MEMBER_DECORATE, id, at)
+            & !(op == TYPE_STRUCT)
+            & ((decoration == OFFSET) | (decoration == MATRIX_STRIDE) | (decoration == ROW_MAJOR)))
+}
+
+// A member's matrix stored otherwise than in columns so many bytes apart.
+pub fn is_otherwise(words: &[u32], id: u32, member: u32, step: u32, at: usize) -> bool
+    ensures { result ≡ is_otherwise words.now id member step at }
+{
+    let decoration = word_of(words, at, 3);
+    is_of(words, MEMBER_DECORATE, id, at)
+        & (word_of(words, at, 2) == member)
+        & ((decoration == ROW_MAJOR)
+            | ((decoration == MATRIX_STRIDE) & !(word_of(words, at, 4) == step)))
 }
 
 // The first wanted instruction from `from` on and before `end`.
-pub fn first_between(words: &[u32], from: usize, end: usize, wanted: Wanted) -> Option<usize>
-    requires { end ≤ length words.now }
-    ensures { result ≡ find (passes words.now wanted) (between words.now from end) }
+pub fn first_between<F: Fn(usize) -> bool>(
+    words: &[u32],
+    from: usize,
+    end: usize,
+    is_wanted: F,
+) -> Option<usize>
+    requires { F.IsAlwaysCallable is_wanted }
+    ensures { (test : ℕ → Bool) → Tells (F.post is_wanted) test → result ≡ find test (between words.now from end) }
 {
     let mut p = from;
     // Kept: each step is the word count of an instruction; no range has such steps.
@@ -132,7 +136,7 @@ pub fn first_between(words: &[u32], from: usize, end: usize, wanted: Wanted) -> 
         if count == 0 {
             return None;
         }
-        if is_wanted(words, p, wanted) {
+        if is_wanted(p) {
             return Some(p);
         }
         p += count;
@@ -141,13 +145,13 @@ pub fn first_between(words: &[u32], from: usize, end: usize, wanted: Wanted) -> 
 }
 
 // The only wanted instruction before `at`; none where there are several.
-pub fn only_before(words: &[u32], at: usize, wanted: Wanted) -> Option<usize>
-    requires { at ≤ length words.now }
-    ensures { result ≡ found (only (passes words.now wanted) (before words.now at)) }
+pub fn only_before<F: Fn(usize) -> bool>(words: &[u32], at: usize, is_wanted: F) -> Option<usize>
+    requires { F.IsAlwaysCallable is_wanted }
+    ensures { (test : ℕ → Bool) → Tells (F.post is_wanted) test → result ≡ found (only test (before words.now at)) }
 {
-    let place = first_between(words, HEADER_WORDS, at, wanted)?;
+    let place = first_between(words, HEADER_WORDS, at, &is_wanted)?;
     let next = place + word_count(words, place);
-    if first_between(words, next, at, wanted).is_some() {
+    if first_between(words, next, at, &is_wanted).is_some() {
         return None;
     }
     Some(place)

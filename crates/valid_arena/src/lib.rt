@@ -1,5 +1,6 @@
 // Judging an arena, the types in order, as Validator::validate of naga's valid/mod.rs has those of a module; and the arena check, which lays out
 // and then judges.
+// Kept: `rows`, `n`: n is how many types there are, and the rows may be longer.
 #![tactic(auto)]
 
 ghost use Rattle.ir_records.specs.Refusal.{outcome_of};
@@ -79,6 +80,8 @@ fn judge_tables(
     found
 }
 
+// Kept: `capabilities`, `rule`: two parameters of the calls: they are only handed on together, and part below, where the layout needs neither,
+// plain types the capabilities alone, and verdicts the rule alone.
 // Judging: the answer, and the rows of all types in the lent words, whatever these hold: none of them is read before it is written. Nothing is
 // asked of the caller.
 pub fn judge(
@@ -91,10 +94,9 @@ pub fn judge(
     ensures value { outcome_of result ≡ arena_answer capabilities types.now members.now rows.old }
     ensures rows_after { rows.new ≡ arena_words rule capabilities types.now members.now rows.old }
 {
-    if !ir_records::capabilities_known(capabilities) {
-        return Err(Refusal::of(Fault::TableLength));
-    }
-    if !ir_records::tables_fit(types.len(), members.len(), rows.len()) {
+    let known = ir_records::capabilities_known(capabilities);
+    let fits = ir_records::tables_fit(types.len(), members.len(), rows.len());
+    if !(known & fits) {
         return Err(Refusal::of(Fault::TableLength));
     }
     let n = (types.len() / ir_records::TYPE_WORDS) as u32;

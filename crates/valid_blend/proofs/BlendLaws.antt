@@ -21,7 +21,8 @@ use Rattle.ir_records.specs.declared.TypeInner.{TypeInner}
 use Rattle.ir_records.proofs.ResultLaws.{required, require_twice, and_then_ok, ok_inj, T_true}
 use Rattle.valid_flags.specs.Flags.{bit, io_shareable_bit, io_shareable_flag}
 use Rattle.proc_alignment.specs.Alignment.{most}
-use Rattle.valid_type_info.specs.declared.Previous.{Previous}
+use Rattle.std.specs.Prelude.{Option}
+use Rattle.valid_type_info.specs.declared.PreviousStruct.{PreviousStruct}
 use Rattle.valid_type_info.specs.Verdict.{previous_of, distance_ok}
 use Rattle.valid_member_bounds.specs.declared.Bounds.{Bounds}
 use Rattle.valid_member_bounds.specs.MemberBounds.{is_array, is_member_data, is_apart, is_member_sized, member_bounds, bounds_after}
@@ -123,19 +124,19 @@ refused_by true true true true false sized j number member detail b e = let t : 
 refused_by true true true true true false j number member detail b e = let t : (20 ≡ number) × (j ≡ member) × (0 ≡ detail) = (cc, cc, cc) in record { at = sym t.1; none = sym t.2; first = rw (← t.0) refl }
 refused_by true true true true true true j number member detail b e = let z : ◌≡◌ {A = ℕ} 0 1 = cc in absurd (omega arith)
 
-member_refused : (count span : ℕ) (previous : Previous) (this : TypeInner) (offset j size flags : ℕ) (b : Bounds) (number member detail : ℕ)
+member_refused : (count span : ℕ) (previous : Option PreviousStruct) (this : TypeInner) (offset j size flags : ℕ) (b : Bounds) (number member detail : ℕ)
     → member_bounds count span previous this offset j size flags b ≡ err number member detail → MemberRefused (is_member_data flags) j number member detail
 unfolding member_bounds
 member_refused count span previous this offset j size flags b number member detail e =
     refused_by (is_member_data flags) (is_apart b.end offset) (leb (offset + size) most) (leb (offset + size) span) (distance_ok previous offset) (is_member_sized flags (is_array this) j count)
     j number member detail _ e
 
-taken_data : (count span : ℕ) (previous : Previous) (this : TypeInner) (offset j size flags : ℕ) (b after : Bounds)
+taken_data : (count span : ℕ) (previous : Option PreviousStruct) (this : TypeInner) (offset j size flags : ℕ) (b after : Bounds)
     → member_bounds count span previous this offset j size flags b ≡ ok after → is_member_data flags ≡ true
 unfolding member_bounds
 taken_data count span previous this offset j size flags b after e = T_true (is_member_data flags) (required (is_member_data flags) 17 j 0 _ after e).0
 
-no_data_first : (count span : ℕ) (previous : Previous) (this : TypeInner) (offset j size flags : ℕ) (b : Bounds) → is_member_data flags ≡ false
+no_data_first : (count span : ℕ) (previous : Option PreviousStruct) (this : TypeInner) (offset j size flags : ℕ) (b : Bounds) → is_member_data flags ≡ false
     → member_bounds count span previous this offset j size flags b ≡ err 17 j 0
 unfolding member_bounds
 no_data_first count span previous this offset j size flags b e = rw e refl
@@ -373,31 +374,6 @@ module _ (members : List ℕ) where
   unfolding other_location
   other_none zero h = refl
   other_none (suc j) h = absurd (not-suc-le-zero h)
-
--- ---- the pair by the numbers that the code has
-module _ (inner : ℕ → TypeInner) (flags : ℕ → ℕ) (members : List ℕ) (count left : ℕ) where
-  abbrev result : ℕ → ℕ → Result ℕ
-  result = pair_result inner flags members (other_location members count) left
-
-  pub both_missing : (first second : ℕ) → source_at members 1 count ≡ first → source_at members 2 count ≡ second → first ≡ 0 → second ≡ 0
-      → struct_blend inner flags members count left ≡ ok left
-  unfolding struct_blend
-  both_missing first second p q h l = rw (p, q, h, l) refl
-
-  pub second_alone : (first second : ℕ) → source_at members 1 count ≡ first → source_at members 2 count ≡ second → first ≡ 0 → 0 < second
-      → struct_blend inner flags members count left ≡ err 34 0 6
-  unfolding struct_blend
-  second_alone first second p q h l = ap (λ (x : ℕ). result x (source_at members 2 count)) (p ∙ h) ∙ ap (result 0) (q ∙ one_less second l)
-
-  pub first_alone : (first second : ℕ) → source_at members 1 count ≡ first → source_at members 2 count ≡ second → 0 < first → second ≡ 0
-      → struct_blend inner flags members count left ≡ err 34 0 6
-  unfolding struct_blend
-  first_alone first second p q h l = ap (λ (x : ℕ). result x (source_at members 2 count)) (p ∙ one_less first h) ∙ ap (result (suc (first - 1))) (q ∙ l)
-
-  pub both_there : (first second : ℕ) → source_at members 1 count ≡ first → source_at members 2 count ≡ second → 0 < first → 0 < second
-      → struct_blend inner flags members count left ≡ pair_of inner flags members (other_location members count) left (first - 1) (second - 1)
-  unfolding struct_blend
-  both_there first second p q h l = ap (λ (x : ℕ). result x (source_at members 2 count)) (p ∙ one_less first h) ∙ ap (result (suc (first - 1))) (q ∙ one_less second l)
 
 -- whether a member has this blend source, as `source_at` tells it
 pub source_met : (found : Option ℕ) → is_some found ≡ true → eqb (plus_one found) 0 ≡ false

@@ -4,6 +4,7 @@
 ghost use Rattle.ir_records.specs.declared.Fault.TheVariants.{InvalidBlendSrc};
 ghost use Rattle.std.specs.Prelude.{◌≡◌, false, ℕ, ◌+◌, ◌*◌, ◌≤◌, ◌<◌, length};
 ghost use Rattle.ir_records.specs.Record.{member_words, member_count, type_inner, member_type, Sourceless};
+ghost use Rattle.ir_records.specs.Kinds.{kind_number};
 ghost use Rattle.valid_flags.specs.Flags.{bit};
 ghost use Rattle.valid_width.specs.Width.{dual_source_blending};
 ghost use Rattle.valid_type_info.specs.TypeInfo.{rows_in, row_flags};
@@ -11,9 +12,11 @@ ghost use Rattle.valid_blend.specs.Blend.{source_at, source_result, sources_afte
 ghost use Rattle.ir_records.specs.Refusal.{judged, number_of, type_refusal};
 ghost use Rattle.valid_blend.specs.Serving.{sources_before, blended_flags, plus_one};
 
-use ir_records::{Fault, Leaf, TypeInner, TypeRefusal, Words};
+use ir_records::{Fault, Kind, Leaf, Members, TypeInner, TypeRefusal, Words};
+use ir_rows::Earlier;
 
 // The last of the first n members whose blend source is stored as this word.
+// Kept: how many members are looked at, and not how long the part is.
 pub fn source_at(part: &[u32], word: u32, n: u32) -> Option<u32>
     requires { n * member_words ≤ length part.now }
     ensures { plus_one result ≡ source_at part.now word n }
@@ -74,6 +77,7 @@ fn source_of(dual: bool, part: &[u32], j: u32) -> Result<(), TypeRefusal>
 }
 
 // The same of the first n members, one after the other.
+// Kept: how many members are looked at, and not how long the part is.
 pub fn sources_of(dual: bool, part: &[u32], n: u32) -> Result<(), TypeRefusal>
     requires { n * member_words ≤ length part.now }
     ensures { judged result ≡ sources_after dual part.now n }
@@ -84,11 +88,12 @@ pub fn sources_of(dual: bool, part: &[u32], n: u32) -> Result<(), TypeRefusal>
     Ok(())
 }
 
-fn six(kind: u32, a: u32, b: u32, c: u32, d: u32, e: u32) -> Words
-    ensures { result ≡ record { kind = kind; a = a; b = b; c = c; d = d; e = e } }
+// Kept: `a`, `b`, `c`, `d`, `e`: the words of a record, to make one of.
+fn six(kind: Kind, a: u32, b: u32, c: u32, d: u32, e: u32) -> Words
+    ensures { result ≡ record { kind = kind_number kind; a = a; b = b; c = c; d = d; e = e } }
 {
     Words {
-        kind,
+        kind: kind as u32,
         a,
         b,
         c,
@@ -101,12 +106,19 @@ fn leaf_words(leaf: Leaf) -> Words
     ensures { result ≡ leaf_words leaf }
 {
     match leaf {
-        Leaf::Scalar(k, w) => six(0, k, w, 0, 0, 0),
-        Leaf::Vector(n, k, w) => six(1, n, k, w, 0, 0),
-        Leaf::Matrix(columns, rows, k, w) => six(2, columns, rows, k, w, 0),
-        Leaf::CooperativeMatrix(columns, rows, k, w, role) => six(3, columns, rows, k, w, role),
-        Leaf::Atomic(k, w) => six(4, k, w, 0, 0, 0),
-        Leaf::RayQuery(v) => six(12, v, 0, 0, 0, 0),
+        Leaf::Scalar(k, w) => six(Kind::Scalar, k, w, 0, 0, 0),
+        Leaf::Vector(n, k, w) => six(Kind::Vector, n, k, w, 0, 0),
+        Leaf::Matrix(columns, rows, k, w) => six(Kind::Matrix, columns, rows, k, w, 0),
+        Leaf::CooperativeMatrix(columns, rows, k, w, role) => six(
+            Kind::CooperativeMatrix,
+            columns,
+            rows,
+            k,
+            w,
+            role,
+        ),
+        Leaf::Atomic(k, w) => six(Kind::Atomic, k, w, 0, 0, 0),
+        Leaf::RayQuery(v) => six(Kind::RayQuery, v, 0, 0, 0, 0),
     }
 }
 
@@ -119,13 +131,14 @@ fn inner_words(inner: TypeInner) -> Words
             base,
             count,
             stride,
-        } => six(7, base, 0, count, stride, 0),
-        TypeInner::RuntimeArray { base, stride } => six(7, base, 1, 0, stride, 0),
-        TypeInner::Struct { count, span } => six(8, 0, count, span, 0, 0),
-        TypeInner::Other(_) => six(9, 0, 0, 0, 0, 0),
+        } => six(Kind::Array, base, 0, count, stride, 0),
+        TypeInner::RuntimeArray { base, stride } => six(Kind::Array, base, 1, 0, stride, 0),
+        TypeInner::Struct { count, span } => six(Kind::Struct, 0, count, span, 0, 0),
+        TypeInner::Other(_) => six(Kind::Image, 0, 0, 0, 0, 0),
     }
 }
 
+// Kept: not equality, since a struct is the same type as none.
 fn same_words(v: Words, w: Words) -> bool
     ensures { result ≡ same_words v w }
 {
@@ -133,6 +146,7 @@ fn same_words(v: Words, w: Words) -> bool
 }
 
 // Whether two records say the same type, and no struct.
+// Kept: not equality of records, since a struct is the same type as none.
 fn same_type(types: &[u32], s: u32, t: u32) -> bool
     ensures { result ≡ same_type (type_inner types.now s) (type_inner types.now t) }
 {
@@ -171,25 +185,21 @@ pub fn pair_of(
 // After the last member: number 34 with detail 3 to 6, or the flags.
 fn struct_blend(
     types: &[u32],
-    rows: &[u32],
-    i: u32,
-    part: &[u32],
-    count: u32,
+    before: Earlier,
+    part: Members,
     flags: u32,
 ) -> Result<u32, TypeRefusal>
-    requires rows_len { length rows.now ≡ i * 14 }
-    requires part_len { length part.now ≡ count * member_words }
-    requires by_index { (j : ℕ) → j < count → member_type part.now j < i }
-    ensures { judged result ≡ struct_blend (type_inner types.now) (row_flags (rows_in rows.now)) part.now count flags }
+    requires { (j : ℕ) → j < part.count → member_type part.words.now j < before.i }
+    ensures { judged result ≡ struct_blend (type_inner types.now) (row_flags (rows_in before.entry.rows.now)) part.entry.words.now part.entry.count flags }
 {
-    let first = source_at(part, 1, count);
-    let second = source_at(part, 2, count);
+    let first = source_at(part.words, 1, part.count);
+    let second = source_at(part.words, 2, part.count);
     match (first, second) {
         (None, None) => Ok(flags),
         (Some(a), Some(b)) => {
-            let s = ir_records::member_type(part, a);
-            let own = ir_rows::own_word(rows, s, ir_rows::FLAGS);
-            pair_of(types, own, part, count, flags, a, b)
+            let s = ir_records::member_type(part.words, a);
+            let own = before.word(s, ir_rows::FLAGS);
+            pair_of(types, own, part.words, part.count, flags, a, b)
         }
         (None, Some(_)) => Err(invalid(6)),
         (Some(_), None) => Err(invalid(6)),
@@ -201,24 +211,20 @@ pub fn blended_flags(
     sourced: bool,
     capabilities: u32,
     types: &[u32],
-    rows: &[u32],
-    i: u32,
-    part: &[u32],
-    count: u32,
+    before: Earlier,
+    part: Members,
     flags: u32,
 ) -> Result<u32, TypeRefusal>
-    requires rows_len { length rows.now ≡ i * 14 }
-    requires part_len { length part.now ≡ count * member_words }
-    requires by_index { (j : ℕ) → j < count → member_type part.now j < i }
-    requires sourceless { sourced ≡ false → Sourceless part.now (member_count part.now) }
-    ensures { judged result ≡ blended_flags (bit capabilities dual_source_blending) (type_inner types.now) (row_flags (rows_in rows.now)) part.now count flags }
+    requires by_index { (j : ℕ) → j < part.count → member_type part.words.now j < before.i }
+    requires sourceless { sourced ≡ false → Sourceless part.words.now (member_count part.words.now) }
+    ensures { judged result ≡ blended_flags (bit capabilities dual_source_blending) (type_inner types.now) (row_flags (rows_in before.entry.rows.now)) part.entry.words.now part.entry.count flags }
 {
     if !sourced {
         return Ok(flags);
     }
     let dual = valid_flags::capable(capabilities, valid_width::DUAL_SOURCE_BLENDING);
-    sources_of(dual, part, count)?;
-    struct_blend(types, rows, i, part, count, flags)
+    sources_of(dual, part.words, part.count)?;
+    struct_blend(types, before, part, flags)
 }
 
 // The refusal of a blend source that comes before this refusal of a member.

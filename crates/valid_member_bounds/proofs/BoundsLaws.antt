@@ -17,14 +17,15 @@ use Rattle.ir_records.proofs.ResultLaws.{required, and_then_ok, ok_inj, and_left
 use Rattle.proc_alignment.specs.Alignment.{most}
 use Rattle.valid_flags.specs.Flags.{bit, data_bit, sized_bit, host_shareable_bit, creation_resolved_bit, not_host_shareable}
 use Rattle.valid_flags.proofs.BitLaws.{bit-and, bit_and_both}
-use Rattle.valid_type_info.specs.declared.Previous.{Previous}
+use Rattle.std.specs.Prelude.{Option}
+use Rattle.valid_type_info.specs.declared.PreviousStruct.{PreviousStruct}
 use Rattle.valid_type_info.specs.Verdict.{previous_of, distance_ok}
 use Rattle.valid_member_bounds.specs.declared.Bounds.{Bounds}
 use Rattle.valid_member_bounds.specs.MemberBounds.{is_array, is_member_data, is_apart, is_member_sized, member_flags, bounds_by, member_bounds, bounds_after}
 
 -- ---- one member
 -- what an accepted member says; size and flags are those of its type
-pub record MemberTaken (count span : ℕ) (previous : Previous) (inner : TypeInner) (offset j size flags : ℕ) (so_far next : Bounds) : Type 0 where
+pub record MemberTaken (count span : ℕ) (previous : Option PreviousStruct) (inner : TypeInner) (offset j size flags : ℕ) (so_far next : Bounds) : Type 0 where
   pub is_data : T (bit flags data_bit)
   pub resolved : T (bit flags creation_resolved_bit)
   pub ordered : T (leb so_far.end offset || eqb offset 0)
@@ -35,7 +36,7 @@ pub record MemberTaken (count span : ℕ) (previous : Previous) (inner : TypeInn
   pub is : next ≡ record { end = offset + size; flags = member_flags so_far.end offset (bit_and so_far.flags flags) }
 
 -- a member that is accepted passes the six tests
-pub member_taken : (count span : ℕ) (previous : Previous) (inner : TypeInner) (offset j size flags : ℕ) (so_far next : Bounds)
+pub member_taken : (count span : ℕ) (previous : Option PreviousStruct) (inner : TypeInner) (offset j size flags : ℕ) (so_far next : Bounds)
     → member_bounds count span previous inner offset j size flags so_far ≡ ok next → MemberTaken count span previous inner offset j size flags so_far next
 unfolding member_bounds
 member_taken count span previous inner offset j size flags so_far next e =

@@ -9,7 +9,8 @@ use Rattle.ir_records.specs.declared.TypeInner.{TypeInner}
 use Rattle.ir_records.specs.declared.TypeInner.TheVariants.{Plain, Array, RuntimeArray, Struct, Other}
 use Rattle.proc_alignment.specs.Alignment.{most}
 use Rattle.valid_flags.specs.Flags.{bit, data_bit, sized_bit, creation_resolved_bit, starting_flags, not_host_shareable}
-use Rattle.valid_type_info.specs.declared.Previous.{Previous}
+use Rattle.std.specs.Prelude.{Option}
+use Rattle.valid_type_info.specs.declared.PreviousStruct.{PreviousStruct}
 use Rattle.valid_type_info.specs.Verdict.{previous_of, distance_ok}
 use Rattle.valid_member_bounds.specs.declared.Bounds.{Bounds}
 
@@ -49,7 +50,7 @@ bounds_by count span within array offset j size flags so_far =
     (ok (record { end = offset + size; flags = member_flags so_far.end offset (bit_and so_far.flags flags) })))))))
 
 -- by the struct before it and what the record of its type says
-unfoldable pub member_bounds : (count span : ℕ) → Previous → TypeInner → (offset j size flags : ℕ) → Bounds → Result Bounds
+unfoldable pub member_bounds : (count span : ℕ) → Option PreviousStruct → TypeInner → (offset j size flags : ℕ) → Bounds → Result Bounds
 member_bounds count span previous inner offset j size flags so_far =
     bounds_by count span (distance_ok previous offset) (is_array inner) offset j size flags so_far
 

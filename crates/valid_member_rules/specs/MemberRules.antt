@@ -7,12 +7,13 @@ use Rattle.ir_records.specs.Record.{member_type, member_offset}
 use Rattle.ir_records.specs.declared.TypeInner.{TypeInner}
 use Rattle.valid_flags.specs.Flags.{bit, sized_bit, host_shareable_bit}
 use Rattle.valid_type_info.specs.declared.Verdict.{Verdict}
-use Rattle.valid_type_info.specs.declared.Previous.{Previous}
+use Rattle.std.specs.Prelude.{Option}
+use Rattle.valid_type_info.specs.declared.PreviousStruct.{PreviousStruct}
 use Rattle.valid_type_info.specs.declared.Row.{Row}
 use Rattle.valid_type_info.specs.Verdict.{ok_verdict, share_verdict, member_verdict, previous_of, distance_verdict, unsized_verdict, min_storage}
 
 -- ---- verdicts: what member j, of type t with row r, makes of those so far
-abbrev pub member_uniform : (least i j t offset : ℕ) → Previous → Row → Verdict → Verdict
+abbrev pub member_uniform : (least i j t offset : ℕ) → Option PreviousStruct → Row → Verdict → Verdict
 member_uniform least i j t offset previous r so_far =
     unsized_verdict (bit r.flags sized_bit) i j
     (distance_verdict least i j offset previous

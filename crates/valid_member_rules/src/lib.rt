@@ -4,21 +4,21 @@
 ghost use Rattle.std.specs.Prelude.{◌≡◌, ◌+◌, ◌<◌};
 ghost use Rattle.ir_records.specs.Record.{type_inner};
 ghost use Rattle.valid_type_info.specs.Verdict.{struct_at};
-ghost use Rattle.valid_type_info.specs.declared.Previous.TheVariants.{NoStruct};
+ghost use Rattle.std.specs.Prelude.{None, Some};
 ghost use Rattle.valid_member_rules.specs.MemberRules.{member_storage, member_immediates};
 ghost use Rattle.valid_member_rules.specs.Serving.{uniform_by, is_plain, is_enough};
 
-use valid_type_info::{Distance, Previous, Row, Verdict};
+use valid_type_info::{Distance, MemberAt, PreviousStruct, Row, Verdict};
 
 // The struct that a member of type t is, for the distance of the next one.
-pub fn struct_at(types: &[u32], t: u32, offset: u32) -> Previous
+pub fn struct_at(types: &[u32], t: u32, offset: u32) -> Option<PreviousStruct>
     ensures { result ≡ struct_at (type_inner types.now t) offset }
 {
     if ir_records::type_word(types, t, 0) == ir_records::STRUCT_KIND {
         let span = ir_records::type_word(types, t, 3);
-        return Previous::StructBefore { span, offset };
+        return Some(PreviousStruct { span, offset });
     }
-    Previous::NoStruct
+    None
 }
 
 pub fn is_enough(d: Distance) -> bool
@@ -32,40 +32,31 @@ pub fn is_enough(d: Distance) -> bool
 }
 
 // The uniform verdict after this member.
-pub fn uniform_of(
-    least: u32,
-    d: Distance,
-    i: u32,
-    j: u32,
-    t: u32,
-    offset: u32,
-    row: Row,
-    so_far: Verdict,
-) -> Verdict
-    ensures { result ≡ uniform_by least d i j t offset row so_far }
+pub fn uniform_of(least: u32, d: Distance, m: MemberAt, row: Row, so_far: Verdict) -> Verdict
+    ensures { result ≡ uniform_by least d m.i m.j m.t m.offset row so_far }
 {
     let own = row.uniform;
     let shared = valid_type_info::share_verdict(
         valid_flags::is_host_shareable(row.flags),
-        t,
+        m.t,
         so_far,
     );
-    let joined = valid_type_info::member_verdict(i, j, offset, shared, own);
-    let apart = valid_type_info::after_distance(least, d, i, j, offset, joined);
-    valid_type_info::unsized_verdict(valid_flags::is_sized(row.flags), i, j, apart)
+    let joined = valid_type_info::member_verdict(m, shared, own);
+    let apart = valid_type_info::after_distance(least, d, m, joined);
+    valid_type_info::unsized_verdict(valid_flags::is_sized(row.flags), m, apart)
 }
 
 // The storage verdict after this member.
-pub fn storage_of(i: u32, j: u32, t: u32, offset: u32, row: Row, so_far: Verdict) -> Verdict
-    ensures { result ≡ member_storage i j t offset row so_far }
+pub fn storage_of(m: MemberAt, row: Row, so_far: Verdict) -> Verdict
+    ensures { result ≡ member_storage m.i m.j m.t m.offset row so_far }
 {
     let own = row.storage;
     let shared = valid_type_info::share_verdict(
         valid_flags::is_host_shareable(row.flags),
-        t,
+        m.t,
         so_far,
     );
-    valid_type_info::member_verdict(i, j, offset, shared, own)
+    valid_type_info::member_verdict(m, shared, own)
 }
 
 // The last failing member gives the immediates word.

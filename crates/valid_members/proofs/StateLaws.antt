@@ -1,7 +1,7 @@
 -- Laws of a struct's members: one member more, a refusal that stays.
 -- Assumes nothing.
 use mathlib.Core.Path.{◌≡◌, refl, sym, ◌∙◌, ap}
-use mathlib.Core.Bool.{Bool, true, ◌&&◌}
+use mathlib.Core.Bool.{Bool, true, false, ◌&&◌}
 use mathlib.Core.List.{List}
 use Prim.Native.Nat.{ℕ, suc, ◌+◌, ◌≤◌}
 use native.Mathlib.Omega.{arith}
@@ -16,7 +16,8 @@ use Rattle.proc_alignment.specs.Alignment.{most}
 use Rattle.valid_type_info.specs.declared.Row.{Row}
 use Rattle.valid_type_info.specs.TypeInfo.{row_sizes, row_flags}
 use Rattle.valid_type_info.specs.declared.Verdict.{Verdict}
-use Rattle.valid_type_info.specs.declared.Previous.{Previous}
+use Rattle.std.specs.Prelude.{Option}
+use Rattle.valid_type_info.specs.declared.PreviousStruct.{PreviousStruct}
 use Rattle.valid_type_info.specs.Verdict.{distance_ok, distance_verdict, share_verdict, member_verdict, unsized_verdict}
 use Rattle.valid_member_bounds.specs.declared.Bounds.{Bounds}
 use Rattle.valid_members.specs.declared.State.{State}
@@ -26,11 +27,11 @@ use Rattle.valid_type_info.specs.Verdict.{struct_at, previous_of, ok_verdict}
 use Rattle.valid_member_bounds.specs.MemberBounds.{is_array, member_bounds, bounds_after}
 use Rattle.valid_member_rules.specs.MemberRules.{uniform_after, storage_after, immediates_after, member_immediates}
 use Rattle.valid_members_plain.specs.declared.PlainState.{PlainState}
-use Rattle.valid_members_plain.specs.Serving.{least_of, plain_bounds, PlainAfter}
+use Rattle.valid_members_plain.specs.Serving.{least_of, uniform_so_far, HasFailed, plain_bounds, PlainAfter}
 use Rattle.std.specs.Prelude as std
 use Rattle.ir_records.specs.Refusal.{judged}
 use Rattle.ir_records.specs.declared.TypeRefusal.{TypeRefusal}
-use Rattle.valid_members.specs.Serving.{state_after, member_step, is_clean, Told}
+use Rattle.valid_members.specs.Serving.{state_after, member_step, is_clean, UniformFits, Told}
 
 module _ (least : ℕ) (inner : ℕ → TypeInner) (rows : ℕ → Row) (i count span : ℕ) (part : List ℕ) where
   -- one member more
@@ -69,7 +70,7 @@ module _ (least : ℕ) (inner : ℕ → TypeInner) (rows : ℕ → Row) (i count
       go m (ok b) p q = let q' = rw p at q in let z : ◌≡◌ {A = ℕ} 0 1 = cc in absurd (omega arith)
 
 -- the step of a member in order: all tests hold, and each verdict is that of the offset
-pub ordered-step : (least i count span j t offset : ℕ) (array : Bool) (next : Previous) (r : Row) (s : State)
+pub ordered-step : (least i count span j t offset : ℕ) (array : Bool) (next : Option PreviousStruct) (r : Row) (s : State)
     → is_sized_data r.flags ≡ true → s.bounds.end ≤ offset → offset + r.size ≤ span → span ≤ most
     → distance_ok s.previous offset ≡ true → ((v : Verdict) → distance_verdict least i j offset s.previous v ≡ v)
     → member_step least i count span j t offset array next r s
@@ -179,3 +180,8 @@ clean v e =
     ∙ ap (λ (x : ℕ). verdict 0 v.ty x v.value v.bound) (eqb→eq v.index 0 (and_right a b two))
     ∙ ap (λ (x : ℕ). verdict 0 v.ty 0 x v.bound) (eqb→eq v.value 0 (and_right (a && b) c three))
     ∙ ap (λ (x : ℕ). verdict 0 v.ty 0 0 x) (eqb→eq v.bound 0 (and_right (a && b && c) d all))
+
+-- the uniform verdict of a loop that keeps both, or storage's alone
+pub so_far : (both : Bool) (u : Verdict) → UniformFits both u → (u ≡ uniform_so_far both u.ty u) × HasFailed both u
+so_far true u fits = (fits, tt)
+so_far false u fits = (refl, fits)

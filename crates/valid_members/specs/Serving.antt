@@ -9,7 +9,7 @@ use Rattle.ir_records.specs.Refusal.{number_of}
 use Rattle.ir_records.specs.declared.TypeRefusal.{TypeRefusal}
 use Rattle.ir_records.specs.declared.TypeInner.{TypeInner}
 use Rattle.valid_flags.specs.Flags.{is_sized_data}
-use Rattle.valid_type_info.specs.declared.Previous.{Previous}
+use Rattle.valid_type_info.specs.declared.PreviousStruct.{PreviousStruct}
 use Rattle.valid_type_info.specs.declared.Row.{Row}
 use Rattle.valid_type_info.specs.TypeInfo.{row_sizes, row_flags}
 use Rattle.valid_type_info.specs.declared.Verdict.{Verdict}
@@ -34,7 +34,7 @@ state_after least inner rows i count span members j =
     }))
 
 -- from the state before member j to the one after it. array, next: `is_array` and `struct_at` of its type
-unfoldable pub member_step : (least i count span j t offset : ℕ) (array : Bool) (next : Previous) → Row → State → Result State
+unfoldable pub member_step : (least i count span j t offset : ℕ) (array : Bool) (next : Option PreviousStruct) → Row → State → Result State
 member_step least i count span j t offset array next r s =
     and_then (bounds_by count span (distance_ok s.previous offset) array offset j r.size r.flags s.bounds)
     (λ b. ok (record {
@@ -46,7 +46,7 @@ member_step least i count span j t offset array next r s =
     }))
 
 -- a member that breaks no rule of bounds and needs no distance: it begins at the running end or past it and ends within the span
-pub record InOrder (flags running offset end span : ℕ) (previous : Previous) : Type 0 where
+pub record InOrder (flags running offset end span : ℕ) (previous : Option PreviousStruct) : Type 0 where
   pub sized_data : is_sized_data flags ≡ true
   pub apart : running ≤ offset
   pub inside : end ≤ span
@@ -71,8 +71,13 @@ Told least inner rows i count span part (std.Err r) = bounds_after inner (row_si
 abbrev pub is_clean : Verdict → Bool
 is_clean v = eqb v.code 0 && eqb v.index 0 && eqb v.value 0 && eqb v.bound 0
 
+-- what is known of the uniform verdict where a loop keeps both verdicts, or storage's alone
+abbrev pub UniformFits : (both : Bool) → Verdict → Type 0
+UniformFits true u = u ≡ ok_verdict u.ty
+UniformFits false u = is_ok u ≡ false
+
 -- what is known of the uniform verdict u and the storage verdict s where a way is taken
 abbrev pub WayFits : Way → (u s : Verdict) → Type 0
 WayFits way.Ordered u s = Unit {0}
-WayFits way.Plain u s = (u ≡ ok_verdict u.ty) × (s ≡ ok_verdict s.ty)
-WayFits way.Storage u s = (is_ok u ≡ false) × (s ≡ ok_verdict s.ty)
+WayFits way.Plain u s = UniformFits true u × (s ≡ ok_verdict s.ty)
+WayFits way.Storage u s = UniformFits false u × (s ≡ ok_verdict s.ty)

@@ -6,117 +6,105 @@ ghost use Rattle.ir_records.specs.Record.{member_words, member_type, type_inner}
 ghost use Rattle.ir_records.specs.Result.{ok};
 ghost use Rattle.valid_type_info.specs.declared.UniformRule as rule;
 ghost use Rattle.valid_type_info.specs.TypeInfo.{rows_in, verdict_in};
-ghost use Rattle.valid_type_info.specs.Verdict.{least_for, ok_verdict, is_ok, share_verdict, member_verdict, struct_at, previous_of};
-ghost use Rattle.valid_members_plain.specs.Serving.{least_of};
+ghost use Rattle.valid_type_info.specs.Verdict.{least_for, ok_verdict, share_verdict, member_verdict, struct_at, previous_of};
+ghost use Rattle.valid_members_plain.specs.Serving.{least_of, uniform_so_far};
 ghost use Rattle.valid_member_bounds.specs.MemberBounds.{is_array};
 ghost use Rattle.ir_records.specs.Refusal.{judged};
-ghost use Rattle.valid_members.specs.Serving.{member_step, state_after, InOrder, ordered_step, is_clean, WayFits};
+ghost use Rattle.valid_members.specs.Serving.{member_step, state_after, InOrder, ordered_step, is_clean, UniformFits, WayFits};
 
 use ir_records::TypeRefusal;
+use ir_rows::Earlier;
 use valid_member_bounds::Bounds;
 use valid_members_plain::PlainState;
-use valid_type_info::{Previous, Row, UniformRule, Verdict};
+use valid_type_info::{MemberAt, PreviousStruct, Row, StructType, UniformRule, Verdict};
 
 // What is known after some members.
-#[derive(Clone, Copy)]
+#[derive(Clone, Copy, Debug, PartialEq, Eq)]
 pub struct State {
     pub bounds: Bounds,
     pub uniform: Verdict,
     pub storage: Verdict,
     pub immediates: u32,
-    pub previous: Previous,
+    pub previous: Option<PreviousStruct>,
 }
 
 // How many members have been taken, and what is known after them.
-#[derive(Clone, Copy)]
+#[derive(Clone, Copy, Debug, PartialEq, Eq)]
 pub struct Reached {
     pub taken: u32,
     pub state: State,
 }
 
 // How the next members are taken: with all that is known of both verdicts, or by a loop of valid_members_plain.
-#[derive(Clone, Copy)]
+#[derive(Clone, Copy, Debug, PartialEq, Eq)]
 pub enum Way {
     Ordered,
     Plain,
     Storage,
 }
 
-// One member of type t, in 01's order.
+// One member m of struct s, in 01's order.
 fn member(
     rule: UniformRule,
-    i: u32,
-    count: u32,
-    span: u32,
-    j: u32,
-    t: u32,
-    offset: u32,
+    s: StructType,
+    m: MemberAt,
     array: bool,
-    next: Previous,
+    next: Option<PreviousStruct>,
     row: Row,
     state: State,
 ) -> Result<State, TypeRefusal>
-    ensures { judged result ≡ member_step (least_for rule) i count span j t offset array next row state }
+    ensures { judged result ≡ member_step (least_for rule) m.i s.entry.part.count s.entry.span m.j m.t m.offset array next row state }
 {
-    let so_far = state.bounds;
-    let previous = state.previous;
-    let uniform_so_far = state.uniform;
-    let storage_so_far = state.storage;
-    let immediates_so_far = state.immediates;
-    let d = valid_type_info::distance_to(previous, offset);
+    let d = valid_type_info::distance_to(state.previous, m.offset);
     let bounds = valid_member_bounds::member_bounds(
-        count,
-        span,
+        s.part.count,
+        s.span,
         valid_member_bounds::is_within(d),
         array,
-        offset,
-        j,
+        m.offset,
+        m.j,
         row.size,
         row.flags,
-        so_far,
+        state.bounds,
     )?;
     let least = valid_type_info::least_for(rule);
-    let uniform = valid_member_rules::uniform_of(least, d, i, j, t, offset, row, uniform_so_far);
-    let storage = valid_member_rules::storage_of(i, j, t, offset, row, storage_so_far);
-    let immediates = valid_member_rules::immediates_of(row.immediates, immediates_so_far);
     Ok(State {
         bounds,
-        uniform,
-        storage,
-        immediates,
+        uniform: valid_member_rules::uniform_of(least, d, m, row, state.uniform),
+        storage: valid_member_rules::storage_of(m, row, state.storage),
+        immediates: valid_member_rules::immediates_of(row.immediates, state.immediates),
         previous: next,
     })
 }
 
-// After the first `taken` members: the storage verdict is Ok, with this alignment.
+// After the members that the loop of valid_members_plain has taken: the storage verdict is Ok.
 pub fn carried(
     types: &[u32],
     part: &[u32],
-    taken: u32,
-    end: u32,
-    flags: u32,
+    reached: valid_members_plain::Reached,
     uniform: Verdict,
-    storage: u32,
     immediates: u32,
 ) -> State
-    ensures { result ≡ record { bounds = record { end = end; flags = flags }; uniform = «uniform»; storage = ok_verdict storage; immediates = «immediates»; previous = previous_of (type_inner types.now) part.now taken } }
+    ensures { result ≡ record { bounds = record { end = reached.state.end; flags = reached.state.flags }; uniform = «uniform»; storage = ok_verdict reached.state.storage; immediates = immediates; previous = previous_of (type_inner types.now) part.now reached.taken } }
 {
-    let bounds = Bounds { end, flags };
     State {
-        bounds,
+        bounds: Bounds {
+            end: reached.state.end,
+            flags: reached.state.flags,
+        },
         uniform,
-        storage: valid_type_info::ok_verdict(storage),
+        storage: valid_type_info::ok_verdict(reached.state.storage),
         immediates,
-        previous: previous_of(types, part, taken),
+        previous: previous_of(types, part, reached.taken),
     }
 }
 
 // The struct that the member right before member j is.
-fn previous_of(types: &[u32], part: &[u32], j: u32) -> Previous
+fn previous_of(types: &[u32], part: &[u32], j: u32) -> Option<PreviousStruct>
     ensures { result ≡ previous_of (type_inner types.now) part.now j }
 {
     if j == 0 {
-        return Previous::NoStruct;
+        return None;
     }
     let before = j - 1;
     valid_member_rules::struct_at(
@@ -126,29 +114,20 @@ fn previous_of(types: &[u32], part: &[u32], j: u32) -> Previous
     )
 }
 
-// The verdict after a member of type t, by its own in words w to w + 4 of its row.
+// The verdict after member m, by that of its type in words w to w + 4 of its row.
 fn verdict_after(
-    rows: &[u32],
-    t: u32,
+    before: Earlier,
+    m: MemberAt,
     w: usize,
     shareable: bool,
-    i: u32,
-    j: u32,
-    offset: u32,
     so_far: Verdict,
 ) -> Verdict
-    requires { t * 14 + (w + 4) < length rows.now }
-    ensures { result ≡ member_verdict i j offset (share_verdict shareable t so_far) (verdict_in rows.now t w) }
+    requires of_these { m.t < before.i }
+    requires in_row { w + 4 < 14 }
+    ensures { result ≡ member_verdict m.i m.j m.offset (share_verdict shareable m.t so_far) (verdict_in before.entry.rows.now m.t w) }
 {
-    valid_type_rows::member_verdict_at(
-        rows,
-        t,
-        w,
-        i,
-        j,
-        offset,
-        valid_type_info::share_verdict(shareable, t, so_far),
-    )
+    let shared = valid_type_info::share_verdict(shareable, m.t, so_far);
+    valid_type_rows::member_verdict_at(before.rows, w, m, shared)
 }
 
 // Whether a member breaks no rule of bounds and needs no distance.
@@ -158,7 +137,7 @@ fn is_in_order(
     offset: u32,
     end: u64,
     span: u32,
-    previous: Previous,
+    previous: Option<PreviousStruct>,
 ) -> bool
     ensures { result ≡ true → InOrder flags running offset end span previous }
 {
@@ -175,68 +154,53 @@ fn is_in_order(
 }
 
 // The step of a member in order, in fewer tests than `member`.
-fn ordered_member(
-    types: &[u32],
-    rows: &[u32],
-    i: u32,
-    span: u32,
-    j: u32,
-    t: u32,
-    offset: u32,
-    state: State,
-) -> Option<State>
-    requires t_lt_i { t < i }
-    requires rows_len { length rows.now ≡ i * 14 }
-    ensures { (rule : rule.UniformRule) (count : ℕ) → ordered_step result (member_step (least_for rule) i count span j t offset (is_array (type_inner types.now t)) (struct_at (type_inner types.now t) offset) (rows_in rows.now t) state) }
+fn ordered_member(s: StructType, m: MemberAt, state: State) -> Option<State>
+    requires { m.t < s.before.i }
+    ensures { (rule : rule.UniformRule) (count : ℕ) → ordered_step result (member_step (least_for rule) m.i count s.entry.span m.j m.t m.offset (is_array (type_inner s.entry.types.now m.t)) (struct_at (type_inner s.entry.types.now m.t) m.offset) (rows_in s.entry.before.rows.now m.t) state) }
 {
-    let so_far = state.bounds;
-    let previous = state.previous;
-    let uniform = state.uniform;
-    let storage = state.storage;
-    let flags = ir_rows::own_word(rows, t, ir_rows::FLAGS);
-    let own = ir_rows::own_word(rows, t, ir_rows::IMMEDIATES);
-    let sum = valid_member_rules::end_of(offset, ir_rows::own_word(rows, t, ir_rows::SIZE));
-    if !is_in_order(flags, so_far.end, offset, sum, span, previous) {
+    let flags = s.before.word(m.t, ir_rows::FLAGS);
+    let own = s.before.word(m.t, ir_rows::IMMEDIATES);
+    let sum = valid_member_rules::end_of(m.offset, s.before.word(m.t, ir_rows::SIZE));
+    if !is_in_order(
+        flags,
+        state.bounds.end,
+        m.offset,
+        sum,
+        s.span,
+        state.previous,
+    ) {
         return None;
     }
     let bounds = Bounds {
         end: sum as u32,
-        flags: valid_flags::both(so_far.flags, flags),
+        flags: valid_flags::both(state.bounds.flags, flags),
     };
     let shareable = valid_flags::is_host_shareable(flags);
     Some(State {
         bounds,
-        uniform: verdict_after(rows, t, ir_rows::UNIFORM, shareable, i, j, offset, uniform),
-        storage: verdict_after(rows, t, ir_rows::STORAGE, shareable, i, j, offset, storage),
+        uniform: verdict_after(s.before, m, ir_rows::UNIFORM, shareable, state.uniform),
+        storage: verdict_after(s.before, m, ir_rows::STORAGE, shareable, state.storage),
         immediates: valid_member_rules::immediates_of(own, state.immediates),
-        previous: valid_member_rules::struct_at(types, t, offset),
+        previous: valid_member_rules::struct_at(s.types, m.t, m.offset),
     })
 }
 
 // The members of struct i from `taken` on, up to the first for which `member` is needed. They are taken alike by either rule.
-fn ordered_members(
-    types: &[u32],
-    rows: &[u32],
-    i: u32,
-    part: &[u32],
-    count: u32,
-    span: u32,
-    taken: u32,
-    before: State,
-) -> Reached
-    requires rows_len { length rows.now ≡ i * 14 }
-    requires part_len { length part.now ≡ count * member_words }
-    requires by_index { (j : ℕ) → j < count → member_type part.now j < i }
-    requires taken_le_count { taken ≤ count }
-    ensures taken_le_taken { taken ≤ result.taken }
-    ensures taken_le_count_2 { result.taken ≤ count }
-    ensures taken_value { (rule : rule.UniformRule) → state_after (least_for rule) (type_inner types.now) (rows_in rows.now) i count span part.now taken ≡ ok before → state_after (least_for rule) (type_inner types.now) (rows_in rows.now) i count span part.now result.taken ≡ ok result.state }
+fn ordered_members(s: StructType, from: Reached) -> Reached
+    requires { from.taken ≤ s.part.count }
+    ensures taken_le_taken { from.taken ≤ result.taken }
+    ensures taken_le_count { result.taken ≤ s.entry.part.count }
+    ensures taken_value { (rule : rule.UniformRule) → state_after (least_for rule) (type_inner s.entry.types.now) (rows_in s.entry.before.rows.now) s.entry.before.i s.entry.part.count s.entry.span s.entry.part.words.now from.taken ≡ ok from.state → state_after (least_for rule) (type_inner s.entry.types.now) (rows_in s.entry.before.rows.now) s.entry.before.i s.entry.part.count s.entry.span s.entry.part.words.now result.taken ≡ ok result.state }
 {
-    let mut state = before;
-    for j in taken..count {
-        let t = ir_records::own_type(part, j as usize);
-        let offset = ir_records::own_offset(part, j as usize);
-        match ordered_member(types, rows, i, span, j, t, offset, state) {
+    let mut state = from.state;
+    for j in from.taken..s.part.count {
+        let m = MemberAt {
+            i: s.before.i,
+            j,
+            t: s.part.type_of(j),
+            offset: s.part.offset_of(j),
+        };
+        match ordered_member(s, m, state) {
             Some(next) => {
                 state = next;
             }
@@ -246,53 +210,36 @@ fn ordered_members(
         }
     }
     Reached {
-        taken: count,
+        taken: s.part.count,
         state,
     }
 }
 
 // Where member j may begin that overlaps none before it and keeps the distance; end: the end of the member before it.
-fn least_at(types: &[u32], i: u32, part: &[u32], count: u32, j: u32, end: u32) -> u64
-    requires i_in_bounds { i * 6 ≤ length types.now }
-    requires part_len { length part.now ≡ count * member_words }
-    requires by_index { (k : ℕ) → k < count → member_type part.now k < i }
-    requires j_le_count { j ≤ count }
-    ensures { result ≡ least_of end (previous_of (type_inner types.now) part.now j) }
+fn least_at(s: StructType, j: u32, end: u32) -> u64
+    requires { j ≤ s.part.count }
+    ensures { result ≡ least_of end (previous_of (type_inner s.entry.types.now) s.entry.part.words.now j) }
 {
     if j == 0 {
         return end as u64;
     }
-    let before = (j - 1) as usize;
-    let t = ir_records::own_type(part, before);
-    let offset = ir_records::own_offset(part, before);
-    valid_members_plain::least_after(types, t, offset, end as u64)
+    let t = s.part.type_of(j - 1);
+    let offset = s.part.offset_of(j - 1);
+    valid_members_plain::least_after(s.types, t, offset, end as u64)
 }
 
 // The same state for the loops of valid_members_plain.
-fn from_state(
-    types: &[u32],
-    i: u32,
-    part: &[u32],
-    count: u32,
-    taken: u32,
-    before: State,
-) -> PlainState
-    requires i_in_bounds { i * 6 ≤ length types.now }
-    requires part_len { length part.now ≡ count * member_words }
-    requires by_index { (k : ℕ) → k < count → member_type part.now k < i }
-    requires taken_le_count { taken ≤ count }
-    ensures { result ≡ record { end = before.bounds.end; flags = before.bounds.flags; uniform = before.uniform.ty; storage = before.storage.ty; least = least_of before.bounds.end (previous_of (type_inner types.now) part.now taken) } }
+fn from_state(s: StructType, from: Reached) -> PlainState
+    requires { from.taken ≤ s.part.count }
+    ensures { result ≡ record { end = from.state.bounds.end; flags = from.state.bounds.flags; uniform = from.state.uniform.ty; storage = from.state.storage.ty; least = least_of from.state.bounds.end (previous_of (type_inner s.entry.types.now) s.entry.part.words.now from.taken) } }
 {
-    let bounds = before.bounds;
-    let uniform = before.uniform;
-    let storage = before.storage;
-    let least = least_at(types, i, part, count, taken, bounds.end);
+    let state = from.state;
     PlainState {
-        end: bounds.end,
-        flags: bounds.flags,
-        uniform: uniform.ty,
-        storage: storage.ty,
-        least,
+        end: state.bounds.end,
+        flags: state.bounds.flags,
+        uniform: state.uniform.ty,
+        storage: state.storage.ty,
+        least: least_at(s, from.taken, state.bounds.end),
     }
 }
 
@@ -323,177 +270,99 @@ fn way_of(left: u32, u: Verdict, s: Verdict) -> Way
     Way::Storage
 }
 
-// The members of struct i from `taken` on as long as none breaks a rule; both verdicts are Ok.
-fn plain_from(
-    types: &[u32],
-    rows: &[u32],
-    i: u32,
-    part: &[u32],
-    count: u32,
-    span: u32,
-    taken: u32,
-    before: State,
-) -> Reached
-    requires rows_len { length rows.now ≡ i * 14 }
-    requires i_in_bounds { i * 6 ≤ length types.now }
-    requires part_len { length part.now ≡ count * member_words }
-    requires by_index { (j : ℕ) → j < count → member_type part.now j < i }
-    requires taken_le_count { taken ≤ count }
-    requires uniform_value { before.uniform ≡ ok_verdict before.uniform.ty }
-    requires storage_value { before.storage ≡ ok_verdict before.storage.ty }
-    ensures taken_le_taken { taken ≤ result.taken }
-    ensures taken_le_count_2 { result.taken ≤ count }
-    ensures taken_value { (rule : rule.UniformRule) → state_after (least_for rule) (type_inner types.now) (rows_in rows.now) i count span part.now taken ≡ ok before → state_after (least_for rule) (type_inner types.now) (rows_in rows.now) i count span part.now result.taken ≡ ok result.state }
+// The uniform verdict after them: Ok with the alignment so far, or the one that had failed.
+fn uniform_from(both: bool, alignment: u32, failed: Verdict) -> Verdict
+    ensures { result ≡ uniform_so_far both alignment failed }
 {
-    let from = from_state(types, i, part, count, taken, before);
-    let reached = valid_members_plain::plain_members(
-        types, rows, i, part, count, span, taken, from,
-    );
-    let at = reached.taken;
-    let s = reached.state;
-    let uniform = valid_type_info::ok_verdict(s.uniform);
-    let state = carried(
-        types,
-        part,
-        at,
-        s.end,
-        s.flags,
-        uniform,
-        s.storage,
-        before.immediates,
-    );
-    Reached { taken: at, state }
-}
-
-// The same where the uniform verdict has failed, which stays.
-fn storage_from(
-    types: &[u32],
-    rows: &[u32],
-    i: u32,
-    part: &[u32],
-    count: u32,
-    span: u32,
-    taken: u32,
-    before: State,
-) -> Reached
-    requires rows_len { length rows.now ≡ i * 14 }
-    requires i_in_bounds { i * 6 ≤ length types.now }
-    requires part_len { length part.now ≡ count * member_words }
-    requires by_index { (j : ℕ) → j < count → member_type part.now j < i }
-    requires taken_le_count { taken ≤ count }
-    requires uniform_value { is_ok before.uniform ≡ false }
-    requires storage_value { before.storage ≡ ok_verdict before.storage.ty }
-    ensures taken_le_taken { taken ≤ result.taken }
-    ensures taken_le_count_2 { result.taken ≤ count }
-    ensures taken_value { (rule : rule.UniformRule) → state_after (least_for rule) (type_inner types.now) (rows_in rows.now) i count span part.now taken ≡ ok before → state_after (least_for rule) (type_inner types.now) (rows_in rows.now) i count span part.now result.taken ≡ ok result.state }
-{
-    let from = from_state(types, i, part, count, taken, before);
-    let reached = valid_members_plain::storage_members(
-        types, rows, i, part, count, span, taken, from,
-    );
-    let at = reached.taken;
-    let s = reached.state;
-    let uniform = before.uniform;
-    let state = carried(
-        types,
-        part,
-        at,
-        s.end,
-        s.flags,
-        uniform,
-        s.storage,
-        before.immediates,
-    );
-    Reached { taken: at, state }
-}
-
-// The members of struct i from `taken` on, up to the first that needs every rule or another loop. They are taken alike by either rule.
-fn together(
-    types: &[u32],
-    rows: &[u32],
-    i: u32,
-    part: &[u32],
-    count: u32,
-    span: u32,
-    taken: u32,
-    before: State,
-) -> Reached
-    requires rows_len { length rows.now ≡ i * 14 }
-    requires i_in_bounds { i * 6 ≤ length types.now }
-    requires part_len { length part.now ≡ count * member_words }
-    requires by_index { (j : ℕ) → j < count → member_type part.now j < i }
-    requires taken_le_count { taken ≤ count }
-    ensures taken_le_taken { taken ≤ result.taken }
-    ensures taken_le_count_2 { result.taken ≤ count }
-    ensures taken_value { (rule : rule.UniformRule) → state_after (least_for rule) (type_inner types.now) (rows_in rows.now) i count span part.now taken ≡ ok before → state_after (least_for rule) (type_inner types.now) (rows_in rows.now) i count span part.now result.taken ≡ ok result.state }
-{
-    let uniform = before.uniform;
-    let storage = before.storage;
-    let way = way_of(count - taken, uniform, storage);
-    match way {
-        Way::Ordered => ordered_members(types, rows, i, part, count, span, taken, before),
-        Way::Plain => plain_from(types, rows, i, part, count, span, taken, before),
-        Way::Storage => storage_from(types, rows, i, part, count, span, taken, before),
+    if both {
+        valid_type_info::ok_verdict(alignment)
+    } else {
+        failed
     }
 }
 
-// Member j by every rule.
-fn step(
-    rule: UniformRule,
-    types: &[u32],
-    rows: &[u32],
-    i: u32,
-    part: &[u32],
-    count: u32,
-    span: u32,
-    j: u32,
-    state: State,
-) -> Result<State, TypeRefusal>
-    requires rows_len { length rows.now ≡ i * 14 }
-    requires j_value { state_after (least_for rule) (type_inner types.now) (rows_in rows.now) i count span part.now j ≡ ok state }
-    ensures { judged result ≡ state_after (least_for rule) (type_inner types.now) (rows_in rows.now) i count span part.now (j + 1) }
+// The members of a struct from `taken` on as long as none breaks a rule. both: both verdicts are Ok; else the uniform one has failed, and stays.
+fn plain_from(both: bool, s: StructType, from: Reached) -> Reached
+    requires taken_le_count { from.taken ≤ s.part.count }
+    requires uniform_value { UniformFits both from.state.uniform }
+    requires storage_value { from.state.storage ≡ ok_verdict from.state.storage.ty }
+    ensures taken_le_taken { from.taken ≤ result.taken }
+    ensures taken_le_count { result.taken ≤ s.entry.part.count }
+    ensures taken_value { (rule : rule.UniformRule) → state_after (least_for rule) (type_inner s.entry.types.now) (rows_in s.entry.before.rows.now) s.entry.before.i s.entry.part.count s.entry.span s.entry.part.words.now from.taken ≡ ok from.state → state_after (least_for rule) (type_inner s.entry.types.now) (rows_in s.entry.before.rows.now) s.entry.before.i s.entry.part.count s.entry.span s.entry.part.words.now result.taken ≡ ok result.state }
 {
-    let ty = ir_records::member_type(part, j);
-    let offset = ir_records::member_offset(part, j);
-    let array = valid_member_bounds::is_array(types, ty);
-    let next = valid_member_rules::struct_at(types, ty, offset);
-    let row = valid_type_rows::row_at(rows, ty);
-    member(rule, i, count, span, j, ty, offset, array, next, row, state)
+    let start = valid_members_plain::Reached {
+        taken: from.taken,
+        state: from_state(s, from),
+    };
+    let reached = valid_members_plain::plain_members(both, s, start);
+    let uniform = uniform_from(both, reached.state.uniform, from.state.uniform);
+    Reached {
+        taken: reached.taken,
+        state: carried(
+            s.types,
+            s.part.words,
+            reached,
+            uniform,
+            from.state.immediates,
+        ),
+    }
+}
+
+// The members of struct i from `taken` on, up to the first that needs every rule or another loop. They are taken alike by either rule.
+fn together(s: StructType, from: Reached) -> Reached
+    requires { from.taken ≤ s.part.count }
+    ensures taken_le_taken { from.taken ≤ result.taken }
+    ensures taken_le_count { result.taken ≤ s.entry.part.count }
+    ensures taken_value { (rule : rule.UniformRule) → state_after (least_for rule) (type_inner s.entry.types.now) (rows_in s.entry.before.rows.now) s.entry.before.i s.entry.part.count s.entry.span s.entry.part.words.now from.taken ≡ ok from.state → state_after (least_for rule) (type_inner s.entry.types.now) (rows_in s.entry.before.rows.now) s.entry.before.i s.entry.part.count s.entry.span s.entry.part.words.now result.taken ≡ ok result.state }
+{
+    let way = way_of(
+        s.part.count - from.taken,
+        from.state.uniform,
+        from.state.storage,
+    );
+    // Kept: three loops that go on in turn, from state to state; a closure for each would have one place that calls it.
+    match way {
+        Way::Ordered => ordered_members(s, from),
+        Way::Plain => plain_from(true, s, from),
+        Way::Storage => plain_from(false, s, from),
+    }
+}
+
+// The next member by every rule.
+fn step(rule: UniformRule, s: StructType, at: Reached) -> Result<State, TypeRefusal>
+    requires { state_after (least_for rule) (type_inner s.types.now) (rows_in s.before.rows.now) s.before.i s.part.count s.span s.part.words.now at.taken ≡ ok at.state }
+    ensures { judged result ≡ state_after (least_for rule) (type_inner s.entry.types.now) (rows_in s.entry.before.rows.now) s.entry.before.i s.entry.part.count s.entry.span s.entry.part.words.now (at.taken + 1) }
+{
+    let m = MemberAt {
+        i: s.before.i,
+        j: at.taken,
+        t: ir_records::member_type(s.part.words, at.taken),
+        offset: ir_records::member_offset(s.part.words, at.taken),
+    };
+    let array = valid_member_bounds::is_array(s.types, m.t);
+    let next = valid_member_rules::struct_at(s.types, m.t, m.offset);
+    let row = valid_type_rows::row_at(s.before.rows, m.t);
+    member(rule, s, m, array, next, row, at.state)
 }
 
 // The members of struct i from `taken` on, whose rows are in part; rows has those of the types before it. After one that takes every rule,
 // the next are taken together again.
-pub fn members_of(
-    rule: UniformRule,
-    types: &[u32],
-    rows: &[u32],
-    i: u32,
-    part: &[u32],
-    count: u32,
-    span: u32,
-    taken: u32,
-    before: State,
-) -> Result<State, TypeRefusal>
-    requires rows_len { length rows.now ≡ i * 14 }
-    requires i_in_bounds { i * 6 ≤ length types.now }
-    requires part_len { length part.now ≡ count * member_words }
-    requires by_index { (j : ℕ) → j < count → member_type part.now j < i }
-    requires taken_le_count { taken ≤ count }
-    requires taken_value { state_after (least_for rule) (type_inner types.now) (rows_in rows.now) i count span part.now taken ≡ ok before }
-    ensures { judged result ≡ state_after (least_for rule) (type_inner types.now) (rows_in rows.now) i count span part.now count }
+pub fn members_of(rule: UniformRule, s: StructType, from: Reached) -> Result<State, TypeRefusal>
+    requires taken_le_count { from.taken ≤ s.part.count }
+    requires taken_value { state_after (least_for rule) (type_inner s.types.now) (rows_in s.before.rows.now) s.before.i s.part.count s.span s.part.words.now from.taken ≡ ok from.state }
+    ensures { judged result ≡ state_after (least_for rule) (type_inner s.entry.types.now) (rows_in s.entry.before.rows.now) s.entry.before.i s.entry.part.count s.entry.span s.entry.part.words.now s.entry.part.count }
 {
-    let mut state = before;
-    let mut j: u32 = taken;
-    // Kept: j goes on by as many members as were taken together, which no range does.
-    while j < count {
-        let reached = together(types, rows, i, part, count, span, j, state);
-        let at = reached.taken;
-        let there = reached.state;
-        if at == count {
-            return Ok(there);
+    let mut reached = from;
+    // Kept: it goes on by as many members as were taken together, which no range does.
+    while reached.taken < s.part.count {
+        let there = together(s, reached);
+        if there.taken == s.part.count {
+            return Ok(there.state);
         }
-        state = step(rule, types, rows, i, part, count, span, at, there)?;
-        j = at + 1;
+        reached = Reached {
+            taken: there.taken + 1,
+            state: step(rule, s, there)?,
+        };
     }
-    Ok(state)
+    Ok(reached.state)
 }

@@ -1,7 +1,7 @@
 -- A member that breaks no rule: what each test gives, and what each rule then makes of the state so far.
 -- Assumes nothing.
 use mathlib.Core.Path.{◌≡◌, refl}
-use mathlib.Core.Bool.{true, false, ◌&&◌}
+use mathlib.Core.Bool.{Bool, true, false, ◌&&◌}
 use Prim.Native.Nat.{ℕ, ◌+◌, ◌-◌, ◌≤◌, max}
 use native.Mathlib.Omega.{arith}
 use lib.Bits.{bit_and}
@@ -15,8 +15,8 @@ use Rattle.proc_alignment.proofs.RoundLaws.{sum_within}
 use Rattle.valid_flags.specs.Flags.{bit, data_bit, sized_bit, host_shareable_bit, creation_resolved_bit}
 use Rattle.valid_type_info.specs.declared.Verdict.{Verdict}
 use Rattle.valid_type_info.specs.declared.Row.{Row}
-use Rattle.valid_type_info.specs.declared.Previous.{Previous}
-use Rattle.valid_type_info.specs.declared.Previous.TheVariants.{NoStruct, StructBefore}
+use Rattle.std.specs.Prelude.{Option, None, Some}
+use Rattle.valid_type_info.specs.declared.PreviousStruct.{PreviousStruct}
 use Rattle.valid_type_info.specs.declared.UniformRule.{UniformRule}
 use Rattle.valid_type_info.specs.Verdict.{min_uniform, least_for, ok_verdict, is_ok, alignment_in, distance_ok, distance_verdict, share_verdict, member_verdict, unsized_verdict}
 use Rattle.valid_type_info.proofs.DistanceLaws.{distance_enough}
@@ -24,19 +24,21 @@ use Rattle.valid_member_bounds.specs.MemberBounds.{member_bounds}
 use Rattle.valid_member_rules.specs.MemberRules.{member_uniform, member_storage}
 use Rattle.valid_member_rules.specs.Serving.{is_plain}
 use Rattle.valid_members_plain.specs.declared.PlainState.{PlainState}
-use Rattle.valid_members_plain.specs.Serving.{least_of, keeps_verdicts, keeps_storage, plain_bounds}
+use Rattle.valid_members_plain.specs.Serving.{least_of, keeps_verdicts, keeps_storage, keeps, alignment_after, uniform_so_far, HasFailed, plain_bounds}
 
 -- ---- the least offset
-pub record Apart (end offset i j : ℕ) (before : Previous) : Type 0 where
+pub record Apart (end offset i j : ℕ) (before : Option PreviousStruct) : Type 0 where
   pub clear : end ≤ offset
   pub within : distance_ok before offset ≡ true
   pub verdict : (rule : UniformRule) (v : Verdict) → distance_verdict (least_for rule) i j offset before v ≡ v
 
 -- an offset from the least one on overlaps nothing and keeps the distance
-pub apart : (end offset i j : ℕ) (before : Previous) → least_of end before ≤ offset → offset ≤ most → Apart end offset i j before
+pub apart : (end offset i j : ℕ) (before : Option PreviousStruct) → least_of end before ≤ offset → offset ≤ most → Apart end offset i j before
 unfolding distance_ok distance_verdict
-apart end offset i j NoStruct h l = record { clear = h; within = refl; verdict = λ rule v. refl }
-apart end offset i j (StructBefore span at) h l =
+apart end offset i j None h l = record { clear = h; within = refl; verdict = λ rule v. refl }
+apart end offset i j (Some before) h l =
+    let span = before.span in
+    let at = before.offset in
     let both = below end (at + round_up min_uniform span) offset h in
     let enough : round_up min_uniform span ≤ offset - at = omega (arith, both.1) in
     record {
@@ -49,14 +51,14 @@ apart end offset i j (StructBefore span at) h l =
     below m n k h = omega arith
 
 -- ---- the verdicts
-pub record Kept (r : Row) (offset : ℕ) : Type 0 where
+record Kept (r : Row) (offset : ℕ) : Type 0 where
   pub uniform_ok : is_ok r.uniform ≡ true
   pub storage_ok : is_ok r.storage ≡ true
   pub immediates : r.immediates ≡ 0
   pub uniform : is_aligned (alignment_in r.uniform) offset ≡ true
   pub storage : is_aligned (alignment_in r.storage) offset ≡ true
 
-pub kept : (r : Row) (offset : ℕ) → keeps_verdicts r offset ≡ true → Kept r offset
+kept : (r : Row) (offset : ℕ) → keeps_verdicts r offset ≡ true → Kept r offset
 kept r offset e =
     let ou = is_ok r.uniform in
     let os = is_ok r.storage in
@@ -83,8 +85,8 @@ pub record StorageKept (r : Row) (offset : ℕ) : Type 0 where
   pub immediates : r.immediates ≡ 0
   pub storage : is_aligned (alignment_in r.storage) offset ≡ true
 
-pub storage_kept : (r : Row) (offset : ℕ) → keeps_storage r offset ≡ true → StorageKept r offset
-storage_kept r offset e =
+storage_only : (r : Row) (offset : ℕ) → keeps_storage r offset ≡ true → StorageKept r offset
+storage_only r offset e =
     let os = is_ok r.storage in
     let z = eqb r.immediates 0 in
     let ms = is_mask (alignment_in r.storage) in
@@ -97,8 +99,13 @@ storage_kept r offset e =
       storage = T_true sa (and_right ms sa (and_right (os && z) (ms && sa) all));
     }
 
+-- what either loop keeps of the storage verdict
+pub storage_kept : (both : Bool) (r : Row) (offset : ℕ) → keeps both r offset ≡ true → StorageKept r offset
+storage_kept true r offset e = let k = kept r offset e in record { storage_ok = k.storage_ok; immediates = k.immediates; storage = k.storage }
+storage_kept false r offset e = storage_only r offset e
+
 -- ---- each rule
-module _ (this : TypeInner) (r : Row) (i count span j t offset : ℕ) (before : Previous) (s : PlainState) (plain : is_plain r.flags ≡ true) where
+module _ (this : TypeInner) (r : Row) (i count span j t offset : ℕ) (before : Option PreviousStruct) (s : PlainState) (plain : is_plain r.flags ≡ true) where
   is-data : bit r.flags data_bit ≡ true
   is-data =
       let d = bit r.flags data_bit in
@@ -137,13 +144,13 @@ module _ (this : TypeInner) (r : Row) (i count span j t offset : ℕ) (before : 
   bounds-step a within fits =
       rw (is-data, is-sized, is_resolved, le-leb s.end offset a.clear, le-leb (offset + r.size) most (omega arith), le-leb (offset + r.size) span within, a.within) refl
 
-  pub uniform_step : (rule : UniformRule) → Apart s.end offset i j before → Kept r offset
+  uniform_step : (rule : UniformRule) → Apart s.end offset i j before → Kept r offset
       → member_uniform (least_for rule) i j t offset before r (ok_verdict s.uniform) ≡ ok_verdict (max s.uniform (alignment_in r.uniform))
   unfolding share_verdict member_verdict unsized_verdict
   uniform_step rule a k = rw (is-sized, is_shareable, a.verdict rule, k.uniform_ok, k.uniform) refl
 
   -- a uniform verdict that has failed stays
-  pub uniform_stays : (rule : UniformRule) (u : Verdict) → is_ok u ≡ false → Apart s.end offset i j before
+  uniform_stays : (rule : UniformRule) (u : Verdict) → is_ok u ≡ false → Apart s.end offset i j before
       → member_uniform (least_for rule) i j t offset before r u ≡ u
   unfolding share_verdict member_verdict unsized_verdict
   uniform_stays rule u failed a = rw (is-sized, is_shareable, a.verdict rule, failed) refl
@@ -152,3 +159,8 @@ module _ (this : TypeInner) (r : Row) (i count span j t offset : ℕ) (before : 
       → member_storage i j t offset r (ok_verdict s.storage) ≡ ok_verdict (max s.storage (alignment_in r.storage))
   unfolding share_verdict member_verdict
   storage_step fine aligned = rw (is_shareable, fine, aligned) refl
+
+  pub uniform_by : (both : Bool) (rule : UniformRule) (u : Verdict) → HasFailed both u → Apart s.end offset i j before → keeps both r offset ≡ true
+      → member_uniform (least_for rule) i j t offset before r (uniform_so_far both s.uniform u) ≡ uniform_so_far both (alignment_after both s.uniform (alignment_in r.uniform)) u
+  uniform_by true rule u failed a e = uniform_step rule a (kept r offset e)
+  uniform_by false rule u failed a e = uniform_stays rule u failed a

@@ -2,12 +2,11 @@
 -- 01, 'The result row': members of a struct one after the other, as long as none breaks a rule, by the rules of one member (valid_member_rules:
 -- MemberRules). `rows` are the rows of the types before type i.
 -- Assumes nothing.
-use Rattle.std.specs.Prelude.{Option, Some, None, Bool, ◌&&◌, List, ◌≡◌, ℕ, ◌+◌, max, eqb}
+use Rattle.std.specs.Prelude.{Option, Some, None, Bool, true, false, ◌&&◌, List, ◌≡◌, ℕ, ◌+◌, max, eqb}
 use Rattle.ir_records.specs.Result.{ok}
 use Rattle.ir_records.specs.declared.TypeInner.{TypeInner}
 use Rattle.proc_alignment.specs.Alignment.{is_mask, is_aligned, round_up}
-use Rattle.valid_type_info.specs.declared.Previous.{Previous}
-use Rattle.valid_type_info.specs.declared.Previous.TheVariants.{NoStruct, StructBefore}
+use Rattle.valid_type_info.specs.declared.PreviousStruct.{PreviousStruct}
 use Rattle.valid_type_info.specs.declared.Row.{Row}
 use Rattle.valid_type_info.specs.TypeInfo.{row_sizes, row_flags}
 use Rattle.valid_type_info.specs.declared.Verdict.{Verdict}
@@ -18,9 +17,9 @@ use Rattle.valid_member_rules.specs.MemberRules.{member_uniform, member_storage,
 use Rattle.valid_members_plain.specs.declared.PlainState.{PlainState}
 
 -- where a member may begin that overlaps none before it and keeps the distance from a struct right before it
-abbrev pub least_of : (end : ℕ) → Previous → ℕ
-least_of end NoStruct = end
-least_of end (StructBefore span offset) = max end (offset + round_up min_uniform span)
+abbrev pub least_of : (end : ℕ) → Option PreviousStruct → ℕ
+least_of end None = end
+least_of end (Some before) = max end (before.offset + round_up min_uniform before.span)
 
 -- a member with this row leaves both verdicts Ok and brings no immediates word
 abbrev pub keeps_verdicts : Row → (offset : ℕ) → Bool
@@ -34,30 +33,39 @@ abbrev pub keeps_storage : Row → (offset : ℕ) → Bool
 keeps_storage r offset =
     (is_ok r.storage && eqb r.immediates 0) && (is_mask (alignment_in r.storage) && is_aligned (alignment_in r.storage) offset)
 
+-- ---- the loops keep both verdicts Ok, or the storage verdict alone, where the uniform one has failed and stays
+abbrev pub keeps : (both : Bool) → Row → (offset : ℕ) → Bool
+keeps true r offset = keeps_verdicts r offset
+keeps false r offset = keeps_storage r offset
+
+-- the alignment in the uniform verdict after a member with this one
+abbrev pub alignment_after : (both : Bool) → (so_far own : ℕ) → ℕ
+alignment_after true so_far own = max so_far own
+alignment_after false so_far own = so_far
+
+-- the uniform verdict so far: Ok with this alignment, or the one that has failed
+abbrev pub uniform_so_far : (both : Bool) → (alignment : ℕ) → (failed : Verdict) → Verdict
+uniform_so_far true alignment failed = ok_verdict alignment
+uniform_so_far false alignment failed = failed
+
+abbrev pub HasFailed : (both : Bool) → Verdict → Type 0
+HasFailed true u = Unit {0}
+HasFailed false u = is_ok u ≡ false
+
 -- the running end and the flags
 abbrev pub plain_bounds : PlainState → Bounds
 plain_bounds s = record { end = s.end; flags = s.flags }
 
 -- what is taken as a plain member is the member's step, by each rule; nothing is said of a member that is passed on.
--- this: what the record of its type says
-abbrev pub Stepped : (least : ℕ) (this : TypeInner) (r : Row) (i count span j t offset : ℕ) → Previous → PlainState → Option PlainState → Type 0
-Stepped least this r i count span j t offset before s (Some next) =
+-- u: the uniform verdict that has failed, where one has; this: what the record of its type says
+abbrev pub Stepped : (both : Bool) (least : ℕ) (u : Verdict) (this : TypeInner) (r : Row) (i count span j t offset : ℕ) → Option PreviousStruct → PlainState → Option PlainState → Type 0
+Stepped both least u this r i count span j t offset before s (Some next) =
     (member_bounds count span before this offset j r.size r.flags (plain_bounds s) ≡ ok (plain_bounds next))
-    × (member_uniform least i j t offset before r (ok_verdict s.uniform) ≡ ok_verdict next.uniform)
+    × (member_uniform least i j t offset before r (uniform_so_far both s.uniform u) ≡ uniform_so_far both next.uniform u)
     × (member_storage i j t offset r (ok_verdict s.storage) ≡ ok_verdict next.storage)
     × (r.immediates ≡ 0)
     × (least_of next.end (struct_at this offset) ≡ next.least)
-Stepped least this r i count span j t offset before s None = Unit {0}
-
--- the same where the uniform verdict u has failed and stays
-abbrev pub StorageStepped : (least : ℕ) (u : Verdict) (this : TypeInner) (r : Row) (i count span j t offset : ℕ) → Previous → PlainState → Option PlainState → Type 0
-StorageStepped least u this r i count span j t offset before s (Some next) =
-    (member_bounds count span before this offset j r.size r.flags (plain_bounds s) ≡ ok (plain_bounds next))
-    × (member_uniform least i j t offset before r u ≡ u)
-    × (member_storage i j t offset r (ok_verdict s.storage) ≡ ok_verdict next.storage)
-    × (r.immediates ≡ 0)
-    × (least_of next.end (struct_at this offset) ≡ next.least)
-StorageStepped least u this r i count span j t offset before s None = Unit {0}
+Stepped both least u this r i count span j t offset before s None = Unit {0}
 
 -- what is known after j members: the uniform verdict u, the immediates word, the rest in s
 abbrev pub PlainAfter : (least : ℕ) (inner : ℕ → TypeInner) (rows : ℕ → Row) (i count span : ℕ) (members : List ℕ) (j : ℕ) (u : Verdict) (immediates : ℕ) → PlainState → Type 0

@@ -12,7 +12,8 @@ use Rattle.valid_flags.specs.Flags.{bit, sized_bit, host_shareable_bit}
 use Rattle.valid_type_info.specs.declared.Row.{Row}
 use Rattle.valid_type_info.specs.TypeInfo.{row_sizes, row_flags}
 use Rattle.valid_type_info.specs.declared.Verdict.{Verdict}
-use Rattle.valid_type_info.specs.declared.Previous.{Previous}
+use Rattle.std.specs.Prelude.{Option}
+use Rattle.valid_type_info.specs.declared.PreviousStruct.{PreviousStruct}
 use Rattle.valid_type_info.specs.Verdict.{previous_of, distance_ok, share_verdict, member_verdict, distance_verdict, unsized_verdict}
 use Rattle.valid_member_bounds.specs.MemberBounds.{bounds_by, member_bounds, bounds_after}
 use Rattle.valid_member_rules.specs.MemberRules.{uniform_after, storage_after, immediates_after}
@@ -21,7 +22,7 @@ use Rattle.valid_renaming.proofs.InnerRenamed.{is_array_renamed, struct_at_renam
 use Rattle.valid_renaming.proofs.VerdictRenamed.{share_renamed, member_renamed, distance_renamed, unsized_renamed}
 
 -- one member: whether it is accepted, and with which flags
-bounds-step-renamed : (f : ℕ → ℕ) (this : TypeInner) (count span : ℕ) (previous : Previous) (offset j size flags : ℕ)
+bounds-step-renamed : (f : ℕ → ℕ) (this : TypeInner) (count span : ℕ) (previous : Option PreviousStruct) (offset j size flags : ℕ)
     → member_bounds count span previous (renamed_inner f this) offset j size flags ≡ member_bounds count span previous this offset j size flags
 unfolding member_bounds
 bounds-step-renamed f this count span previous offset j size flags =

@@ -7,8 +7,9 @@ use lib.Dec.{leb}
 use Rattle.ir_records.specs.Result.{pick}
 use Rattle.proc_alignment.specs.Alignment.{is_aligned, round_up}
 use Rattle.valid_type_info.specs.declared.Verdict.{Verdict}
-use Rattle.valid_type_info.specs.declared.Previous.{Previous}
-use Rattle.valid_type_info.specs.declared.Previous.TheVariants.{NoStruct, StructBefore}
+use Rattle.std.specs.Prelude.{Option}
+use Rattle.valid_type_info.specs.declared.PreviousStruct.{PreviousStruct}
+use Rattle.std.specs.Prelude.{None, Some}
 use Rattle.valid_type_info.specs.Verdict.{min_storage, is_ok, alignment_in, ok_verdict, unless_ok, stride_verdict, array_verdict, share_verdict, offset_verdict, member_verdict, distance_verdict, unsized_verdict, span_verdict, array_stride, member_offset_off, member_offset_after_struct, unsized_member, struct_span, non_host_shareable}
 use Rattle.valid_renaming.specs.Renaming.{renamed_verdict}
 
@@ -52,11 +53,11 @@ module _ (f : ℕ → ℕ) where
       (λ g. rw (alignment_renamed v e, alignment_renamed m g)
       (pick_renamed (is_aligned (alignment_in m) offset) (ok_verdict (max (alignment_in v) (alignment_in m))) (member_offset_off i j offset (alignment_in m)))))
 
-  pub distance_renamed : (least i j offset : ℕ) (previous : Previous) (v : Verdict)
+  pub distance_renamed : (least i j offset : ℕ) (previous : Option PreviousStruct) (v : Verdict)
       → distance_verdict least (f i) j offset previous (renamed_verdict f v) ≡ renamed_verdict f (distance_verdict least i j offset previous v)
   unfolding distance_verdict
-  distance_renamed least i j offset NoStruct v = refl
-  distance_renamed least i j offset (StructBefore span at) v = pick_renamed (leb least min_storage || leb (round_up least span) (offset - at)) v (member_offset_after_struct i j offset _)
+  distance_renamed least i j offset None v = refl
+  distance_renamed least i j offset (Some before) v = pick_renamed (leb least min_storage || leb (round_up least before.span) (offset - before.offset)) v (member_offset_after_struct i j offset _)
 
   pub unsized_renamed : (sized : Bool) (i j : ℕ) (v : Verdict) → unsized_verdict sized (f i) j (renamed_verdict f v) ≡ renamed_verdict f (unsized_verdict sized i j v)
   unfolding unsized_verdict

@@ -13,112 +13,101 @@ ghost use Rattle.valid_types.specs.ValidateType.{judge};
 ghost use Rattle.valid_types.specs.Serving.{Settled};
 ghost use Rattle.valid_types.specs.Serving.{words_row, record_row};
 
-use ir_records::{Fault, TypeRefusal};
+use ir_records::{Fault, Members, TypeRefusal, Words};
+use ir_rows::Earlier;
+use proc_type_alignment::Located;
 use valid_member_bounds::Bounds;
 use valid_members::State;
-use valid_type_info::{Previous, UniformRule};
+use valid_members_plain::Reached;
+use valid_type_info::{Row, StructType, UniformRule};
 
 // All members of struct i, by the rules that do not read blend sources. Where none breaks a rule, no member comes next, and the struct right before it
 // is not looked for.
-fn members_of(
-    rule: UniformRule,
-    types: &[u32],
-    rows: &[u32],
-    i: u32,
-    part: &[u32],
-    count: u32,
-    span: u32,
-) -> Result<State, TypeRefusal>
-    requires rows_len { length rows.now ≡ i * 14 }
-    requires i_in_bounds { i * 6 ≤ length types.now }
-    requires part_len { length part.now ≡ count * member_words }
-    requires by_index { (j : ℕ) → j < count → member_type part.now j < i }
-    ensures { Told (least_for rule) (type_inner types.now) (rows_in rows.now) i count span part.now result }
+fn members_of(rule: UniformRule, s: StructType) -> Result<State, TypeRefusal>
+    ensures { Told (least_for rule) (type_inner s.entry.types.now) (rows_in s.entry.before.rows.now) s.entry.before.i s.entry.part.count s.entry.span s.entry.part.words.now result }
 {
-    let start = valid_members_plain::start(rule);
-    let reached = valid_members_plain::plain_members(types, rows, i, part, count, span, 0, start);
-    let taken = reached.taken;
+    let start = Reached {
+        taken: 0,
+        state: valid_members_plain::start(rule),
+    };
+    let reached = valid_members_plain::plain_members(true, s, start);
     let plain = reached.state;
-    if taken == count {
-        let bounds = Bounds {
-            end: plain.end,
-            flags: plain.flags,
-        };
+    let uniform = valid_type_info::ok_verdict(plain.uniform);
+    if reached.taken == s.part.count {
         return Ok(State {
-            bounds,
-            uniform: valid_type_info::ok_verdict(plain.uniform),
+            bounds: Bounds {
+                end: plain.end,
+                flags: plain.flags,
+            },
+            uniform,
             storage: valid_type_info::ok_verdict(plain.storage),
             immediates: 0,
-            previous: Previous::NoStruct,
+            previous: None,
         });
     }
-    let uniform = valid_type_info::ok_verdict(plain.uniform);
-    let state = valid_members::carried(
-        types,
-        part,
-        taken,
-        plain.end,
-        plain.flags,
-        uniform,
-        plain.storage,
-        0,
-    );
-    valid_members::members_of(rule, types, rows, i, part, count, span, taken, state)
+    let state = valid_members::carried(s.types, s.part.words, reached, uniform, 0);
+    let from = valid_members::Reached {
+        taken: reached.taken,
+        state,
+    };
+    valid_members::members_of(rule, s, from)
 }
 
-// The row of struct i, whose fields and rows are in order and whose alignment is known. sourced: a member may have a blend source.
+// The row of struct i, whose fields and rows are in order and whose alignment is known.
 fn members_row(
     capabilities: u32,
     rule: UniformRule,
-    sourced: bool,
+    located: Located,
     types: &[u32],
-    part: &[u32],
+    part: Members,
     rows: &mut [u32],
     i: u32,
-    count: u32,
     span: u32,
-    alignment: u32,
 ) -> Result<(), TypeRefusal>
     requires i_in_bounds { i * 14 + 14 ≤ length rows.old }
     requires i_in_bounds_2 { i * 6 ≤ length types.now }
-    requires part_len { length part.now ≡ count * member_words }
-    requires by_index { (j : ℕ) → j < count → member_type part.now j < i }
-    requires sourceless { sourced ≡ false → Sourceless part.now (member_count part.now) }
-    ensures { Settled result (i * 14) rows.old rows.new (judge (least_for rule) capabilities (type_inner types.now) (rows_in (take (i * 14) rows.old)) i (record { size = span; alignment = alignment }) (Struct count span) part.now) }
+    requires by_index { (j : ℕ) → j < part.count → member_type part.words.now j < i }
+    requires sourceless { located.sourced ≡ false → Sourceless part.words.now (member_count part.words.now) }
+    ensures { Settled result (i * 14) rows.old rows.new (judge (least_for rule) capabilities (type_inner types.now) (rows_in (take (i * 14) rows.old)) i (record { size = span; alignment = located.alignment }) (Struct part.entry.count span) part.entry.words.now) }
 {
-    if count == 0 {
+    if part.count == 0 {
         return Err(TypeRefusal::of(Fault::EmptyStruct));
     }
-    let at = (i as usize) * ir_records::ROW_WORDS;
-    match members_of(rule, types, &rows[..at], i, part, count, span) {
+    let before = Earlier::of(rows, i);
+    let s = StructType {
+        types,
+        before,
+        part,
+        span,
+    };
+    match members_of(rule, s) {
         Ok(state) => {
-            let bounds = state.bounds;
             let flags = valid_blend::blended_flags(
-                sourced,
+                located.sourced,
                 capabilities,
                 types,
-                &rows[..at],
-                i,
+                before,
                 part,
-                count,
-                bounds.flags,
+                state.bounds.flags,
             )?;
-            let uniform = valid_type_info::span_verdict(i, span, alignment, state.uniform);
-            let storage = valid_type_info::span_verdict(i, span, alignment, state.storage);
+            let uniform = valid_type_info::span_verdict(i, span, located.alignment, state.uniform);
+            let storage = valid_type_info::span_verdict(i, span, located.alignment, state.storage);
             valid_type_rows::put(
                 rows,
                 i,
-                span,
-                alignment,
-                flags,
-                uniform,
-                storage,
-                state.immediates,
+                Row {
+                    size: span,
+                    alignment: located.alignment,
+                    flags,
+                    uniform,
+                    storage,
+                    immediates: state.immediates,
+                },
             );
             Ok(())
         }
         Err(refusal) => {
-            valid_blend::source_before(sourced, capabilities, part, refusal)?;
+            valid_blend::source_before(located.sourced, capabilities, part.words, refusal)?;
             Err(refusal)
         }
     }
@@ -132,34 +121,18 @@ fn struct_row(
     members: &[u32],
     rows: &mut [u32],
     i: u32,
-    first: u32,
-    count: u32,
-    span: u32,
-    d: u32,
-    e: u32,
+    w: Words,
 ) -> Result<(), TypeRefusal>
     requires i_in_bounds { i * 14 + 14 ≤ length rows.old }
     requires i_in_bounds_2 { i * 6 ≤ length types.now }
-    ensures { (n : ℕ) → Settled result (i * 14) rows.old rows.new (require (sources_located (take (count * member_words) (drop (first * member_words) members.now))) 2 0 0 (words_row (least_for rule) capabilities (member_count members.now) n (type_inner types.now) (take (i * 14) rows.old) i struct_kind first count span d e (take (count * member_words) (drop (first * member_words) members.now)))) }
+    ensures { (n : ℕ) → Settled result (i * 14) rows.old rows.new (require (sources_located (take (w.b * member_words) (drop (w.a * member_words) members.now))) 2 0 0 (words_row (least_for rule) capabilities (member_count members.now) n (type_inner types.now) (take (i * 14) rows.old) i struct_kind w.a w.b w.c w.d w.e (take (w.b * member_words) (drop (w.a * member_words) members.now)))) }
 {
-    let at = (i as usize) * ir_records::ROW_WORDS;
-    if !ir_fields::struct_fields(members.len() / ir_records::MEMBER_WORDS, first, count, d, e) {
+    if !ir_fields::struct_fields(ir_records::member_count(members), w) {
         return Err(TypeRefusal::of(Fault::FieldOutside));
     }
-    let part = ir_records::member_part(members, first, count);
-    let located = proc_type_alignment::members_alignment(&rows[..at], i, part, count)?;
-    members_row(
-        capabilities,
-        rule,
-        located.sourced,
-        types,
-        part,
-        rows,
-        i,
-        count,
-        span,
-        located.alignment,
-    )
+    let part = ir_records::member_part(members, w.a, w.b);
+    let located = proc_type_alignment::members_alignment(Earlier::of(rows, i), part)?;
+    members_row(capabilities, rule, located, types, part, rows, i, w.c)
 }
 
 // Numbers 2 to 7 of type i, and then its row, from the rows of the types before it. It is written where there is one.
@@ -178,23 +151,11 @@ pub fn record_row(
     let w = ir_records::own_record(types, i);
     let kind = w.kind;
     if kind == ir_records::STRUCT_KIND {
-        return struct_row(
-            capabilities,
-            rule,
-            types,
-            members,
-            rows,
-            i,
-            w.a,
-            w.b,
-            w.c,
-            w.d,
-            w.e,
-        );
+        return struct_row(capabilities, rule, types, members, rows, i, w);
     }
     if kind == ir_records::ARRAY_KIND {
         let least = valid_type_info::least_for(rule);
-        return valid_types::array_row(least, rows, i, w.a, w.b, w.c, w.d, w.e);
+        return valid_types::array_row(least, rows, i, w);
     }
     valid_types::plain_row(capabilities, types, rows, i, w)
 }

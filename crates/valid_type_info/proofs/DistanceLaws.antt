@@ -10,16 +10,17 @@ use Rattle.valid_type_info.specs.declared.Verdict.{Verdict}
 use Rattle.valid_type_info.specs.declared.UniformRule.{UniformRule}
 use Rattle.valid_type_info.specs.declared.UniformRule.TheVariants.{Older, Newer}
 use Rattle.valid_type_info.specs.declared.Distance.TheVariants.{Short}
-use Rattle.valid_type_info.specs.declared.Previous.{Previous}
-use Rattle.valid_type_info.specs.declared.Previous.TheVariants.{NoStruct, StructBefore}
+use Rattle.std.specs.Prelude.{Option}
+use Rattle.valid_type_info.specs.declared.PreviousStruct.{PreviousStruct}
+use Rattle.std.specs.Prelude.{None, Some}
 use Rattle.valid_type_info.specs.Verdict.{min_uniform, min_storage, least_for, distance_verdict}
 use Rattle.valid_type_info.specs.Serving.{after_distance}
 
 -- by the minimum alignment of storage no distance is asked
-pub no_distance : (i j offset : ℕ) (previous : Previous) (v : Verdict) → distance_verdict min_storage i j offset previous v ≡ v
+pub no_distance : (i j offset : ℕ) (previous : Option PreviousStruct) (v : Verdict) → distance_verdict min_storage i j offset previous v ≡ v
 unfolding distance_verdict
-no_distance i j offset NoStruct v = refl
-no_distance i j offset (StructBefore span at) v = refl
+no_distance i j offset None v = refl
+no_distance i j offset (Some before) v = refl
 
 -- the minimum alignment of a rule is a power of two
 pub least_power : (rule : UniformRule) → Power (least_for rule)
@@ -28,14 +29,14 @@ least_power Newer = record { exponent = 0; is = refl }
 
 -- a distance of the span rounded up to 16 is enough
 pub distance_enough : (rule : UniformRule) (i j offset span at : ℕ) (v : Verdict) → leb (round_up min_uniform span) (offset - at) ≡ true
-    → distance_verdict (least_for rule) i j offset (StructBefore span at) v ≡ v
+    → distance_verdict (least_for rule) i j offset (Some (record { span = span; offset = at })) v ≡ v
 unfolding distance_verdict
 distance_enough Older i j offset span at v h = rw h refl
 distance_enough Newer i j offset span at v h = refl
 
 -- where it is short, the verdict is what the code makes of it
 pub distance_short : (rule : UniformRule) (i j offset span at : ℕ) (v : Verdict) → leb (round_up min_uniform span) (offset - at) ≡ false
-    → after_distance (least_for rule) (Short (at + round_up min_uniform span)) i j offset v ≡ distance_verdict (least_for rule) i j offset (StructBefore span at) v
+    → after_distance (least_for rule) (Short (at + round_up min_uniform span)) i j offset v ≡ distance_verdict (least_for rule) i j offset (Some (record { span = span; offset = at })) v
 unfolding distance_verdict
 distance_short Older i j offset span at v h = rw h refl
 distance_short Newer i j offset span at v h = refl

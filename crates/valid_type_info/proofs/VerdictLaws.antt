@@ -12,8 +12,9 @@ use Rattle.ir_records.specs.declared.TypeInner.{TypeInner}
 use Rattle.proc_alignment.specs.Alignment.{Power, is_aligned, round_up}
 use Rattle.proc_alignment.proofs.PowerLaws.{aligned_divides, power_max}
 use Rattle.valid_type_info.specs.declared.Verdict.{Verdict}
-use Rattle.valid_type_info.specs.declared.Previous.{Previous}
-use Rattle.valid_type_info.specs.declared.Previous.TheVariants.{NoStruct, StructBefore}
+use Rattle.std.specs.Prelude.{Option}
+use Rattle.valid_type_info.specs.declared.PreviousStruct.{PreviousStruct}
+use Rattle.std.specs.Prelude.{None, Some}
 use Rattle.valid_type_info.specs.Verdict.{ok_verdict, non_host_shareable, unsized_member, is_ok, alignment_in, unless_ok, stride_verdict, array_verdict, share_verdict, offset_verdict, member_verdict, struct_at, previous_of, distance_verdict, unsized_verdict, span_verdict}
 
 -- the alignment is a power of two, where the verdict is Ok
@@ -86,11 +87,11 @@ share_ok true t v h = refl
 share_ok false t v h = let u = unless-ok v (non_host_shareable t) h in absurd (subst (λ (w : Verdict). T (is_ok w)) u.1 h)
 
 -- the distance rule
-pub distance-ok : (least i j offset : ℕ) (previous : Previous) (v : Verdict)
+pub distance-ok : (least i j offset : ℕ) (previous : Option PreviousStruct) (v : Verdict)
     → T (is_ok (distance_verdict least i j offset previous v)) → distance_verdict least i j offset previous v ≡ v
 unfolding distance_verdict
-distance-ok least i j offset NoStruct v t = refl
-distance-ok least i j offset (StructBefore span at) v t = (pick_ok (leb least 1 || leb (round_up least span) (offset - at)) v _ (λ (n : ⊥). n) t).1
+distance-ok least i j offset None v t = refl
+distance-ok least i j offset (Some before) v t = (pick_ok (leb least 1 || leb (round_up least before.span) (offset - before.offset)) v _ (λ (n : ⊥). n) t).1
 
 -- the rule on unsized members; the member is SIZED
 pub unsized_ok : (sized : Bool) (i j : ℕ) (v : Verdict) → T (is_ok (unsized_verdict sized i j v)) → T sized × (unsized_verdict sized i j v ≡ v)

@@ -10,8 +10,9 @@ use Rattle.proc_alignment.specs.Alignment.{is_aligned, round_up, most}
 use Rattle.valid_type_info.specs.declared.Verdict.{Verdict}
 use Rattle.valid_type_info.specs.declared.UniformRule.{UniformRule}
 use Rattle.valid_type_info.specs.declared.UniformRule.TheVariants.{Older, Newer}
-use Rattle.valid_type_info.specs.declared.Previous.{Previous}
-use Rattle.valid_type_info.specs.declared.Previous.TheVariants.{NoStruct, StructBefore}
+use Rattle.std.specs.Prelude.{Option}
+use Rattle.valid_type_info.specs.declared.PreviousStruct.{PreviousStruct}
+use Rattle.std.specs.Prelude.{None, Some}
 
 abbrev pub min_uniform : ℕ
 min_uniform = 16
@@ -80,32 +81,33 @@ member_verdict i j offset so_far member =
     unless_ok so_far (unless_ok member (offset_verdict i j offset (alignment_in so_far) (alignment_in member)))
 
 -- the struct that a member of this type is, for the distance of the next one
-abbrev pub struct_at : TypeInner → (offset : ℕ) → Previous
-struct_at (Plain leaf) offset = NoStruct
-struct_at (Array base count stride) offset = NoStruct
-struct_at (RuntimeArray base stride) offset = NoStruct
-struct_at (Struct count span) offset = StructBefore span offset
-struct_at (Other o) offset = NoStruct
+abbrev pub struct_at : TypeInner → (offset : ℕ) → Option PreviousStruct
+struct_at (Plain leaf) offset = None
+struct_at (Array base count stride) offset = None
+struct_at (RuntimeArray base stride) offset = None
+struct_at (Struct count span) offset = Some (record { span = span; offset = offset })
+struct_at (Other o) offset = None
 
 -- the member right before member j, where it is a struct
-unfoldable pub previous_of : (inner : ℕ → TypeInner) (members : List ℕ) → ℕ → Previous
-previous_of inner members zero = NoStruct
+unfoldable pub previous_of : (inner : ℕ → TypeInner) (members : List ℕ) → ℕ → Option PreviousStruct
+previous_of inner members zero = None
 previous_of inner members (suc j) = struct_at (inner (member_type members j)) (member_offset members j)
 
 -- the distance rule: from the start of a struct to the start of the member right after it at least its span rounded up; it overwrites.
 -- By the minimum alignment of storage no distance is asked: the storage rules have none
-unfoldable pub distance_verdict : (least i j offset : ℕ) → Previous → Verdict → Verdict
-distance_verdict least i j offset NoStruct so_far = so_far
-distance_verdict least i j offset (StructBefore span at) so_far =
-    pick (leb least min_storage || leb (round_up least span) (offset - at)) so_far (member_offset_after_struct i j offset (at + round_up least span))
+unfoldable pub distance_verdict : (least i j offset : ℕ) → Option PreviousStruct → Verdict → Verdict
+distance_verdict least i j offset None so_far = so_far
+distance_verdict least i j offset (Some before) so_far =
+    pick (leb least min_storage || leb (round_up least before.span) (offset - before.offset)) so_far
+    (member_offset_after_struct i j offset (before.offset + round_up least before.span))
 
 -- number 21: the sums and the difference of the distance rule that the Rust makes stay within 32 bits
-unfoldable pub distance_ok : Previous → (offset : ℕ) → Bool
-distance_ok NoStruct offset = true
-distance_ok (StructBefore span at) offset =
-    leb at offset
-    && leb (span + (min_uniform - 1)) most
-    && (leb (round_up min_uniform span) (offset - at) || leb (at + round_up min_uniform span) most)
+unfoldable pub distance_ok : Option PreviousStruct → (offset : ℕ) → Bool
+distance_ok None offset = true
+distance_ok (Some before) offset =
+    leb before.offset offset
+    && leb (before.span + (min_uniform - 1)) most
+    && (leb (round_up min_uniform before.span) (offset - before.offset) || leb (before.offset + round_up min_uniform before.span) most)
 
 -- a member that is not sized has no place in a uniform buffer; an earlier error stays
 unfoldable pub unsized_verdict : (sized : Bool) (i j : ℕ) → Verdict → Verdict

@@ -1,14 +1,19 @@
 // TypeInfo of naga's valid/type.rs: what a result row has, verdicts and the rules that make them.
 #![tactic(auto)]
 
-ghost use Rattle.std.specs.Prelude.{◌≡◌, Bool, true, ℕ};
+ghost use Rattle.std.specs.Prelude.{◌≡◌, Bool, true, ℕ, ◌*◌, ◌≤◌, ◌<◌, length};
+ghost use Rattle.ir_records.specs.Record.{member_type};
 ghost use Rattle.valid_type_info.specs.declared.Verdict as verdict;
 ghost use Rattle.valid_type_info.specs.declared.UniformRule as rule;
 ghost use Rattle.valid_type_info.specs.Verdict.{min_uniform, least_for, ok_verdict, array_verdict, share_verdict, offset_verdict, member_verdict, distance_verdict, distance_ok, unsized_verdict, span_verdict};
 ghost use Rattle.valid_type_info.specs.Serving.{after_distance, is_within};
 
+use ir_records::Members;
+use ir_rows::Earlier;
+
 // naga's LayoutCompatibility: code 0 is Ok, with the alignment in ty.
-#[derive(Clone, Copy)]
+// Kept: a number for a code, since these are the five words that stand in a row, which the caller reads; a base's verdict is passed on as it lies there.
+#[derive(Clone, Copy, Debug, PartialEq, Eq)]
 pub struct Verdict {
     pub code: u32,
     pub ty: u32,
@@ -18,7 +23,7 @@ pub struct Verdict {
 }
 
 // The fourteen words of a result row.
-#[derive(Clone, Copy)]
+#[derive(Clone, Copy, Debug, PartialEq, Eq)]
 pub struct Row {
     pub size: u32,
     pub alignment: u32,
@@ -29,21 +34,42 @@ pub struct Row {
 }
 
 // The rule by which uniform verdicts are worked out: naga 30.0.1's, or the storage rules.
-#[derive(Clone, Copy)]
+#[derive(Clone, Copy, Debug, PartialEq, Eq)]
 pub enum UniformRule {
     Older,
     Newer,
 }
 
-// The struct that the member right before is, with its offset.
+/// A member that a verdict may name: member j of struct i, of type t, at this offset.
+#[derive(Clone, Copy, Debug, PartialEq, Eq)]
+pub struct MemberAt {
+    pub i: u32,
+    pub j: u32,
+    pub t: u32,
+    pub offset: u32,
+}
+
+/// The struct that the member right before is, with its offset.
+#[derive(Clone, Copy, Debug, PartialEq, Eq)]
+pub struct PreviousStruct {
+    pub span: u32,
+    pub offset: u32,
+}
+
+/// A struct whose members are earlier types, with what its rules read: the type records, the rows of the types before it, its member rows, its span.
 #[derive(Clone, Copy)]
-pub enum Previous {
-    NoStruct,
-    StructBefore { span: u32, offset: u32 },
+pub struct StructType<'t, 'r, 'm> {
+    pub types: &'t [u32],
+    pub before: Earlier<'r>,
+    pub part: Members<'m>,
+    pub span: u32,
+    pub ghost in_types: { before.i * 6 ≤ length types.now },
+    pub ghost members_earlier: { (j : ℕ) → j < part.count → member_type part.words.now j < before.i },
 }
 
 // The distance from a struct to the member right after it.
-#[derive(Clone, Copy)]
+// Kept: three outcomes of one rule; as a Result of an Option each reader would have to know what Ok(None) and Ok(Some) say.
+#[derive(Clone, Copy, Debug, PartialEq, Eq)]
 pub enum Distance {
     Enough,
     Short(u32),
@@ -74,7 +100,7 @@ pub fn array_verdict(least: u32, i: u32, stride: u32, alignment: u32, base: Verd
     if code != 0 {
         return base;
     }
-    let a = proc_alignment::larger(proc_alignment::larger(base.ty, alignment), least);
+    let a = base.ty.max(alignment).max(least);
     if proc_alignment::is_aligned(a, stride) {
         Verdict {
             code: 0,
@@ -115,24 +141,24 @@ pub fn share_verdict(shareable: bool, t: u32, so_far: Verdict) -> Verdict
 }
 
 // The offset against a member verdict alignment; the larger alignment stays.
-pub fn offset_verdict(i: u32, j: u32, offset: u32, so_far: u32, alignment: u32) -> Verdict
-    ensures { result ≡ offset_verdict i j offset so_far alignment }
+pub fn offset_verdict(m: MemberAt, so_far: u32, alignment: u32) -> Verdict
+    ensures { result ≡ offset_verdict m.i m.j m.offset so_far alignment }
 {
-    if proc_alignment::is_aligned(alignment, offset) {
-        return ok_verdict(proc_alignment::larger(so_far, alignment));
+    if proc_alignment::is_aligned(alignment, m.offset) {
+        return ok_verdict(so_far.max(alignment));
     }
     Verdict {
         code: 3,
-        ty: i,
-        index: j,
-        value: offset,
+        ty: m.i,
+        index: m.j,
+        value: m.offset,
         bound: alignment,
     }
 }
 
 // check_member_layout: the offset against the member's own verdict alignment.
-pub fn member_verdict(i: u32, j: u32, offset: u32, so_far: Verdict, member: Verdict) -> Verdict
-    ensures { result ≡ member_verdict i j offset so_far member }
+pub fn member_verdict(m: MemberAt, so_far: Verdict, member: Verdict) -> Verdict
+    ensures { result ≡ member_verdict m.i m.j m.offset so_far member }
 {
     let code = so_far.code;
     if code != 0 {
@@ -142,17 +168,17 @@ pub fn member_verdict(i: u32, j: u32, offset: u32, so_far: Verdict, member: Verd
     if member_code != 0 {
         return member;
     }
-    offset_verdict(i, j, offset, so_far.ty, member.ty)
+    offset_verdict(m, so_far.ty, member.ty)
 }
 
 // The distance rule; Overflow where a sum or the difference of the Rust leaves 32 bits.
-pub fn distance_to(previous: Previous, offset: u32) -> Distance
+pub fn distance_to(previous: Option<PreviousStruct>, offset: u32) -> Distance
     ensures within { is_within result ≡ distance_ok previous offset }
     ensures verdict { (rule : rule.UniformRule) (i j : ℕ) (v : verdict.Verdict) → is_within result ≡ true → after_distance (least_for rule) result i j offset v ≡ distance_verdict (least_for rule) i j offset previous v }
 {
     match previous {
-        Previous::NoStruct => Distance::Enough,
-        Previous::StructBefore { span, offset: at } => {
+        None => Distance::Enough,
+        Some(PreviousStruct { span, offset: at }) => {
             if offset < at {
                 return Distance::Overflow;
             }
@@ -186,15 +212,8 @@ pub fn least_for(rule: UniformRule) -> u32
 }
 
 // The distance rule overwrites an earlier verdict; by the minimum alignment of storage there is none.
-pub fn after_distance(
-    least: u32,
-    d: Distance,
-    i: u32,
-    j: u32,
-    offset: u32,
-    so_far: Verdict,
-) -> Verdict
-    ensures { result ≡ after_distance least d i j offset so_far }
+pub fn after_distance(least: u32, d: Distance, m: MemberAt, so_far: Verdict) -> Verdict
+    ensures { result ≡ after_distance least d m.i m.j m.offset so_far }
 {
     match d {
         Distance::Enough => so_far,
@@ -204,9 +223,9 @@ pub fn after_distance(
             }
             Verdict {
                 code: 4,
-                ty: i,
-                index: j,
-                value: offset,
+                ty: m.i,
+                index: m.j,
+                value: m.offset,
                 bound: expected,
             }
         }
@@ -215,8 +234,8 @@ pub fn after_distance(
 }
 
 // A member that is not sized has no place in a uniform buffer.
-pub fn unsized_verdict(sized: bool, i: u32, j: u32, so_far: Verdict) -> Verdict
-    ensures { result ≡ unsized_verdict sized i j so_far }
+pub fn unsized_verdict(sized: bool, m: MemberAt, so_far: Verdict) -> Verdict
+    ensures { result ≡ unsized_verdict sized m.i m.j so_far }
 {
     if sized {
         return so_far;
@@ -227,8 +246,8 @@ pub fn unsized_verdict(sized: bool, i: u32, j: u32, so_far: Verdict) -> Verdict
     }
     Verdict {
         code: 5,
-        ty: i,
-        index: j,
+        ty: m.i,
+        index: m.j,
         value: 0,
         bound: 0,
     }

@@ -6,7 +6,7 @@ ghost use Rattle.ir_rows.specs.Serving.{with_row};
 ghost use Rattle.valid_type_info.specs.TypeInfo.{words_of, rows_in, empty_row, verdict_in};
 ghost use Rattle.valid_type_info.specs.Verdict.{member_verdict};
 
-use valid_type_info::{Row, Verdict};
+use valid_type_info::{MemberAt, Row, Verdict};
 
 // A row of zeros, for a type that has none yet.
 fn empty_row() -> Row
@@ -63,59 +63,42 @@ pub fn row_at(rows: &[u32], k: u32) -> Row
 }
 
 // Writes the row of type i.
-pub fn put(
-    rows: &mut [u32],
-    i: u32,
-    size: u32,
-    alignment: u32,
-    flags: u32,
-    uniform: Verdict,
-    storage: Verdict,
-    immediates: u32,
-)
+pub fn put(rows: &mut [u32], i: u32, row: Row)
     requires { i * 14 + 14 ≤ length rows.old }
-    ensures { rows.new ≡ with_row rows.old (i * 14) (words_of (record { size = size; alignment = alignment; flags = flags; uniform = «uniform»; storage = «storage»; immediates = immediates })) }
+    ensures { rows.new ≡ with_row rows.old (i * 14) (words_of row) }
 {
     let at = (i as usize) * ir_records::ROW_WORDS;
     let words = [
-        size,
-        alignment,
-        flags,
-        uniform.code,
-        uniform.ty,
-        uniform.index,
-        uniform.value,
-        uniform.bound,
-        storage.code,
-        storage.ty,
-        storage.index,
-        storage.value,
-        storage.bound,
-        immediates,
+        row.size,
+        row.alignment,
+        row.flags,
+        row.uniform.code,
+        row.uniform.ty,
+        row.uniform.index,
+        row.uniform.value,
+        row.uniform.bound,
+        row.storage.code,
+        row.storage.ty,
+        row.storage.index,
+        row.storage.value,
+        row.storage.bound,
+        row.immediates,
     ];
     ir_rows::put_row(rows, at, &words);
 }
 
-// member_verdict of valid_type_info with the verdict in words w to w + 4 of row k, read no further than needed.
-pub fn member_verdict_at(
-    rows: &[u32],
-    k: u32,
-    w: usize,
-    i: u32,
-    j: u32,
-    offset: u32,
-    so_far: Verdict,
-) -> Verdict
-    requires { k * 14 + (w + 4) < length rows.now }
-    ensures { result ≡ member_verdict i j offset so_far (verdict_in rows.now k w) }
+// member_verdict of valid_type_info with the verdict in words w to w + 4 of the row of the member's type, read no further than needed.
+pub fn member_verdict_at(rows: &[u32], w: usize, m: MemberAt, so_far: Verdict) -> Verdict
+    requires { m.t * 14 + (w + 4) < length rows.now }
+    ensures { result ≡ member_verdict m.i m.j m.offset so_far (verdict_in rows.now m.t w) }
 {
     let code = so_far.code;
     if code != 0 {
         return so_far;
     }
-    if ir_rows::own_word(rows, k, w) != 0 {
-        return verdict_at(rows, k, w);
+    if ir_rows::own_word(rows, m.t, w) != 0 {
+        return verdict_at(rows, m.t, w);
     }
-    let alignment = ir_rows::own_word(rows, k, w + 1);
-    valid_type_info::offset_verdict(i, j, offset, so_far.ty, alignment)
+    let alignment = ir_rows::own_word(rows, m.t, w + 1);
+    valid_type_info::offset_verdict(m, so_far.ty, alignment)
 }

@@ -15,8 +15,9 @@ ghost use Rattle.valid_type_info.specs.TypeInfo.{rows_in};
 ghost use Rattle.valid_types.specs.Serving.{plain_judged, plain_result, array_of, Settled};
 ghost use Rattle.valid_types.specs.Serving.{words_row};
 
-use ir_records::{Fault, TypeRefusal, Words};
+use ir_records::{Fault, Kind, TypeRefusal, Words};
 use proc_type_alignment::TypeLayout;
+use valid_type_info::Row;
 
 // The row of a type that is neither array nor struct: both verdicts are Ok with one alignment.
 #[derive(Clone, Copy, Debug, PartialEq, Eq)]
@@ -72,194 +73,120 @@ pub fn numeric_flags(
     )
 }
 
-// By its kind, a record whose five other words are a to e.
-fn scalar_row(
-    capabilities: u32,
-    a: u32,
-    b: u32,
-    c: u32,
-    d: u32,
-    e: u32,
-) -> Result<PlainRow, TypeRefusal>
-    ensures { (least m n i : ℕ) (inner : ℕ → inner.TypeInner) (words members : List ℕ) → plain_result result ≡ words_row least capabilities m n inner words i scalar_kind a b c d e members }
+// By its kind, a record with the words w.
+// Kept: some of these are alike in form, but each has its kind's fields, flags and size, and its contract names the kind.
+fn scalar_row(capabilities: u32, w: Words) -> Result<PlainRow, TypeRefusal>
+    ensures { (least m n i : ℕ) (inner : ℕ → inner.TypeInner) (words members : List ℕ) → plain_result result ≡ words_row least capabilities m n inner words i scalar_kind w.a w.b w.c w.d w.e members }
 {
-    let laid = proc_type_layout::scalar_layout(a, b, c, d, e);
-    let flagged = numeric_flags(capabilities, valid_flags::SCALAR_KIND, a, b);
-    joined(laid, flagged, b, valid_width::immediates_word(a, b))
+    let laid = proc_type_layout::scalar_layout(w);
+    let flagged = numeric_flags(capabilities, valid_flags::SCALAR_KIND, w.a, w.b);
+    joined(laid, flagged, w.b, valid_width::immediates_word(w.a, w.b))
 }
 
-fn vector_row(
-    capabilities: u32,
-    a: u32,
-    b: u32,
-    c: u32,
-    d: u32,
-    e: u32,
-) -> Result<PlainRow, TypeRefusal>
-    ensures { (least m n i : ℕ) (inner : ℕ → inner.TypeInner) (words members : List ℕ) → plain_result result ≡ words_row least capabilities m n inner words i vector_kind a b c d e members }
+fn vector_row(capabilities: u32, w: Words) -> Result<PlainRow, TypeRefusal>
+    ensures { (least m n i : ℕ) (inner : ℕ → inner.TypeInner) (words members : List ℕ) → plain_result result ≡ words_row least capabilities m n inner words i vector_kind w.a w.b w.c w.d w.e members }
 {
-    let laid = proc_type_layout::vector_layout(a, b, c, d, e);
-    let flagged = numeric_flags(capabilities, valid_flags::VECTOR_KIND, b, c);
+    let laid = proc_type_layout::vector_layout(w);
+    let flagged = numeric_flags(capabilities, valid_flags::VECTOR_KIND, w.b, w.c);
     joined(
         laid,
         flagged,
         alignment_in(laid),
-        valid_width::immediates_word(b, c),
+        valid_width::immediates_word(w.b, w.c),
     )
 }
 
-fn matrix_row(
-    capabilities: u32,
-    a: u32,
-    b: u32,
-    c: u32,
-    d: u32,
-    e: u32,
-) -> Result<PlainRow, TypeRefusal>
-    ensures { (least m n i : ℕ) (inner : ℕ → inner.TypeInner) (words members : List ℕ) → plain_result result ≡ words_row least capabilities m n inner words i matrix_kind a b c d e members }
+fn matrix_row(capabilities: u32, w: Words) -> Result<PlainRow, TypeRefusal>
+    ensures { (least m n i : ℕ) (inner : ℕ → inner.TypeInner) (words members : List ℕ) → plain_result result ≡ words_row least capabilities m n inner words i matrix_kind w.a w.b w.c w.d w.e members }
 {
-    let laid = proc_type_layout::matrix_layout(a, b, c, d, e);
-    let flagged = valid_type_flags::matrix_flags(capabilities, c, d);
+    let laid = proc_type_layout::matrix_layout(w);
+    let flagged = valid_type_flags::matrix_flags(capabilities, w.c, w.d);
     joined(
         laid,
         flagged,
         alignment_in(laid),
-        valid_width::immediates_word(c, d),
+        valid_width::immediates_word(w.c, w.d),
     )
 }
 
-fn cooperative_row(
-    capabilities: u32,
-    a: u32,
-    b: u32,
-    c: u32,
-    d: u32,
-    e: u32,
-) -> Result<PlainRow, TypeRefusal>
-    ensures { (least m n i : ℕ) (inner : ℕ → inner.TypeInner) (words members : List ℕ) → plain_result result ≡ words_row least capabilities m n inner words i cooperative_matrix_kind a b c d e members }
+// Kept: as above.
+fn cooperative_row(capabilities: u32, w: Words) -> Result<PlainRow, TypeRefusal>
+    ensures { (least m n i : ℕ) (inner : ℕ → inner.TypeInner) (words members : List ℕ) → plain_result result ≡ words_row least capabilities m n inner words i cooperative_matrix_kind w.a w.b w.c w.d w.e members }
 {
-    let laid = proc_type_layout::cooperative_layout(a, b, c, d, e);
-    let flagged = valid_type_flags::cooperative_flags(capabilities, c, d);
-    joined(laid, flagged, d, 0)
+    let laid = proc_type_layout::cooperative_layout(w);
+    let flagged = valid_type_flags::cooperative_flags(capabilities, w.c, w.d);
+    joined(laid, flagged, w.d, 0)
 }
 
-fn atomic_row(
-    capabilities: u32,
-    a: u32,
-    b: u32,
-    c: u32,
-    d: u32,
-    e: u32,
-) -> Result<PlainRow, TypeRefusal>
-    ensures { (least m n i : ℕ) (inner : ℕ → inner.TypeInner) (words members : List ℕ) → plain_result result ≡ words_row least capabilities m n inner words i atomic_kind a b c d e members }
+fn atomic_row(capabilities: u32, w: Words) -> Result<PlainRow, TypeRefusal>
+    ensures { (least m n i : ℕ) (inner : ℕ → inner.TypeInner) (words members : List ℕ) → plain_result result ≡ words_row least capabilities m n inner words i atomic_kind w.a w.b w.c w.d w.e members }
 {
-    let laid = proc_type_layout::scalar_layout(a, b, c, d, e);
-    let flagged = valid_type_flags::atomic_flags(capabilities, a, b);
-    joined(laid, flagged, b, 0)
+    let laid = proc_type_layout::scalar_layout(w);
+    let flagged = valid_type_flags::atomic_flags(capabilities, w.a, w.b);
+    joined(laid, flagged, w.b, 0)
 }
 
-fn pointer_row(
-    types: &[u32],
-    rows: &[u32],
-    a: u32,
-    b: u32,
-    c: u32,
-    d: u32,
-    e: u32,
-) -> Result<PlainRow, TypeRefusal>
-    ensures { (least k m i : ℕ) (members : List ℕ) → plain_result result ≡ words_row least k m (type_count types.now) (type_inner types.now) rows.now i pointer_kind a b c d e members }
+fn pointer_row(types: &[u32], rows: &[u32], w: Words) -> Result<PlainRow, TypeRefusal>
+    ensures { (least k m i : ℕ) (members : List ℕ) → plain_result result ≡ words_row least k m (type_count types.now) (type_inner types.now) rows.now i pointer_kind w.a w.b w.c w.d w.e members }
 {
-    let within = (a as usize) < types.len() / ir_records::TYPE_WORDS;
-    let laid = proc_type_layout::based_layout(ir_fields::pointer_fields(b, c, d, e), within, 4);
-    let flagged = valid_type_flags::pointer_to(ir_rows::row_word(rows, a, 2), b);
+    let within = (w.a as usize) < types.len() / ir_records::TYPE_WORDS;
+    let laid = proc_type_layout::based_layout(ir_fields::pointer_fields(w), within, 4);
+    let flagged = valid_type_flags::pointer_to(ir_rows::row_word(rows, w.a, 2), w.b);
     joined(laid, flagged, 1, 0)
 }
 
-fn value_pointer_row(
-    capabilities: u32,
-    a: u32,
-    b: u32,
-    c: u32,
-    d: u32,
-    e: u32,
-) -> Result<PlainRow, TypeRefusal>
-    ensures { (least m n i : ℕ) (inner : ℕ → inner.TypeInner) (words members : List ℕ) → plain_result result ≡ words_row least capabilities m n inner words i value_pointer_kind a b c d e members }
+// Kept: as above.
+fn value_pointer_row(capabilities: u32, w: Words) -> Result<PlainRow, TypeRefusal>
+    ensures { (least m n i : ℕ) (inner : ℕ → inner.TypeInner) (words members : List ℕ) → plain_result result ≡ words_row least capabilities m n inner words i value_pointer_kind w.a w.b w.c w.d w.e members }
 {
-    let laid = proc_type_layout::handle_layout(ir_fields::value_pointer_fields(a, b, c, d, e), 4);
-    let flagged = valid_type_flags::value_pointer_flags(capabilities, a, b, c);
+    let laid = proc_type_layout::handle_layout(ir_fields::value_pointer_fields(w), 4);
+    let flagged = valid_type_flags::value_pointer_flags(capabilities, w.a, w.b, w.c);
     joined(laid, flagged, 1, 0)
 }
 
-fn image_row(
-    capabilities: u32,
-    a: u32,
-    b: u32,
-    c: u32,
-    d: u32,
-    e: u32,
-) -> Result<PlainRow, TypeRefusal>
-    ensures { (least m n i : ℕ) (inner : ℕ → inner.TypeInner) (words members : List ℕ) → plain_result result ≡ words_row least capabilities m n inner words i image_kind a b c d e members }
+fn image_row(capabilities: u32, w: Words) -> Result<PlainRow, TypeRefusal>
+    ensures { (least m n i : ℕ) (inner : ℕ → inner.TypeInner) (words members : List ℕ) → plain_result result ≡ words_row least capabilities m n inner words i image_kind w.a w.b w.c w.d w.e members }
 {
-    let laid = proc_type_layout::handle_layout(ir_fields::image_fields(a, b, c, d, e), 0);
-    let flagged = valid_type_flags::image_flags(capabilities, a, b, c);
+    let laid = proc_type_layout::handle_layout(ir_fields::image_fields(w), 0);
+    let flagged = valid_type_flags::image_flags(capabilities, w.a, w.b, w.c);
     joined(laid, flagged, 1, 0)
 }
 
-fn sampler_row(a: u32, b: u32, c: u32, d: u32, e: u32) -> Result<PlainRow, TypeRefusal>
-    ensures { (least k m n i : ℕ) (inner : ℕ → inner.TypeInner) (words members : List ℕ) → plain_result result ≡ words_row least k m n inner words i sampler_kind a b c d e members }
+fn sampler_row(w: Words) -> Result<PlainRow, TypeRefusal>
+    ensures { (least k m n i : ℕ) (inner : ℕ → inner.TypeInner) (words members : List ℕ) → plain_result result ≡ words_row least k m n inner words i sampler_kind w.a w.b w.c w.d w.e members }
 {
-    let laid = proc_type_layout::handle_layout(ir_fields::sampler_fields(a, b, c, d, e), 0);
+    let laid = proc_type_layout::handle_layout(ir_fields::sampler_fields(w), 0);
     joined(laid, valid_type_flags::sampler_flags(), 1, 0)
 }
 
-fn acceleration_row(
-    capabilities: u32,
-    a: u32,
-    b: u32,
-    c: u32,
-    d: u32,
-    e: u32,
-) -> Result<PlainRow, TypeRefusal>
-    ensures { (least m n i : ℕ) (inner : ℕ → inner.TypeInner) (words members : List ℕ) → plain_result result ≡ words_row least capabilities m n inner words i acceleration_structure_kind a b c d e members }
+// Kept: as above.
+fn acceleration_row(capabilities: u32, w: Words) -> Result<PlainRow, TypeRefusal>
+    ensures { (least m n i : ℕ) (inner : ℕ → inner.TypeInner) (words members : List ℕ) → plain_result result ≡ words_row least capabilities m n inner words i acceleration_structure_kind w.a w.b w.c w.d w.e members }
 {
-    let laid = proc_type_layout::handle_layout(ir_fields::acceleration_fields(a, b, c, d, e), 0);
-    let flagged = valid_type_flags::acceleration_flags(capabilities, a);
+    let laid = proc_type_layout::handle_layout(ir_fields::acceleration_fields(w), 0);
+    let flagged = valid_type_flags::acceleration_flags(capabilities, w.a);
     joined(laid, flagged, 1, 0)
 }
 
-fn ray_query_row(
-    capabilities: u32,
-    a: u32,
-    b: u32,
-    c: u32,
-    d: u32,
-    e: u32,
-) -> Result<PlainRow, TypeRefusal>
-    ensures { (least m n i : ℕ) (inner : ℕ → inner.TypeInner) (words members : List ℕ) → plain_result result ≡ words_row least capabilities m n inner words i ray_query_kind a b c d e members }
+fn ray_query_row(capabilities: u32, w: Words) -> Result<PlainRow, TypeRefusal>
+    ensures { (least m n i : ℕ) (inner : ℕ → inner.TypeInner) (words members : List ℕ) → plain_result result ≡ words_row least capabilities m n inner words i ray_query_kind w.a w.b w.c w.d w.e members }
 {
-    let laid = proc_type_layout::handle_layout(ir_fields::acceleration_fields(a, b, c, d, e), 0);
-    let flagged = valid_type_flags::ray_query_flags(capabilities, a);
+    let laid = proc_type_layout::handle_layout(ir_fields::acceleration_fields(w), 0);
+    let flagged = valid_type_flags::ray_query_flags(capabilities, w.a);
     joined(laid, flagged, 1, 0)
 }
 
-fn binding_array_row(
-    types: &[u32],
-    rows: &[u32],
-    a: u32,
-    b: u32,
-    c: u32,
-    d: u32,
-    e: u32,
-) -> Result<PlainRow, TypeRefusal>
-    ensures { (least k m i : ℕ) (members : List ℕ) → plain_result result ≡ words_row least k m (type_count types.now) (type_inner types.now) rows.now i binding_array_kind a b c d e members }
+fn binding_array_row(types: &[u32], rows: &[u32], w: Words) -> Result<PlainRow, TypeRefusal>
+    ensures { (least k m i : ℕ) (members : List ℕ) → plain_result result ≡ words_row least k m (type_count types.now) (type_inner types.now) rows.now i binding_array_kind w.a w.b w.c w.d w.e members }
 {
-    let within = (a as usize) < types.len() / ir_records::TYPE_WORDS;
-    let laid = proc_type_layout::based_layout(
-        ir_fields::binding_array_fields(b, c, d, e),
-        within,
-        0,
+    let within = (w.a as usize) < types.len() / ir_records::TYPE_WORDS;
+    let laid = proc_type_layout::based_layout(ir_fields::binding_array_fields(w), within, 0);
+    let flagged = valid_type_flags::binding_array_of(
+        types,
+        w.a,
+        ir_rows::row_word(rows, w.a, 2),
+        w.b,
     );
-    let flagged = valid_type_flags::binding_array_of(types, a, ir_rows::row_word(rows, a, 2), b);
     joined(laid, flagged, 1, 0)
 }
 
@@ -274,29 +201,25 @@ fn judge_plain(
     requires fact_2 { w.kind ≡ struct_kind → ⊥ }
     ensures { (least m i : ℕ) (members : List ℕ) → plain_result result ≡ words_row least capabilities m (type_count types.now) (type_inner types.now) rows.now i w.kind w.a w.b w.c w.d w.e members }
 {
-    let kind = w.kind;
-    let a = w.a;
-    let b = w.b;
-    let c = w.c;
-    let d = w.d;
-    let e = w.e;
-    match kind {
-        0 => scalar_row(capabilities, a, b, c, d, e),
-        1 => vector_row(capabilities, a, b, c, d, e),
-        2 => matrix_row(capabilities, a, b, c, d, e),
-        3 => cooperative_row(capabilities, a, b, c, d, e),
-        4 => atomic_row(capabilities, a, b, c, d, e),
-        5 => pointer_row(types, rows, a, b, c, d, e),
-        6 => value_pointer_row(capabilities, a, b, c, d, e),
-        9 => image_row(capabilities, a, b, c, d, e),
-        10 => sampler_row(a, b, c, d, e),
-        11 => acceleration_row(capabilities, a, b, c, d, e),
-        12 => ray_query_row(capabilities, a, b, c, d, e),
-        13 => binding_array_row(types, rows, a, b, c, d, e),
-        _ => Err(TypeRefusal::of(Fault::FieldOutside)),
+    match Kind::try_from(w.kind)? {
+        Kind::Scalar => scalar_row(capabilities, w),
+        Kind::Vector => vector_row(capabilities, w),
+        Kind::Matrix => matrix_row(capabilities, w),
+        Kind::CooperativeMatrix => cooperative_row(capabilities, w),
+        Kind::Atomic => atomic_row(capabilities, w),
+        Kind::Pointer => pointer_row(types, rows, w),
+        Kind::ValuePointer => value_pointer_row(capabilities, w),
+        Kind::Image => image_row(capabilities, w),
+        Kind::Sampler => sampler_row(w),
+        Kind::AccelerationStructure => acceleration_row(capabilities, w),
+        Kind::RayQuery => ray_query_row(capabilities, w),
+        Kind::BindingArray => binding_array_row(types, rows, w),
+        // The caller has taken these.
+        Kind::Array | Kind::Struct => Err(TypeRefusal::of(Fault::FieldOutside)),
     }
 }
 
+// Kept: `rows`, `i`, `w`: the rows are lent with `&mut`; a struct of the three would be made anew for each type.
 // Of type i, which is neither array nor struct: numbers 2 to 7 and then its row, which is written where there is one.
 pub fn plain_row(
     capabilities: u32,
@@ -316,12 +239,14 @@ pub fn plain_row(
     valid_type_rows::put(
         rows,
         i,
-        row.layout.size,
-        row.layout.alignment,
-        row.flags,
-        both,
-        both,
-        row.immediates,
+        Row {
+            size: row.layout.size,
+            alignment: row.layout.alignment,
+            flags: row.flags,
+            uniform: both,
+            storage: both,
+            immediates: row.immediates,
+        },
     );
     Ok(())
 }
@@ -336,72 +261,53 @@ fn flags_by_form(form: u32, base: u32) -> u32
     valid_flags::runtime_array_flags(base)
 }
 
-// The row of array i over a base, by its layout; `least` is the minimum alignment in its uniform verdict.
+// The row of array i, a record with these words, by its layout; `least` is the minimum alignment in its uniform verdict.
 fn array_over(
     least: u32,
     rows: &mut [u32],
     i: u32,
-    base: u32,
-    form: u32,
-    stride: u32,
-    size: u32,
-    own: u32,
+    w: Words,
+    layout: TypeLayout,
 ) -> Result<(), TypeRefusal>
     requires { i * 14 + 14 ≤ length rows.old }
-    ensures { Settled result (i * 14) rows.old rows.new (array_of least form i stride (rows_in (take (i * 14) rows.old) base) (record { size = size; alignment = own })) }
+    ensures { Settled result (i * 14) rows.old rows.new (array_of least w.b i w.d (rows_in (take (i * 14) rows.old) w.a) layout) }
 {
     let at = (i as usize) * ir_records::ROW_WORDS;
-    let element = valid_type_rows::row_at(&rows[..at], base);
+    let element = valid_type_rows::row_at(&rows[..at], w.a);
     if !valid_flags::is_sized_data(element.flags) {
         return Err(TypeRefusal::of(Fault::InvalidArrayBaseType));
     }
     let alignment = element.alignment;
-    let uniform = valid_type_info::array_verdict(least, i, stride, alignment, element.uniform);
+    let uniform = valid_type_info::array_verdict(least, i, w.d, alignment, element.uniform);
     let storage = valid_type_info::array_verdict(
         valid_type_info::MIN_STORAGE,
         i,
-        stride,
+        w.d,
         alignment,
         element.storage,
     );
-    let flags = flags_by_form(form, element.flags);
+    let flags = flags_by_form(w.b, element.flags);
     valid_type_rows::put(
         rows,
         i,
-        size,
-        own,
-        flags,
-        uniform,
-        storage,
-        element.immediates,
+        Row {
+            size: layout.size,
+            alignment: layout.alignment,
+            flags,
+            uniform,
+            storage,
+            immediates: element.immediates,
+        },
     );
     Ok(())
 }
 
-// The same of an array.
-pub fn array_row(
-    least: u32,
-    rows: &mut [u32],
-    i: u32,
-    base: u32,
-    form: u32,
-    count: u32,
-    stride: u32,
-    e: u32,
-) -> Result<(), TypeRefusal>
+// The same of an array, with numbers 2 to 7 before it.
+pub fn array_row(least: u32, rows: &mut [u32], i: u32, w: Words) -> Result<(), TypeRefusal>
     requires { i * 14 + 14 ≤ length rows.old }
-    ensures { (c m n : ℕ) (inner : ℕ → inner.TypeInner) (members : List ℕ) → Settled result (i * 14) rows.old rows.new (words_row least c m n inner (take (i * 14) rows.old) i array_kind base form count stride e members) }
+    ensures { (c m n : ℕ) (inner : ℕ → inner.TypeInner) (members : List ℕ) → Settled result (i * 14) rows.old rows.new (words_row least c m n inner (take (i * 14) rows.old) i array_kind w.a w.b w.c w.d w.e members) }
 {
     let at = (i as usize) * ir_records::ROW_WORDS;
-    let layout = proc_type_layout::array_record(&rows[..at], i, base, form, count, stride, e)?;
-    array_over(
-        least,
-        rows,
-        i,
-        base,
-        form,
-        stride,
-        layout.size,
-        layout.alignment,
-    )
+    let layout = proc_type_layout::array_record(&rows[..at], i, w)?;
+    array_over(least, rows, i, w, layout)
 }

@@ -1,13 +1,16 @@
 // check_width of naga's valid/type.rs, and the widths of atomics.
+// Kept: `capabilities`, `kind`, `width`: kind and width are two words of a record, at places that differ by its kind; as a struct they would be put
+// together at each call for one test of each.
 #![tactic(auto)]
 
 ghost use Rattle.std.specs.Prelude.{◌≡◌, ◌+◌, ◌≤◌};
 ghost use Rattle.valid_width.specs.Width.{allowed_with, allowed_only, integer_width, integer_atomic, float_width, check_width, atomic_width, immediates_word};
 ghost use Rattle.ir_records.specs.Refusal.{judged, number_of};
 
-use ir_records::{Fault, TypeRefusal};
+use ir_records::{Fault, ScalarKind, TypeRefusal};
 
 // 01's capability bits.
+// Kept: numbers, as the caller's word and the detail of number 8 have them.
 pub const FLOAT64: u32 = 0;
 
 pub const SHADER_FLOAT16: u32 = 1;
@@ -36,12 +39,12 @@ pub const RAY_HIT_VERTEX_POSITION: u32 = 12;
 
 pub const DUAL_SOURCE_BLENDING: u32 = 13;
 
-// Scalar kinds.
-pub const UINT: u32 = 1;
+// The scalar kinds that are tested for one at a time.
+pub const UINT: u32 = ScalarKind::Uint as u32;
 
-pub const FLOAT: u32 = 2;
+pub const FLOAT: u32 = ScalarKind::Float as u32;
 
-pub const BOOL: u32 = 3;
+pub const BOOL: u32 = ScalarKind::Bool as u32;
 
 // Allowed where the capability is there, else number 8 with its bit.
 fn with_capability(capable: bool, bit: u32) -> Result<(), TypeRefusal>

@@ -12,8 +12,9 @@ use Rattle.ir_records.proofs.ResultLaws.{true_T, T_true}
 use Rattle.proc_alignment.specs.Alignment.{is_aligned, round_up}
 use Rattle.proc_alignment.proofs.PowerLaws.{aligned_divides}
 use Rattle.valid_type_info.specs.declared.Verdict.{Verdict}
-use Rattle.valid_type_info.specs.declared.Previous.{Previous}
-use Rattle.valid_type_info.specs.declared.Previous.TheVariants.{NoStruct, StructBefore}
+use Rattle.std.specs.Prelude.{Option}
+use Rattle.valid_type_info.specs.declared.PreviousStruct.{PreviousStruct}
+use Rattle.std.specs.Prelude.{None, Some}
 use Rattle.valid_type_info.specs.Verdict.{min_uniform, ok_verdict, array_stride, struct_span, member_offset_off, member_offset_after_struct, unsized_member, is_ok, alignment_in, unless_ok, stride_verdict, array_verdict, share_verdict, offset_verdict, member_verdict, distance_verdict, unsized_verdict, span_verdict}
 
 -- v is Ok exactly where P holds, and its alignment is then a
@@ -105,23 +106,25 @@ judged_member P Q i j offset a b v w x y =
     (λ u. rw (x.align t, y.align u) (judged_offset i j offset a b)))
 
 -- what the distance rule asks
-abbrev pub DistanceKept : (offset : ℕ) → Previous → Type 0
-DistanceKept offset NoStruct = Unit {0}
-DistanceKept offset (StructBefore span at) = round_up min_uniform span ≤ offset - at
+abbrev pub DistanceKept : (offset : ℕ) → Option PreviousStruct → Type 0
+DistanceKept offset None = Unit {0}
+DistanceKept offset (Some before) = round_up min_uniform before.span ≤ offset - before.offset
 
 -- the test of an order holds exactly where the order does
 order_iff : (m n : ℕ) → T (leb m n) ↔ (m ≤ n)
 order_iff m n = (leb→le m n, λ h. true_T (le-leb m n h))
 
 -- the distance rule of the older uniform rule
-pub judged_distance : (P : Type 0) (i j offset a : ℕ) (previous : Previous) (v : Verdict) → Judged P a v
+pub judged_distance : (P : Type 0) (i j offset a : ℕ) (previous : Option PreviousStruct) (v : Verdict) → Judged P a v
     → Judged (P × DistanceKept offset previous) a (distance_verdict min_uniform i j offset previous v)
 unfolding distance_verdict
-judged_distance P i j offset a NoStruct v x = record { passes = λ p. x.passes p.0; holds = λ t. (x.holds t, tt); align = x.align }
-judged_distance P i j offset a (StructBefore span at) v x =
+judged_distance P i j offset a None v x = record { passes = λ p. x.passes p.0; holds = λ t. (x.holds t, tt); align = x.align }
+judged_distance P i j offset a (Some before) v x =
+    let span = before.span in
+    let at = before.offset in
     let same = order_iff (round_up min_uniform span) (offset - at) in
     judged_same (P × T (leb (round_up min_uniform span) (offset - at))) (P × (round_up min_uniform span ≤ offset - at)) a a
-    (distance_verdict min_uniform i j offset (StructBefore span at) v) (λ p. (p.0, same.0 p.1), λ p. (p.0, same.1 p.1)) refl
+    (distance_verdict min_uniform i j offset (Some before) v) (λ p. (p.0, same.0 p.1), λ p. (p.0, same.1 p.1)) refl
     (judged_guard (leb (round_up min_uniform span) (offset - at)) P a v (member_offset_after_struct i j offset (at + round_up min_uniform span)) refl x)
 
 -- a member that is not sized

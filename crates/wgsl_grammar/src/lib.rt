@@ -4,7 +4,7 @@
 ghost use Rattle.std.specs.Prelude.{◌≡◌};
 ghost use Rattle.wgsl_tokens.specs.Tokens.{from};
 ghost use Rattle.wgsl_grammar.specs.Grammar.{expect, skipping, name_of, number_of};
-ghost use Rattle.wgsl_grammar.specs.Serving.{next_read, NameRead, number_read};
+ghost use Rattle.wgsl_grammar.specs.Serving.{fault_of, refusal_of, next_read, NameRead, number_read};
 
 use ir_records::Fault;
 use program_words::Span;
@@ -36,6 +36,7 @@ pub enum Problem {
 }
 
 /// What was wrong at a place: a mark that was expected is not there, or another problem.
+// Kept: no variant says that there is nothing. As a variant of `Problem` the mark would take from it that a problem's line is its number.
 #[derive(Clone, Copy, Debug, PartialEq, Eq)]
 pub enum Why {
     Mark(u8),
@@ -58,28 +59,48 @@ pub struct Number {
     pub at: usize,
 }
 
+// The fault that a problem is.
+fn fault_of(problem: Problem) -> Fault
+    ensures { result ≡ fault_of problem }
+{
+    match problem {
+        Problem::UnknownType | Problem::RepeatedType | Problem::RepeatedMember => Fault::Name,
+        Problem::LargeNumber
+        | Problem::ZeroCount
+        | Problem::LargeArray
+        | Problem::Align
+        | Problem::Size
+        | Problem::LargeStruct => Fault::Attribute,
+        Problem::TypesFull | Problem::MembersFull => Fault::TableLength,
+        _ => Fault::Grammar,
+    }
+}
+
+impl Refusal {
+    /// The refusal for a problem at a position.
+    pub fn of(problem: Problem, at: usize) -> Refusal
+        ensures { result ≡ refusal_of problem at }
+    {
+        Refusal {
+            fault: fault_of(problem),
+            at,
+            why: Why::Other(problem),
+        }
+    }
+}
+
 // Kept: the text and a position are two parameters, since a function reads at several positions of one text: a struct would be made anew for each.
 /// The position after a mark that must stand here.
 pub fn expect(s: &[u8], at: usize, byte: u8) -> Result<usize, Refusal>
     ensures { expect byte (from s.now at) ≡ next_read s.now result }
 {
-    let missing = Refusal {
-        fault: Fault::Grammar,
-        at,
-        why: Why::Mark(byte),
-    };
     match wgsl_tokens::next_token(s, at) {
-        Lexed::Mark { byte: c, end } => {
-            if c == byte {
-                return Ok(end);
-            }
-            Err(missing)
-        }
-        Lexed::Word { start: _, end: _ } => Err(missing),
-        Lexed::Number { value: _, end: _ } => Err(missing),
-        Lexed::Large(_) => Err(missing),
-        Lexed::Bad => Err(missing),
-        Lexed::End => Err(missing),
+        Lexed::Mark { byte: c, end } if c == byte => Ok(end),
+        _ => Err(Refusal {
+            fault: Fault::Grammar,
+            at,
+            why: Why::Mark(byte),
+        }),
     }
 }
 
@@ -87,42 +108,18 @@ pub fn expect(s: &[u8], at: usize, byte: u8) -> Result<usize, Refusal>
 pub fn skipping(s: &[u8], at: usize, byte: u8) -> usize
     ensures { from s.now result ≡ skipping byte (from s.now at) }
 {
-    match wgsl_tokens::next_token(s, at) {
-        Lexed::Mark { byte: c, end } => {
-            if c == byte {
-                return end;
-            }
-            at
-        }
-        Lexed::Word { start: _, end: _ } => at,
-        Lexed::Number { value: _, end: _ } => at,
-        Lexed::Large(_) => at,
-        Lexed::Bad => at,
-        Lexed::End => at,
-    }
+    expect(s, at, byte).unwrap_or(at)
 }
 
 /// A word that is no keyword; the text goes on at its end.
 pub fn name_at(s: &[u8], at: usize) -> Result<Span, Refusal>
     ensures { NameRead s.now at result }
 {
-    let missing = Refusal {
-        fault: Fault::Grammar,
-        at,
-        why: Why::Other(Problem::NoName),
-    };
     match wgsl_tokens::next_token(s, at) {
-        Lexed::Word { start, end } => {
-            if wgsl_names::is_keyword(&s[start..end]) {
-                return Err(missing);
-            }
+        Lexed::Word { start, end } if !wgsl_names::is_keyword(&s[start..end]) => {
             Ok(Span { start, end })
         }
-        Lexed::Number { value: _, end: _ } => Err(missing),
-        Lexed::Large(_) => Err(missing),
-        Lexed::Mark { byte: _, end: _ } => Err(missing),
-        Lexed::Bad => Err(missing),
-        Lexed::End => Err(missing),
+        _ => Err(Refusal::of(Problem::NoName, at)),
     }
 }
 
@@ -130,21 +127,9 @@ pub fn name_at(s: &[u8], at: usize) -> Result<Span, Refusal>
 pub fn number_at(s: &[u8], at: usize) -> Result<Number, Refusal>
     ensures { number_of (from s.now at) ≡ number_read s.now result }
 {
-    let missing = Refusal {
-        fault: Fault::Grammar,
-        at,
-        why: Why::Other(Problem::NoNumber),
-    };
     match wgsl_tokens::next_token(s, at) {
         Lexed::Number { value, end } => Ok(Number { value, at: end }),
-        Lexed::Large(_) => Err(Refusal {
-            fault: Fault::Attribute,
-            at,
-            why: Why::Other(Problem::LargeNumber),
-        }),
-        Lexed::Word { start: _, end: _ } => Err(missing),
-        Lexed::Mark { byte: _, end: _ } => Err(missing),
-        Lexed::Bad => Err(missing),
-        Lexed::End => Err(missing),
+        Lexed::Large(_) => Err(Refusal::of(Problem::LargeNumber, at)),
+        _ => Err(Refusal::of(Problem::NoNumber, at)),
     }
 }

@@ -2,24 +2,30 @@
 #![tactic(auto)]
 
 ghost use Rattle.std.specs.Prelude.{List, ℕ};
-ghost use Rattle.program_output.specs.Bytes.{Puts};
+ghost use Rattle.program_output.specs.Bytes.{Adds};
 ghost use Rattle.wgsl_lines.specs.Lines.{Answers};
 
 use ir_records::Refusal;
-use program_output::Buffer;
+use program_output::Output;
 
-pub fn put_answer(out: &mut Buffer, at: usize, text: &[u8]) -> usize
-    ensures { (bytes : List ℕ) × Answers text.now bytes × Puts out.old at bytes out.new result }
+pub fn put_answer(out: &mut Output, text: &[u8])
+    ensures { (bytes : List ℕ) × Answers text.now bytes × Adds out.old bytes out.new }
 {
     let mut types = [0u32; 6144];
     let mut members = [0u32; 16384];
     match wgsl_read::read_at(text, &mut types, &mut members) {
-        Ok(made) => {
-            program_record_lines::put_records(out, at, &types, made.types, &members, made.members)
-        }
+        Ok(made) => program_record_lines::put_records(out, &types, &members, made),
         Err(refusal) => {
-            let end = program_output::put_refusal(out, at, Refusal::of(refusal.fault));
-            wgsl_messages::put_message(out, end, text, refusal)
+            out.put_refusal(Refusal::of(refusal.fault));
+            wgsl_messages::put_message(out, text, refusal);
         }
     }
+}
+
+/// Writes the answer to a text to standard output.
+// Kept: `answer` of from_spirv is alike in form alone: what it puts is the answer to a module.
+pub fn answer(text: &[u8]) {
+    let mut out = Output::new();
+    put_answer(&mut out, text);
+    out.write_out();
 }

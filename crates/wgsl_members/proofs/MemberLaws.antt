@@ -1,22 +1,21 @@
 -- Laws of the reading of members: attributes one by one, a member placed in the tables, and what is kept. Assumes nothing.
 use mathlib.Core.Path.{◌≡◌, refl, sym, ap}
-use mathlib.Core.Bool.{Bool, true, false, ◌&&◌}
+use mathlib.Core.Bool.{◌&&◌}
 use mathlib.Core.List.{List, [], ◌∷◌}
 use Prim.Native.Nat.{ℕ, suc, ◌+◌, ◌-◌, ◌*◌, ◌≤◌, ◌<◌, max, min}
 use native.Mathlib.Omega.{arith}
-use lib.ListN.{length, set, drop}
-use Rattle.ir_records.specs.Result.{pick}
+use lib.ListN.{length, set, take, drop}
+use Rattle.std.proofs.lemmas.List.{take_more_set}
 use Rattle.ir_records.specs.Record.{type_words, member_words}
 use Rattle.ir_rows.specs.Rows.{with_part}
 use Rattle.proc_alignment.specs.Alignment.{round_up, most}
-use Rattle.program_words.specs.Words.{part}
 use Rattle.program_words.specs.declared.Span.{Span}
 use Rattle.wgsl_tokens.specs.Tokens.{Token, from}
-use Rattle.wgsl_grammar.specs.Grammar.{refused, read, and_then, demand, expect}
+use Rattle.wgsl_grammar.specs.Grammar.{read, and_then, expect}
 use Rattle.wgsl_placement.specs.declared.Shape.{Shape}
 use Rattle.wgsl_tables.specs.Tables.{records_in, name_in}
-use Rattle.wgsl_tables.proofs.TableLaws.{one_name, one_record, name_within}
-use Rattle.wgsl_members.specs.Members.{attribute_of, after_at, attributes_of, align_of_member, size_of_member, Rooms, Members, with_member}
+use Rattle.wgsl_tables.proofs.TableLaws.{one_name, one_record}
+use Rattle.wgsl_members.specs.Members.{attribute_of, after_at, attributes_of, align_of_member, size_of_member, Rooms, with_member}
 use Rattle.wgsl_members.specs.Serving.{Tables, tables, members_in, Bounds, Kept, PlacedIn}
 use Rattle.wgsl_members.specs.declared.Attributes.{Attributes}
 use Rattle.wgsl_members.specs.declared.Body.{Body}
@@ -28,13 +27,8 @@ pub attributes_step : (turns turn : ℕ) (a : Attributes) (ts : List Token) → 
 unfolding attributes_of
 attributes_step turns turn a ts h = let one : turns - turn ≡ suc (turns - (turn + 1)) = omega arith in ap (λ (k : ℕ). attributes_of k a ts) one
 
--- ---- a type that closes with no room
-pub full_number : (b : Bool) → demand {A = Members} b 33 (refused 1) ≡ refused (pick b 1 33)
-full_number true = refl
-full_number false = refl
-
 -- ---- a member in its place
-module _ (s words names members : List ℕ) (b : Body) (a : Attributes) (e : Shape) (types : ℕ) (name : Span) (at : ℕ) where
+module _ (s words : List ℕ) (names : List Span) (members : List ℕ) (b : Body) (a : Attributes) (e : Shape) (types : ℕ) (name : Span) (at : ℕ) where
   abbrev pub offset : ℕ
   offset = round_up (align_of_member a e) b.end
 
@@ -50,13 +44,14 @@ module _ (s words names members : List ℕ) (b : Body) (a : Attributes) (e : Sha
         at = at;
       }
 
-  pub place_is : b.names * 2 + 2 ≤ length names → b.members * member_words + member_words ≤ length members
-      → members_in s (tables (set (set names (b.names * 2) name.start) (b.names * 2 + 1) name.end) words (with_part member_words members (b.members * member_words) (e.number ∷ min offset most ∷ 0 ∷ 0 ∷ []))) placed_body
+  pub place_is : b.names < length names → b.members * member_words + member_words ≤ length members
+      → members_in s (tables (set names b.names name) words (with_part member_words members (b.members * member_words) (e.number ∷ min offset most ∷ 0 ∷ 0 ∷ []))) placed_body
       ≡ with_member (members_in s (tables names words members) b) a (name_in s name.start name.end) e (records_in type_words words types) (from s at)
   unfolding with_member
   place_is named room =
       rw (
-        one_name s names b.names name.start name.end named,
+        take_more_set names b.names name named,
+        one_name s (take b.names names) name,
         one_record member_words members (e.number ∷ min offset most ∷ 0 ∷ 0 ∷ []) b.members refl room,
       )
 
@@ -88,7 +83,6 @@ module _ (s : List ℕ) (r : Rooms) (was is : Tables) (b after : Body) (a : Attr
         members = placed.behind;
       }
 
-  pub placed_read : name.start ≤ name.end → name.end ≤ length s
-      → with_member (members_in s was b) a (part s name.start name.end) e (records_in type_words is.types made) (from s at) ≡ members_in s is after
+  pub placed_read : with_member (members_in s was b) a (name_in s name.start name.end) e (records_in type_words is.types made) (from s at) ≡ members_in s is after
   unfolding with_member
-  placed_read ordered inside = rw (← name_within s name.start name.end ordered inside) (sym (placed.is s is.types))
+  placed_read = sym (placed.is s is.types)

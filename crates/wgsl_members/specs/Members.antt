@@ -11,6 +11,7 @@ use Rattle.wgsl_types.specs.Types.{most_depth, Closing, stopped, full, closed, t
 use Rattle.wgsl_members.specs.declared.Given.{Given}
 use Rattle.wgsl_members.specs.declared.Given.TheVariants.{Absent, Once, Twice}
 use Rattle.wgsl_members.specs.declared.Attributes.{Attributes}
+use Rattle.wgsl_members.specs.declared.Room.{Room}
 
 -- ---- attributes
 abbrev pub attributes : (align size : Given) → Attributes
@@ -94,9 +95,8 @@ pub record Members : Type 0 where
   pub rest : List Token
 
 -- how many type and member records there may be
-pub record Rooms : Type 0 where
-  pub types : ℕ
-  pub members : ℕ
+abbrev pub Rooms : Type 0
+Rooms = Room
 
 -- AlignOfMember(S, i): k where the member has @align(k), else AlignOf of its type
 abbrev pub align_of_member : Attributes → Shape → ℕ

@@ -2,7 +2,7 @@
 -- What the functions over positions answer, as the readings of the tokens from there on. The members read so far, by the code's numbers and the words
 -- of its tables.
 -- Assumes nothing.
-use Rattle.std.specs.Prelude.{◌≡◌, List, ℕ, ◌+◌, ◌*◌, ◌≤◌, ◌<◌, length, drop, Result, Ok, Err}
+use Rattle.std.specs.Prelude.{◌≡◌, List, ℕ, ◌+◌, ◌*◌, ◌≤◌, ◌<◌, length, take, drop, Result, Ok, Err}
 use Rattle.ir_records.specs.Record.{type_words, member_words}
 use Rattle.ir_records.specs.Refusal.{number_of}
 use Rattle.program_words.specs.declared.Span.{Span}
@@ -21,22 +21,19 @@ abbrev pub attributes_read : List ℕ → Result AttributesAt Refusal → Readin
 attributes_read s (Ok a) = read (record { given = a.attributes; rest = from s a.at })
 attributes_read s (Err r) = refused (number_of r.fault)
 
-abbrev pub rooms : (types members : ℕ) → Rooms
-rooms types members = record { types = types; members = members }
-
--- the words of the three tables that a member fills
+-- the three tables that a member fills
 pub record Tables : Type 0 where
-  pub names : List ℕ
+  pub names : List Span
   pub types : List ℕ
   pub members : List ℕ
 
-abbrev pub tables : (names types members : List ℕ) → Tables
+abbrev pub tables : List Span → (types members : List ℕ) → Tables
 tables names types members = record { names = names; types = types; members = members }
 
 abbrev pub members_in : List ℕ → Tables → Body → Members
 members_in s t b =
     record {
-      names = names_in s t.names b.names;
+      names = names_in s (take b.names t.names);
       end = b.end;
       align = b.align;
       fixed = b.fixed;
@@ -52,7 +49,7 @@ pub record Bounds (r : Rooms) (t : Tables) (b : Body) : Type 0 where
   pub room : r.members ≤ 4096
   pub words : r.members * member_words ≤ length t.members
   pub fewer : b.names ≤ b.members
-  pub named : 8192 ≤ length t.names
+  pub named : 4096 ≤ length t.names
   pub end : b.end ≤ b.names * 8589934592
 
 -- behind the records nothing changes
@@ -67,15 +64,15 @@ MemberRead s r was is before m (Ok after) = (m ≡ read (members_in s is after))
 MemberRead s r was is before m (Err x) = m ≡ refused (number_of x.fault)
 
 -- ---- one more member, in the tables of names and of member records
-pub record Placeable (names members : List ℕ) (b : Body) : Type 0 where
+pub record Placeable (names : List Span) (members : List ℕ) (b : Body) : Type 0 where
   pub named : b.names < 4096
   pub made : b.members < 4096
-  pub name_room : 8192 ≤ length names
+  pub name_room : 4096 ≤ length names
   pub room : b.members * member_words + member_words ≤ length members
   pub end : b.end ≤ b.names * 8589934592
 
 -- whatever the text and the type words are
-pub record PlacedIn (names names-now members members-now : List ℕ) (b : Body) (a : Attributes) (e : Shape) (types : ℕ) (name : Span) (at : ℕ) (r : Body) : Type 0 where
+pub record PlacedIn (names names-now : List Span) (members members-now : List ℕ) (b : Body) (a : Attributes) (e : Shape) (types : ℕ) (name : Span) (at : ℕ) (r : Body) : Type 0 where
   pub is : (s words : List ℕ) → members_in s (tables names-now words members-now) r ≡ with_member (members_in s (tables names words members) b) a (name_in s name.start name.end) e (records_in type_words words types) (from s at)
   pub types_made : r.types ≡ types
   pub members_made : r.members ≡ b.members + 1

@@ -1,22 +1,21 @@
 // A member of a struct in WGSL text: attributes, a name, a type; and where it is placed.
 #![tactic(auto)]
 
-ghost use Rattle.std.specs.Prelude.{◌≡◌, ◌&&◌, ltb, ◌*◌, ◌≤◌, min, length};
+ghost use Rattle.std.specs.Prelude.{◌≡◌, ◌&&◌, ltb, min, length};
 ghost use Rattle.proc_alignment.specs.Alignment.{is_mask};
 ghost use Rattle.ir_records.specs.Result.{pick};
 ghost use Rattle.ir_records.specs.Refusal.{number_of};
-ghost use Rattle.program_words.specs.Words.{part};
 ghost use Rattle.wgsl_tokens.specs.Tokens.{from};
 ghost use Rattle.wgsl_grammar.specs.Serving.{number_read};
-ghost use Rattle.wgsl_tables.specs.Tables.{structs_in};
-ghost use Rattle.wgsl_members.specs.Members.{attributes, again, value_of, attribute_named, attribute_of, attributes_of, align_fits, size_fits, attributes_fit, given_or, typed_member, named_member, member_of};
-ghost use Rattle.wgsl_members.specs.Serving.{attributes_read, rooms, tables, members_in, Bounds, MemberRead, Placeable, PlacedIn};
+ghost use Rattle.wgsl_tables.specs.Tables.{name_in, structs_in};
+ghost use Rattle.wgsl_members.specs.Members.{attributes, again, value_of, attribute_of, attributes_of, align_fits, size_fits, attributes_fit, given_or, typed_member, named_member, member_of};
+ghost use Rattle.wgsl_members.specs.Serving.{attributes_read, tables, members_in, Bounds, MemberRead, Placeable, PlacedIn};
 
-use ir_records::Fault;
 use program_words::Span;
-use wgsl_grammar::{Number, Problem, Refusal, Why};
+use wgsl_grammar::{Number, Problem, Refusal};
 use wgsl_placement::Shape;
-use wgsl_types::{Closed, Structs};
+use wgsl_tables::NamedShape;
+use wgsl_types::Unclosed;
 
 /// How many type and member records there may be.
 #[derive(Clone, Copy, Debug, PartialEq, Eq)]
@@ -26,21 +25,21 @@ pub struct Room {
 }
 
 // How often an attribute was given.
-#[derive(Clone, Copy)]
+#[derive(Clone, Copy, Debug, PartialEq, Eq)]
 pub enum Given {
     Absent,
     Once(u32),
     Twice,
 }
 
-#[derive(Clone, Copy)]
+#[derive(Clone, Copy, Debug, PartialEq, Eq)]
 pub struct Attributes {
     pub align: Given,
     pub size: Given,
 }
 
 // The attributes of a member, and where the text goes on after them.
-#[derive(Clone, Copy)]
+#[derive(Clone, Copy, Debug, PartialEq, Eq)]
 pub struct AttributesAt {
     pub attributes: Attributes,
     pub at: usize,
@@ -48,7 +47,7 @@ pub struct AttributesAt {
 
 // The members of a struct read so far: how many names, the end of the last one, the struct's alignment, whether its footprint is fixed, how many
 // type and member records there are, and where the text goes on.
-#[derive(Clone, Copy)]
+#[derive(Clone, Copy, Debug, PartialEq, Eq)]
 pub struct Body {
     pub names: u32,
     pub end: u64,
@@ -61,9 +60,8 @@ pub struct Body {
 
 const MOST_DEPTH: u32 = 32;
 
-const MOST: u64 = 4294967295;
-
 // `(`, a number, perhaps a comma, `)`.
+#[tactic(auto, unfolding(crate::specs::Members::value_of))]
 fn value_at(s: &[u8], at: usize) -> Result<Number, Refusal>
     ensures { number_read s.now result ≡ value_of (from s.now at) }
 {
@@ -87,51 +85,36 @@ fn again(given: Given, k: u32) -> Given
     }
 }
 
-// The value of an attribute, by its name.
-fn attribute_named(
-    s: &[u8],
-    aligned: bool,
-    sized: bool,
-    given: Attributes,
-    at: usize,
-    name: usize,
-) -> Result<AttributesAt, Refusal>
-    ensures { attributes_read s.now result ≡ attribute_named aligned sized given (from s.now at) }
-{
-    let align = given.align;
-    let size = given.size;
-    if aligned {
-        let number = value_at(s, at)?;
-        let more = again(align, number.value);
-        return Ok(AttributesAt {
-            attributes: Attributes { align: more, size },
-            at: number.at,
-        });
-    }
-    if sized {
-        let number = value_at(s, at)?;
-        let more = again(size, number.value);
-        return Ok(AttributesAt {
-            attributes: Attributes { align, size: more },
-            at: number.at,
-        });
-    }
-    Err(Refusal {
-        fault: Fault::Grammar,
-        at: name,
-        why: Why::Other(Problem::NoAttribute),
-    })
-}
-
 // An attribute after its `@`.
+#[tactic(auto, unfolding(crate::specs::Members::attribute_of))]
 fn attribute_at(s: &[u8], given: Attributes, at: usize) -> Result<AttributesAt, Refusal>
     ensures { attributes_read s.now result ≡ attribute_of given (from s.now at) }
 {
     let name = wgsl_grammar::name_at(s, at)?;
     let w = &s[name.start..name.end];
-    let aligned = wgsl_names::same(w, b"align");
-    let sized = wgsl_names::same(w, b"size");
-    attribute_named(s, aligned, sized, given, name.end, at)
+    if wgsl_names::same(w, b"align") {
+        let number = value_at(s, name.end)?;
+        let attributes = Attributes {
+            align: again(given.align, number.value),
+            ..given
+        };
+        return Ok(AttributesAt {
+            attributes,
+            at: number.at,
+        });
+    }
+    if wgsl_names::same(w, b"size") {
+        let number = value_at(s, name.end)?;
+        let attributes = Attributes {
+            size: again(given.size, number.value),
+            ..given
+        };
+        return Ok(AttributesAt {
+            attributes,
+            at: number.at,
+        });
+    }
+    Err(Refusal::of(Problem::NoAttribute, at))
 }
 
 // Any number of attributes.
@@ -170,6 +153,7 @@ fn align_fits(given: Given, e: Shape) -> bool
     }
 }
 
+// Kept: `is_power_of_two` counts digits, and no law of the library ties their count to the definition's test.
 fn is_power(k: u32) -> bool
     ensures { result ≡ (ltb 0 k && is_mask k) }
 {
@@ -203,16 +187,12 @@ fn given_or(given: Given, own: u32) -> u32
 fn written(offset: u64) -> u32
     ensures { result ≡ min offset 4294967295 }
 {
-    if offset < MOST {
-        offset as u32
-    } else {
-        4294967295
-    }
+    u32::try_from(offset).unwrap_or(u32::MAX)
 }
 
 // The end, the alignment and the records' numbers after one more member, whose name and record are written.
 fn place_member(
-    names: &mut [usize],
+    names: &mut [Span],
     members: &mut [u32],
     body: Body,
     attributes: Attributes,
@@ -224,18 +204,15 @@ fn place_member(
     requires { Placeable names.old members.old body }
     ensures { PlacedIn names.old names.new members.old members.new body attributes shape types name at result }
 {
-    let given_align = attributes.align;
-    let given_size = attributes.size;
-    let align = given_or(given_align, shape.align);
-    let size = given_or(given_size, shape.size);
-    let before = body.end;
-    let offset = wgsl_placement::round_up(align, before);
+    let align = given_or(attributes.align, shape.align);
+    let size = given_or(attributes.size, shape.size);
+    let offset = wgsl_placement::round_up(align, body.end);
     wgsl_tables::put_member(members, body.members, shape.number, written(offset));
-    wgsl_tables::put_name(names, body.names, name);
+    names[body.names as usize] = name;
     Body {
         names: body.names + 1,
-        end: offset + (size as u64),
-        align: proc_alignment::larger(body.align, align),
+        end: offset + u64::from(size),
+        align: body.align.max(align),
         fixed: body.fixed & shape.fixed,
         types,
         members: body.members + 1,
@@ -247,27 +224,17 @@ fn place_member(
 fn misfit(attributes: Attributes, shape: Shape, close: usize) -> Refusal
     ensures { number_of result.fault ≡ 33 }
 {
-    let align = attributes.align;
-    if align_fits(align, shape) {
-        return Refusal {
-            fault: Fault::Attribute,
-            at: close,
-            why: Why::Other(Problem::Size),
-        };
-    }
-    Refusal {
-        fault: Fault::Attribute,
-        at: close,
-        why: Why::Other(Problem::Align),
+    if align_fits(attributes.align, shape) {
+        Refusal::of(Problem::Size, close)
+    } else {
+        Refusal::of(Problem::Align, close)
     }
 }
 
 fn attributes_fit(attributes: Attributes, shape: Shape) -> bool
     ensures { result ≡ attributes_fit attributes shape }
 {
-    let align = attributes.align;
-    let size = attributes.size;
-    align_fits(align, shape) & size_fits(size, shape)
+    align_fits(attributes.align, shape) & size_fits(attributes.size, shape)
 }
 
 // A type that closes with no room for its record: the attributes are tested first.
@@ -275,20 +242,20 @@ fn full_refusal(attributes: Attributes, shape: Shape, close: usize) -> Refusal
     ensures { number_of result.fault ≡ pick (attributes_fit attributes shape) 1 33 }
 {
     if attributes_fit(attributes, shape) {
-        return Refusal {
-            fault: Fault::TableLength,
-            at: close,
-            why: Why::Other(Problem::TypesFull),
-        };
+        Refusal::of(Problem::TypesFull, close)
+    } else {
+        misfit(attributes, shape, close)
     }
-    misfit(attributes, shape, close)
 }
 
 // A member from its type on.
+// Kept: here and in wgsl_structs the tables that are filled are parameters, and contracts put them together as `tables` and `declarations`: a struct of
+// them would hold three `&mut`, and each function that takes it would have to ensure that it still holds the same three.
+#[tactic(auto, unfolding(crate::specs::Members::typed_member))]
 fn typed_member(
     s: &[u8],
-    structs: Structs,
-    names: &mut [usize],
+    structs: &[NamedShape],
+    names: &mut [Span],
     types: &mut [u32],
     members: &mut [u32],
     room: Room,
@@ -297,38 +264,39 @@ fn typed_member(
     name: Span,
     at: usize,
 ) -> Result<Body, Refusal>
-    requires { (structs.count * 2 ≤ length structs.names.now) × (structs.count * 4 ≤ length structs.shapes.now) × (name.start ≤ name.end) × (name.end ≤ length s.now) × Bounds (rooms room.types room.members) (tables names.old types.old members.old) body }
-    ensures { MemberRead s.now (rooms room.types room.members) (tables names.old types.old members.old) (tables names.new types.new members.new) body (typed_member (rooms room.types room.members) (structs_in s.now structs.entry.names.now structs.entry.shapes.now structs.entry.count) (members_in s.now (tables names.old types.old members.old) body) attributes (part s.now name.start name.end) (from s.now at)) result }
+    requires { Bounds room (tables names.old types.old members.old) body }
+    ensures { MemberRead s.now room (tables names.old types.old members.old) (tables names.new types.new members.new) body (typed_member room (structs_in s.now structs.now) (members_in s.now (tables names.old types.old members.old) body) attributes (name_in s.now name.start name.end) (from s.now at)) result }
 {
-    let closed = wgsl_types::read_type(s, structs, types, room.types, body.types, at, MOST_DEPTH)?;
-    match closed {
-        Closed::Full { shape, close } => Err(full_refusal(attributes, shape, close)),
-        Closed::Whole {
-            shape,
-            made,
-            at: next,
-            close,
-        } => {
-            if !attributes_fit(attributes, shape) {
-                return Err(misfit(attributes, shape, close));
-            }
-            if room.members <= body.members {
-                return Err(Refusal {
-                    fault: Fault::TableLength,
-                    at: close,
-                    why: Why::Other(Problem::MembersFull),
-                });
-            }
-            Ok(place_member(names, members, body, attributes, shape, made, name, next))
-        }
+    let read = wgsl_types::read_type(s, structs, types, room.types, body.types, at, MOST_DEPTH);
+    let closed = match read {
+        Ok(closed) => closed,
+        Err(Unclosed::Refused(refusal)) => return Err(refusal),
+        Err(Unclosed::Full { shape, close }) => return Err(full_refusal(attributes, shape, close)),
+    };
+    if !attributes_fit(attributes, closed.shape) {
+        return Err(misfit(attributes, closed.shape, closed.close));
     }
+    if room.members <= body.members {
+        return Err(Refusal::of(Problem::MembersFull, closed.close));
+    }
+    Ok(place_member(
+        names,
+        members,
+        body,
+        attributes,
+        closed.shape,
+        closed.made,
+        name,
+        closed.at,
+    ))
 }
 
 // A member from its name on.
+#[tactic(auto, unfolding(crate::specs::Members::named_member))]
 fn named_member(
     s: &[u8],
-    structs: Structs,
-    names: &mut [usize],
+    structs: &[NamedShape],
+    names: &mut [Span],
     types: &mut [u32],
     members: &mut [u32],
     room: Room,
@@ -336,42 +304,44 @@ fn named_member(
     attributes: Attributes,
     at: usize,
 ) -> Result<Body, Refusal>
-    requires { (structs.count * 2 ≤ length structs.names.now) × (structs.count * 4 ≤ length structs.shapes.now) × Bounds (rooms room.types room.members) (tables names.old types.old members.old) body }
-    ensures { MemberRead s.now (rooms room.types room.members) (tables names.old types.old members.old) (tables names.new types.new members.new) body (named_member (rooms room.types room.members) (structs_in s.now structs.entry.names.now structs.entry.shapes.now structs.entry.count) (members_in s.now (tables names.old types.old members.old) body) attributes (from s.now at)) result }
+    requires { Bounds room (tables names.old types.old members.old) body }
+    ensures { MemberRead s.now room (tables names.old types.old members.old) (tables names.new types.new members.new) body (named_member room (structs_in s.now structs.now) (members_in s.now (tables names.old types.old members.old) body) attributes (from s.now at)) result }
 {
     let name = wgsl_grammar::name_at(s, at)?;
-    match wgsl_tables::entry_of(s, &s[name.start..name.end], names, body.names) {
-        Some(_) => Err(Refusal {
-            fault: Fault::Name,
-            at,
-            why: Why::Other(Problem::RepeatedMember),
-        }),
-        None => {
-            let next = wgsl_grammar::expect(s, name.end, b':')?;
-            typed_member(
-                s, structs, names, types, members, room, body, attributes, name, next,
-            )
-        }
+    let w = &s[name.start..name.end];
+    if wgsl_tables::is_one_of(s, w, &names[..body.names as usize]) {
+        return Err(Refusal::of(Problem::RepeatedMember, at));
     }
+    let next = wgsl_grammar::expect(s, name.end, b':')?;
+    typed_member(
+        s, structs, names, types, members, room, body, attributes, name, next,
+    )
 }
 
 // A member.
+#[tactic(auto, unfolding(crate::specs::Members::member_of))]
 pub fn read_member(
     s: &[u8],
-    structs: Structs,
-    names: &mut [usize],
+    structs: &[NamedShape],
+    names: &mut [Span],
     types: &mut [u32],
     members: &mut [u32],
     room: Room,
     body: Body,
 ) -> Result<Body, Refusal>
-    requires { (structs.count * 2 ≤ length structs.names.now) × (structs.count * 4 ≤ length structs.shapes.now) × Bounds (rooms room.types room.members) (tables names.old types.old members.old) body }
-    ensures { MemberRead s.now (rooms room.types room.members) (tables names.old types.old members.old) (tables names.new types.new members.new) body (member_of (length s.now) (rooms room.types room.members) (structs_in s.now structs.entry.names.now structs.entry.shapes.now structs.entry.count) (members_in s.now (tables names.old types.old members.old) body)) result }
+    requires { Bounds room (tables names.old types.old members.old) body }
+    ensures { MemberRead s.now room (tables names.old types.old members.old) (tables names.new types.new members.new) body (member_of (length s.now) room (structs_in s.now structs.now) (members_in s.now (tables names.old types.old members.old) body)) result }
 {
-    let at = body.at;
-    let given = attributes_at(s, at)?;
-    let attributes = given.attributes;
+    let given = attributes_at(s, body.at)?;
     named_member(
-        s, structs, names, types, members, room, body, attributes, given.at,
+        s,
+        structs,
+        names,
+        types,
+        members,
+        room,
+        body,
+        given.attributes,
+        given.at,
     )
 }

@@ -2,12 +2,12 @@
 #![tactic(auto)]
 
 ghost use Rattle.std.specs.Prelude.{◌≡◌, length, List, ℕ, min};
-ghost use Rattle.program_output.specs.Bytes.{Puts};
+ghost use Rattle.program_output.specs.Bytes.{Adds};
 ghost use Rattle.wgsl_messages.specs.Position.{breaks_line, position_of};
 ghost use Rattle.wgsl_messages.specs.Message.{token_text, found_text, line_number, sentence, mark_text, reason_text, position_text, broken_text};
 ghost use Rattle.wgsl_messages.specs.Says.{Says};
 
-use program_output::Buffer;
+use program_output::Output;
 use wgsl_grammar::{Problem, Refusal, Why};
 use wgsl_tokens::Lexed;
 
@@ -47,35 +47,33 @@ pub fn line_and_column(text: &[u8], at: usize) -> Position
 }
 
 // A token in its own bytes.
-fn put_token(out: &mut Buffer, at: usize, text: &[u8], start: usize, end: usize) -> usize
-    ensures { Puts out.old at (token_text text.now start end) out.new result }
+#[tactic(auto, unfolding(crate::specs::Message::token_text))]
+fn put_token(out: &mut Output, text: &[u8], start: usize, end: usize)
+    ensures { Adds out.old (token_text text.now start end) out.new }
 {
-    if end < start {
-        return at;
+    if let Some(token) = text.get(start..end) {
+        out.put_text(b"`");
+        out.put_text(token);
+        out.put_text(b"`: ");
     }
-    if text.len() < end {
-        return at;
-    }
-    let a = program_output::put_text(out, at, b"`");
-    let b = program_output::put_text(out, a, &text[start..end]);
-    program_output::put_text(out, b, b"`: ")
 }
 
 // The token that was found at a place.
-fn put_found(out: &mut Buffer, at: usize, text: &[u8], start: usize, token: Lexed) -> usize
-    ensures { Puts out.old at (found_text text.now start token) out.new result }
+fn put_found(out: &mut Output, text: &[u8], start: usize, token: Lexed)
+    ensures { Adds out.old (found_text text.now start token) out.new }
 {
     match token {
-        Lexed::Word { start: _, end } => put_token(out, at, text, start, end),
-        Lexed::Number { value: _, end } => put_token(out, at, text, start, end),
-        Lexed::Large(end) => put_token(out, at, text, start, end),
-        Lexed::Mark { byte: _, end } => put_token(out, at, text, start, end),
-        Lexed::Bad => program_output::put_text(out, at, b"no word, number or mark: "),
-        Lexed::End => program_output::put_text(out, at, b"the end of the text: "),
+        Lexed::Word { end, .. }
+        | Lexed::Number { end, .. }
+        | Lexed::Large(end)
+        | Lexed::Mark { end, .. } => put_token(out, text, start, end),
+        Lexed::Bad => out.put_text(b"no word, number or mark: "),
+        Lexed::End => out.put_text(b"the end of the text: "),
     }
 }
 
 // The line of a problem, from 0 on.
+// Kept: a `From` stands beside its type, and the lines are those of this crate.
 fn line_number(problem: Problem) -> u32
     ensures { result ≡ line_number problem }
 {
@@ -83,12 +81,11 @@ fn line_number(problem: Problem) -> u32
 }
 
 // Lines of one text, one for each problem, in their order.
-fn put_sentence(out: &mut Buffer, at: usize, problem: Problem) -> usize
-    ensures { Puts out.old at (sentence problem) out.new result }
+#[tactic(auto, unfolding(crate::specs::Message::reasons))]
+fn put_sentence(out: &mut Output, problem: Problem)
+    ensures { Adds out.old (sentence problem) out.new }
 {
-    program_output::put_line_of(
-        out,
-        at,
+    out.put_line_of(
         b"a comment is not closed
 a comment holds a byte that is no ASCII
 expected a comma or a closing mark
@@ -112,62 +109,66 @@ there is no room for one more member record
 ",
         0,
         line_number(problem),
-    )
+    );
 }
 
 // A mark that was expected.
-fn put_mark(out: &mut Buffer, at: usize, mark: u8) -> usize
-    ensures { Puts out.old at (mark_text mark) out.new result }
+#[tactic(auto, unfolding(crate::specs::Message::mark_text))]
+fn put_mark(out: &mut Output, mark: u8)
+    ensures { Adds out.old (mark_text mark) out.new }
 {
     if mark == b',' {
-        return put_sentence(out, at, Problem::NoComma);
+        put_sentence(out, Problem::NoComma);
+        return;
     }
-    let a = program_output::put_text(out, at, b"expected `");
-    let b = program_output::put_text(out, a, &[mark]);
-    program_output::put_text(out, b, b"`\n")
+    out.put_text(b"expected `");
+    out.put_text(&[mark]);
+    out.put_text(b"`\n");
 }
 
 // What was wrong.
-fn put_reason(out: &mut Buffer, at: usize, why: Why) -> usize
-    ensures { Puts out.old at (reason_text why) out.new result }
+fn put_reason(out: &mut Output, why: Why)
+    ensures { Adds out.old (reason_text why) out.new }
 {
     match why {
-        Why::Mark(mark) => put_mark(out, at, mark),
-        Why::Other(problem) => put_sentence(out, at, problem),
+        Why::Mark(mark) => put_mark(out, mark),
+        Why::Other(problem) => put_sentence(out, problem),
     }
 }
 
-fn put_position(out: &mut Buffer, at: usize, text: &[u8], byte: usize) -> usize
-    ensures { Puts out.old at (position_text text.now byte) out.new result }
+#[tactic(auto, unfolding(crate::specs::Message::position_text))]
+fn put_position(out: &mut Output, text: &[u8], byte: usize)
+    ensures { Adds out.old (position_text text.now byte) out.new }
 {
     let p = line_and_column(text, byte);
-    let a = program_output::put_named(out, at, b"line", p.line as u64);
-    let b = program_output::put_named(out, a, b", column", p.column as u64);
-    program_output::put_text(out, b, b": ")
+    out.put_named(b"line", p.line as u64);
+    out.put_named(b", column", p.column as u64);
+    out.put_text(b": ");
 }
 
 // A line about a comment that is no text of WGSL.
-fn put_broken(out: &mut Buffer, at: usize, text: &[u8], byte: usize) -> usize
-    ensures { Puts out.old at (broken_text text.now byte) out.new result }
+fn put_broken(out: &mut Output, text: &[u8], byte: usize)
+    ensures { Adds out.old (broken_text text.now byte) out.new }
 {
-    let end = put_position(out, at, text, byte);
+    put_position(out, text, byte);
     if byte < text.len() {
-        return put_sentence(out, end, Problem::NotAscii);
+        put_sentence(out, Problem::NotAscii);
+        return;
     }
-    put_sentence(out, end, Problem::OpenComment)
+    put_sentence(out, Problem::OpenComment);
 }
 
 // A line about a refusal: its place, what stands there, and what is wrong.
-pub fn put_message(out: &mut Buffer, at: usize, text: &[u8], refusal: Refusal) -> usize
-    ensures { (message : List ℕ) × Says text.now refusal.at refusal.why message × Puts out.old at message out.new result }
+pub fn put_message(out: &mut Output, text: &[u8], refusal: Refusal)
+    ensures { (message : List ℕ) × Says text.now refusal.at refusal.why message × Adds out.old message out.new }
 {
     match wgsl_tokens::token_start(text, refusal.at) {
-        Err(broken) => put_broken(out, at, text, broken.at),
+        Err(broken) => put_broken(out, text, broken.at),
         Ok(start) => {
             let token = wgsl_tokens::next_token(text, start);
-            let a = put_position(out, at, text, start);
-            let b = put_found(out, a, text, start, token);
-            put_reason(out, b, refusal.why)
+            put_position(out, text, start);
+            put_found(out, text, start, token);
+            put_reason(out, refusal.why);
         }
     }
 }

@@ -2,9 +2,12 @@
 #![tactic(auto)]
 
 ghost use Rattle.std.specs.Prelude.{◌≡◌, ◌≤◌};
+ghost use Rattle.ir_records.specs.Kinds.{scalar_number};
 ghost use Rattle.wgsl_names.specs.Names.{same, first_keyword, middle_keyword, last_keyword, is_keyword, matrix_named, vector_named, predeclared, kind_of, width_of, bytes_of, number_of};
 
-#[derive(Clone, Copy)]
+use ir_records::ScalarKind;
+
+#[derive(Clone, Copy, Debug, PartialEq, Eq)]
 pub enum Scalar {
     Bool,
     I32,
@@ -14,15 +17,23 @@ pub enum Scalar {
 }
 
 // Of a vector, and of a matrix's columns and rows.
-#[derive(Clone, Copy)]
+#[derive(Clone, Copy, Debug, PartialEq, Eq)]
 pub enum Dimension {
     Two = 2,
     Three = 3,
     Four = 4,
 }
 
+impl From<Dimension> for u32 {
+    ghost from_gives = { λ dimension result. (result ≡ number_of dimension) × (result ≤ 4) };
+
+    fn from(dimension: Dimension) -> u32 {
+        dimension as u32
+    }
+}
+
 // The templates over a scalar.
-#[derive(Clone, Copy)]
+#[derive(Clone, Copy, Debug, PartialEq, Eq)]
 pub enum Template {
     Vector(Dimension),
     Matrix(Dimension, Dimension),
@@ -30,8 +41,7 @@ pub enum Template {
 }
 
 // What a predeclared name stands for.
-// Kept: `Unknown` is one of the kinds that every reader of a name tells apart; an `Option` of the others is matched in two steps.
-#[derive(Clone, Copy)]
+#[derive(Clone, Copy, Debug, PartialEq, Eq)]
 pub enum TypeName {
     OfScalar(Scalar),
     OfTemplate(Template),
@@ -40,12 +50,17 @@ pub enum TypeName {
 }
 
 // Whether two words have the same bytes.
+// Kept: `==` with the definition of sameness that the grammar speaks of; at each caller `==` would need the lemma that is used once here.
+#[tactic(auto, using(crate::proofs::SameLaws::same_bytes))]
 pub fn same(a: &[u8], b: &[u8]) -> bool
     ensures { result ≡ same a.now b.now }
 {
     a == b
 }
 
+// Kept: three lists of words, as the definitions have them. `matches!` over byte strings was tried: it tests byte by byte, and for the last list alone
+// 18 of its goals stay open.
+#[tactic(auto, unfolding(crate::specs::Names::first_keyword))]
 fn first_keyword(w: &[u8]) -> bool
     ensures { result ≡ first_keyword w.now }
 {
@@ -60,6 +75,7 @@ fn first_keyword(w: &[u8]) -> bool
         | same(w, b"diagnostic")
 }
 
+#[tactic(auto, unfolding(crate::specs::Names::middle_keyword))]
 fn middle_keyword(w: &[u8]) -> bool
     ensures { result ≡ middle_keyword w.now }
 {
@@ -74,6 +90,7 @@ fn middle_keyword(w: &[u8]) -> bool
         | same(w, b"loop")
 }
 
+#[tactic(auto, unfolding(crate::specs::Names::last_keyword))]
 fn last_keyword(w: &[u8]) -> bool
     ensures { result ≡ last_keyword w.now }
 {
@@ -87,6 +104,7 @@ fn last_keyword(w: &[u8]) -> bool
         | same(w, b"while")
 }
 
+#[tactic(auto, unfolding(crate::specs::Names::is_keyword))]
 pub fn is_keyword(w: &[u8]) -> bool
     ensures { result ≡ is_keyword w.now }
 {
@@ -94,6 +112,7 @@ pub fn is_keyword(w: &[u8]) -> bool
 }
 
 // matCxR: C columns, R rows.
+#[tactic(auto, unfolding(crate::specs::Names::matrix_named))]
 fn matrix_named(w: &[u8]) -> TypeName
     ensures { result ≡ matrix_named w.now }
 {
@@ -128,6 +147,7 @@ fn matrix_named(w: &[u8]) -> TypeName
 }
 
 // vecN, or a matrix.
+#[tactic(auto, unfolding(crate::specs::Names::vector_named))]
 fn vector_named(w: &[u8]) -> TypeName
     ensures { result ≡ vector_named w.now }
 {
@@ -144,6 +164,7 @@ fn vector_named(w: &[u8]) -> TypeName
 }
 
 // The type that a name stands for before any struct is declared.
+#[tactic(auto, unfolding(crate::specs::Names::predeclared))]
 pub fn predeclared(w: &[u8]) -> TypeName
     ensures { result ≡ predeclared w.now }
 {
@@ -171,27 +192,25 @@ pub fn predeclared(w: &[u8]) -> TypeName
     vector_named(w)
 }
 
-pub fn kind_of(scalar: Scalar) -> u32
-    ensures { result ≡ kind_of scalar }
+pub fn kind_of(scalar: Scalar) -> ScalarKind
+    ensures { scalar_number result ≡ kind_of scalar }
 {
     match scalar {
-        Scalar::Bool => 3,
-        Scalar::I32 => 0,
-        Scalar::U32 => 1,
-        Scalar::F32 => 2,
-        Scalar::F16 => 2,
+        Scalar::Bool => ScalarKind::Bool,
+        Scalar::I32 => ScalarKind::Sint,
+        Scalar::U32 => ScalarKind::Uint,
+        Scalar::F32 | Scalar::F16 => ScalarKind::Float,
     }
 }
 
 // A bool's leaf is one byte.
+// Kept: `bytes_of` is alike in form alone: one says what a record has, the other what the standard's placement takes.
 pub fn width_of(scalar: Scalar) -> u32
     ensures { result ≡ width_of scalar }
 {
     match scalar {
         Scalar::Bool => 1,
-        Scalar::I32 => 4,
-        Scalar::U32 => 4,
-        Scalar::F32 => 4,
+        Scalar::I32 | Scalar::U32 | Scalar::F32 => 4,
         Scalar::F16 => 2,
     }
 }
@@ -201,16 +220,7 @@ pub fn bytes_of(scalar: Scalar) -> u32
     ensures { (result ≡ bytes_of scalar) × (result ≤ 4) }
 {
     match scalar {
-        Scalar::Bool => 4,
-        Scalar::I32 => 4,
-        Scalar::U32 => 4,
-        Scalar::F32 => 4,
+        Scalar::Bool | Scalar::I32 | Scalar::U32 | Scalar::F32 => 4,
         Scalar::F16 => 2,
     }
-}
-
-pub fn number_of(n: Dimension) -> u32
-    ensures { (result ≡ number_of n) × (result ≤ 4) }
-{
-    n as u32
 }

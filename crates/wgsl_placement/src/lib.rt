@@ -2,16 +2,17 @@
 #![tactic(auto)]
 
 ghost use Rattle.std.specs.Prelude.{◌≡◌, true, ◌≤◌, ◌+◌, ◌*◌};
+ghost use Rattle.ir_records.specs.Kinds.{kind_number};
 ghost use Rattle.proc_alignment.specs.Alignment.{round_up};
 ghost use Rattle.wgsl_names.specs.Names.{bytes_of, number_of};
 ghost use Rattle.wgsl_placement.specs.Placement.{shape, align_of_vector, size_of_vector, align_of_template, size_of_template, elements, is_counted, record_of, scalar_record, template_record, array_words};
 ghost use Rattle.wgsl_placement.specs.Serving.{Measured};
 
-use ir_records::Words;
+use ir_records::{Kind, Words};
 use wgsl_names::{Dimension, Scalar, Template};
 
 // A type that has closed: its record's number, SizeOf, AlignOf, and whether its footprint is creation-fixed.
-#[derive(Clone, Copy)]
+#[derive(Clone, Copy, Debug, PartialEq, Eq)]
 pub struct Shape {
     pub number: u32,
     pub size: u32,
@@ -21,7 +22,7 @@ pub struct Shape {
 
 // Of an array.
 // Kept: a runtime-sized array is no array without a count; `None` would not say so, and naga's ArraySize is an enum too.
-#[derive(Clone, Copy)]
+#[derive(Clone, Copy, Debug, PartialEq, Eq)]
 pub enum Count {
     Of(u32),
     Runtime,
@@ -34,8 +35,6 @@ pub struct Measure {
     pub stride: u32,
 }
 
-const MOST: u64 = 4294967295;
-
 // Rounding up as the standard has it: divide, take the ceiling, multiply.
 pub fn round_up(alignment: u32, n: u64) -> u64
     requires { n ≤ 1152921504606846976 }
@@ -44,21 +43,14 @@ pub fn round_up(alignment: u32, n: u64) -> u64
     if alignment == 0 {
         return 0;
     }
-    let k = alignment as u64;
-    let quotient = n / k;
-    if n % k == 0 {
-        return quotient * k;
-    }
-    let ceiling = quotient + 1;
-    ceiling * k
+    let k = u64::from(alignment);
+    n.div_ceil(k) * k
 }
 
 fn align_of_vector(n: Dimension, scalar: Scalar) -> u32
     ensures { (result ≡ align_of_vector n scalar) × (result ≤ 16) }
 {
-    let parts = proc_alignment::vector_alignment(wgsl_names::number_of(n));
-    let align = parts * wgsl_names::bytes_of(scalar);
-    align
+    proc_alignment::vector_alignment(u32::from(n)) * wgsl_names::bytes_of(scalar)
 }
 
 fn align_of_template(template: Template, scalar: Scalar) -> u32
@@ -74,8 +66,7 @@ fn align_of_template(template: Template, scalar: Scalar) -> u32
 fn size_of_vector(n: Dimension, scalar: Scalar) -> u32
     ensures { (result ≡ size_of_vector n scalar) × (result ≤ 16) }
 {
-    let size = wgsl_names::number_of(n) * wgsl_names::bytes_of(scalar);
-    size
+    u32::from(n) * wgsl_names::bytes_of(scalar)
 }
 
 // SizeOf(array<vecR, C>).
@@ -84,9 +75,8 @@ fn size_of_matrix(columns: Dimension, rows: Dimension, scalar: Scalar) -> u32
 {
     let align = align_of_vector(rows, scalar);
     let column = size_of_vector(rows, scalar);
-    let step = round_up(align, column as u64);
-    let size = (wgsl_names::number_of(columns) as u64) * step;
-    size as u32
+    let step = round_up(align, u64::from(column)) as u32;
+    u32::from(columns) * step
 }
 
 fn size_of_template(template: Template, scalar: Scalar) -> u32
@@ -103,12 +93,10 @@ fn size_of_template(template: Template, scalar: Scalar) -> u32
 pub fn template_shape(number: u32, template: Template, scalar: Scalar) -> Shape
     ensures { result ≡ shape number (size_of_template template scalar) (align_of_template template scalar) true }
 {
-    let size = size_of_template(template, scalar);
-    let align = align_of_template(template, scalar);
     Shape {
         number,
-        size,
-        align,
+        size: size_of_template(template, scalar),
+        align: align_of_template(template, scalar),
         fixed: true,
     }
 }
@@ -116,18 +104,18 @@ pub fn template_shape(number: u32, template: Template, scalar: Scalar) -> Shape
 pub fn template_record(template: Template, scalar: Scalar) -> Words
     ensures { result ≡ template_record template scalar }
 {
-    let kind = wgsl_names::kind_of(scalar);
+    let kind = wgsl_names::kind_of(scalar) as u32;
     let width = wgsl_names::width_of(scalar);
     match template {
-        Template::Vector(n) => record_of(1, wgsl_names::number_of(n), kind, width, 0),
+        Template::Vector(n) => record_of(Kind::Vector as u32, u32::from(n), kind, width, 0),
         Template::Matrix(columns, rows) => record_of(
-            2,
-            wgsl_names::number_of(columns),
-            wgsl_names::number_of(rows),
+            Kind::Matrix as u32,
+            u32::from(columns),
+            u32::from(rows),
             kind,
             width,
         ),
-        Template::Atomic => record_of(4, kind, width, 0, 0),
+        Template::Atomic => record_of(Kind::Atomic as u32, kind, width, 0, 0),
     }
 }
 
@@ -146,9 +134,9 @@ pub fn scalar_shape(number: u32, scalar: Scalar) -> Shape
 pub fn scalar_record(scalar: Scalar) -> Words
     ensures { result ≡ scalar_record scalar }
 {
-    let kind = wgsl_names::kind_of(scalar);
+    let kind = wgsl_names::kind_of(scalar) as u32;
     let width = wgsl_names::width_of(scalar);
-    record_of(0, kind, width, 0, 0)
+    record_of(Kind::Scalar as u32, kind, width, 0, 0)
 }
 
 // A record's kind and the words after it; none has more than four.
@@ -178,26 +166,17 @@ fn elements(count: Count) -> u32
 pub fn array_measure(count: Count, e: Shape) -> Option<Measure>
     ensures { Measured count e result }
 {
-    let stride = round_up(e.align, e.size as u64);
-    if MOST < stride {
-        return None;
-    }
-    let n = elements(count) as u64;
-    let total = n * stride;
-    if MOST < total {
-        return None;
-    }
-    let size = total as u32;
-    let step = stride as u32;
-    Some(Measure { size, stride: step })
+    let stride = u32::try_from(round_up(e.align, u64::from(e.size))).ok()?;
+    let size = elements(count).checked_mul(stride)?;
+    Some(Measure { size, stride })
 }
 
 pub fn array_record(count: Count, element: u32, stride: u32) -> Words
     ensures { result ≡ array_words count element stride }
 {
     match count {
-        Count::Of(n) => record_of(7, element, 0, n, stride),
-        Count::Runtime => record_of(7, element, 1, 0, stride),
+        Count::Of(n) => record_of(Kind::Array as u32, element, 0, n, stride),
+        Count::Runtime => record_of(Kind::Array as u32, element, 1, 0, stride),
     }
 }
 

@@ -8,13 +8,29 @@ ghost use Rattle.wgsl_read.specs.TextAnswer.{text_answer_of};
 ghost use Rattle.wgsl_read.specs.Text.{text_of, answer_of, types_left, members_left, numbered_by, Filled};
 
 use ir_records::{Fault, Records};
+use program_words::Span;
 use wgsl_grammar::Refusal;
 use wgsl_members::Room;
+use wgsl_placement::Shape;
 use wgsl_structs::State;
+use wgsl_tables::NamedShape;
 
 const MOST_TYPES: usize = 1024;
 
 const MOST_MEMBERS: usize = 4096;
+
+const NO_NAME: Span = Span { start: 0, end: 0 };
+
+const NO_STRUCT: NamedShape = NamedShape {
+    name: NO_NAME,
+    shape: Shape {
+        // Kept: the number of a type record, and not of a refusal.
+        number: 0,
+        size: 0,
+        align: 0,
+        fixed: false,
+    },
+};
 
 // Reads the declarations, with the names and the shapes of the structs and the names of a struct's members in arrays of its own.
 fn fill(text: &[u8], types: &mut [u32], members: &mut [u32]) -> Result<State, Refusal>
@@ -24,28 +40,19 @@ fn fill(text: &[u8], types: &mut [u32], members: &mut [u32]) -> Result<State, Re
         types: (types.len() / ir_records::TYPE_WORDS).min(MOST_TYPES) as u32,
         members: (members.len() / ir_records::MEMBER_WORDS).min(MOST_MEMBERS) as u32,
     };
-    let mut structs = [0usize; 2048];
-    let mut shapes = [0u32; 4096];
-    let mut names = [0usize; 8192];
-    wgsl_structs::read_declarations(
-        text,
-        &mut structs,
-        &mut shapes,
-        &mut names,
-        types,
-        members,
-        room,
-    )
+    let mut structs = [NO_STRUCT; MOST_TYPES];
+    let mut names = [NO_NAME; MOST_MEMBERS];
+    wgsl_structs::read_declarations(text, &mut structs, &mut names, types, members, room)
 }
 
 /// Reads a text, with the position and the reason of a refusal.
+// Kept: the two lent tables are two parameters, as the exported call has them.
 pub fn read_at(text: &[u8], types: &mut [u32], members: &mut [u32]) -> Result<Records, Refusal>
     ensures result_value { numbered_by result ≡ answer_of (text_of (length types.old) (length members.old) text.now) }
     ensures types_after { types.new ≡ types_left (text_of (length types.old) (length members.old) text.now) types.old }
     ensures members_after { members.new ≡ members_left (text_of (length types.old) (length members.old) text.now) members.old }
 {
-    let found = fill(text, types, members);
-    match found {
+    match fill(text, types, members) {
         Ok(state) => Ok(Records {
             types: state.types,
             members: state.members,
@@ -64,8 +71,5 @@ pub fn read(text: &[u8], types: &mut [u32], members: &mut [u32]) -> Result<Recor
     ensures types_after { types.new ≡ types_left (text_of (length types.old) (length members.old) text.now) types.old }
     ensures members_after { members.new ≡ members_left (text_of (length types.old) (length members.old) text.now) members.old }
 {
-    match read_at(text, types, members) {
-        Ok(records) => Ok(records),
-        Err(refusal) => Err(refusal.fault),
-    }
+    read_at(text, types, members).map_err(|refusal| refusal.fault)
 }

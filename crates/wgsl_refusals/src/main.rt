@@ -1,62 +1,57 @@
 // What is said of texts that are refused. `stdout` is written by hand: the number by 02, the place by counting.
 #![tactic(auto)]
 
+use program_output::Output;
 use wgsl_grammar::Refusal;
-
-fn refuse(text: &[u8]) {
-    let mut out = [0u8; 1114112];
-    let end = wgsl_lines::put_answer(&mut out, 0, text);
-    program_output::write_out(&out, end);
-}
 
 // What was expected.
 fn expected() {
-    refuse(b"struct A { a f32 }");
-    refuse(b"struct A{a:f32");
-    refuse(b"struct fn {a:f32}");
-    refuse(b"struct A{a:array<f32,4u>}");
-    refuse(b"const a");
-    refuse(b"struct A{@location(0) a:f32}");
-    refuse(b"struct A{a:vec3<foo>}");
+    wgsl_lines::answer(b"struct A { a f32 }");
+    wgsl_lines::answer(b"struct A{a:f32");
+    wgsl_lines::answer(b"struct fn {a:f32}");
+    wgsl_lines::answer(b"struct A{a:array<f32,4u>}");
+    wgsl_lines::answer(b"const a");
+    wgsl_lines::answer(b"struct A{@location(0) a:f32}");
+    wgsl_lines::answer(b"struct A{a:vec3<foo>}");
 }
 
 // 32 arrays, so that the f32 is the 33rd type.
 fn deep() {
-    refuse(
+    wgsl_lines::answer(
         b"struct A{a:array<array<array<array<array<array<array<array<array<array<array<array<array<array<array<array<array<array<array<array<array<array<array<array<array<array<array<array<array<array<array<array<f32",
     );
 }
 
 // Which name.
 fn names() {
-    refuse(b"struct A{a:vec3f}");
-    refuse(b"struct A{a:f32}\nstruct A{b:f32}");
-    refuse(b"struct A{a:f32,\x0ba:u32}");
+    wgsl_lines::answer(b"struct A{a:vec3f}");
+    wgsl_lines::answer(b"struct A{a:f32}\nstruct A{b:f32}");
+    wgsl_lines::answer(b"struct A{a:f32,\x0ba:u32}");
 }
 
 // Which attribute or number.
 fn limits() {
-    refuse(b"struct A{@size(4294967296) a:foo}");
-    refuse(b"struct A{a:array<f32,0>}");
-    refuse(b"struct A{a:array<f32,1073741824>}");
-    refuse(b"struct A{@align(3) a:vec2<f32>}");
-    refuse(b"struct A{@size(2) a:f32}");
-    refuse(b"struct A{@size(4294967295)a:f32,b:f32}");
+    wgsl_lines::answer(b"struct A{@size(4294967296) a:foo}");
+    wgsl_lines::answer(b"struct A{a:array<f32,0>}");
+    wgsl_lines::answer(b"struct A{a:array<f32,1073741824>}");
+    wgsl_lines::answer(b"struct A{@align(3) a:vec2<f32>}");
+    wgsl_lines::answer(b"struct A{@size(2) a:f32}");
+    wgsl_lines::answer(b"struct A{@size(4294967295)a:f32,b:f32}");
 }
 
 // A line feed, a vertical tab, a form feed, a carriage return, one before a line feed: five lines. Comments and blanks before a token are passed.
 fn lines() {
-    refuse(b"\n\x0b\x0c\r\r\n?");
-    refuse(b"struct A {\r\n  a: f32\r\n  // b\r\n  b: f32\r\n}\r\n");
-    refuse(b"struct A{a:f32} /* /* */");
-    refuse(b"// \xc3\xa9\n");
+    wgsl_lines::answer(b"\n\x0b\x0c\r\r\n?");
+    wgsl_lines::answer(b"struct A {\r\n  a: f32\r\n  // b\r\n  b: f32\r\n}\r\n");
+    wgsl_lines::answer(b"struct A{a:f32} /* /* */");
+    wgsl_lines::answer(b"// \xc3\xa9\n");
 }
 
 // What is said of a refusal.
 fn say(text: &[u8], refusal: Refusal) {
-    let mut out = [0u8; 1114112];
-    let end = wgsl_messages::put_message(&mut out, 0, text, refusal);
-    program_output::write_out(&out, end);
+    let mut out = Output::new();
+    wgsl_messages::put_message(&mut out, text, refusal);
+    out.write_out();
 }
 
 // With room for so many words.

@@ -1,7 +1,7 @@
 -- Serves the contracts of functions inside the library: it adds nothing to what the other files say, and a reader may skip it.
 -- What the functions over positions answer, as the readings of the tokens from there on, by the code's numbers and the words of its tables.
 -- Assumes nothing.
-use Rattle.std.specs.Prelude.{◌≡◌, List, ℕ, ◌+◌, ◌*◌, ◌≤◌, length, drop, Option, Some, None, Result, Ok, Err}
+use Rattle.std.specs.Prelude.{◌≡◌, List, ℕ, ◌+◌, ◌*◌, ◌≤◌, length, take, drop, Option, Some, None, Result, Ok, Err}
 use Rattle.ir_records.specs.Record.{type_words, member_words}
 use Rattle.ir_records.specs.Refusal.{number_of}
 use Rattle.program_words.specs.declared.Span.{Span}
@@ -9,6 +9,7 @@ use Rattle.wgsl_tokens.specs.Tokens.{from}
 use Rattle.wgsl_grammar.specs.Grammar.{Reading, refused, read}
 use Rattle.wgsl_grammar.specs.declared.Refusal.{Refusal}
 use Rattle.wgsl_tables.specs.Tables.{records_in, name_in, structs_in}
+use Rattle.wgsl_tables.specs.declared.NamedShape.{NamedShape}
 use Rattle.wgsl_types.specs.Serving.{Room}
 use Rattle.wgsl_members.specs.Members.{Members, Rooms}
 use Rattle.wgsl_members.specs.Serving.{Tables, tables, members_in, Bounds, Kept}
@@ -30,21 +31,20 @@ MembersRead s r was is before m (Err x) = m ≡ refused (number_of x.fault)
 
 -- ---- what was declared so far: the tables of structs beside those of members
 pub record Declarations : Type 0 where
-  pub structs : List ℕ
-  pub shapes : List ℕ
-  pub names : List ℕ
+  pub structs : List NamedShape
+  pub names : List Span
   pub types : List ℕ
   pub members : List ℕ
 
-abbrev pub declarations : (structs shapes names types members : List ℕ) → Declarations
-declarations structs shapes names types members = record { structs = structs; shapes = shapes; names = names; types = types; members = members }
+abbrev pub declarations : List NamedShape → List Span → (types members : List ℕ) → Declarations
+declarations structs names types members = record { structs = structs; names = names; types = types; members = members }
 
 abbrev pub declared_in : List ℕ → Declarations → State → Declared
 declared_in s t d =
     record {
       types = records_in type_words t.types d.types;
       members = records_in member_words t.members d.members;
-      structs = structs_in s t.structs t.shapes d.structs;
+      structs = structs_in s (take d.structs t.structs);
       rest = from s d.at;
     }
 
@@ -55,9 +55,8 @@ pub record StateBounds (r : Rooms) (t : Declarations) (d : State) : Type 0 where
   pub room : r.members ≤ 4096
   pub words : r.members * member_words ≤ length t.members
   pub fewer : d.structs ≤ d.types
-  pub structs : 2048 ≤ length t.structs
-  pub shapes : 4096 ≤ length t.shapes
-  pub named : 8192 ≤ length t.names
+  pub structs : 1024 ≤ length t.structs
+  pub named : 4096 ≤ length t.names
 
 pub record StateKept (was is : Declarations) (before after : State) : Type 0 where
   pub more-types : before.types ≤ after.types
@@ -70,27 +69,26 @@ StructRead s r was is before d (Ok after) = (d ≡ read (declared_in s is after)
 StructRead s r was is before d (Err x) = d ≡ refused (number_of x.fault)
 
 -- ---- a struct that closes, in the tables of structs and of type records, whatever the text and the other tables are
-pub record Closable (structs shapes types : List ℕ) (room : ℕ) (d : State) (b : Body) : Type 0 where
+pub record Closable (structs : List NamedShape) (types : List ℕ) (room : ℕ) (d : State) (b : Body) : Type 0 where
   pub room-types : Room room b.types types
   pub members : d.members ≤ b.members
   pub fewer : d.structs ≤ b.types
-  pub names : 2048 ≤ length structs
-  pub shaped : 4096 ≤ length shapes
+  pub names : 1024 ≤ length structs
   pub end : b.end ≤ 35184372088832
 
-abbrev pub ClosedIn : (structs structs-now shapes shapes-now types types-now : List ℕ) (room : ℕ) (d : State) (b : Body) (name : Span) → Result State Refusal → Type 0
-ClosedIn structs structs-now shapes shapes-now types types-now room d b name (Ok after) =
-    ((s names members : List ℕ) (rows : ℕ) →
-    close_struct (record { types = room; members = rows }) (declared_in s (declarations structs shapes names types members) d) (name_in s name.start name.end) (members_in s (tables names types members) b)
-    ≡ read (declared_in s (declarations structs-now shapes-now names types-now members) after))
+abbrev pub ClosedIn : (structs structs-now : List NamedShape) (types types-now : List ℕ) (room : ℕ) (d : State) (b : Body) (name : Span) → Result State Refusal → Type 0
+ClosedIn structs structs-now types types-now room d b name (Ok after) =
+    ((s members : List ℕ) (names : List Span) (rows : ℕ) →
+    close_struct (record { types = room; members = rows }) (declared_in s (declarations structs names types members) d) (name_in s name.start name.end) (members_in s (tables names types members) b)
+    ≡ read (declared_in s (declarations structs-now names types-now members) after))
     × (after.structs ≡ d.structs + 1)
     × (after.types ≡ b.types + 1)
     × (after.types ≤ room)
     × (after.members ≡ b.members)
     × (drop (after.types * type_words) types-now ≡ drop (after.types * type_words) types)
-ClosedIn structs structs-now shapes shapes-now types types-now room d b name (Err x) =
-    (s names members : List ℕ) (rows : ℕ) →
-    close_struct (record { types = room; members = rows }) (declared_in s (declarations structs shapes names types members) d) (name_in s name.start name.end) (members_in s (tables names types members) b)
+ClosedIn structs structs-now types types-now room d b name (Err x) =
+    (s members : List ℕ) (names : List Span) (rows : ℕ) →
+    close_struct (record { types = room; members = rows }) (declared_in s (declarations structs names types members) d) (name_in s name.start name.end) (members_in s (tables names types members) b)
     ≡ refused (number_of x.fault)
 
 -- ---- a declaration

@@ -1,15 +1,22 @@
 // The tables that the reader of WGSL text fills.
 #![tactic(auto)]
 
-ghost use Rattle.std.specs.Prelude.{◌≡◌, [], ◌∷◌, ◌≤◌, ◌+◌, ◌*◌, length, set};
+ghost use Rattle.std.specs.Prelude.{◌≡◌, [], ◌∷◌, ◌≤◌, ◌+◌, ◌*◌, length};
 ghost use Rattle.ir_rows.specs.Rows.{with_part};
 ghost use Rattle.ir_records.specs.Record.{type_words, member_words};
 ghost use Rattle.wgsl_placement.specs.Placement.{words_of};
-ghost use Rattle.wgsl_tables.specs.Tables.{name_in, name_at, shape_at, entry_of, flag};
+ghost use Rattle.wgsl_tables.specs.Tables.{name_in, names_in, is_one_of, structs_in, lookup, shape_found};
 
 use ir_records::{MEMBER_WORDS, TYPE_WORDS, Words};
 use program_words::Span;
 use wgsl_placement::Shape;
+
+/// A struct that was declared: where its name stands in the text, and its shape.
+#[derive(Clone, Copy, Debug, PartialEq, Eq)]
+pub struct NamedShape {
+    pub name: Span,
+    pub shape: Shape,
+}
 
 // Writes words from `at` on.
 fn put_words(words: &mut [u32], at: usize, part: &[u32])
@@ -37,70 +44,31 @@ pub fn put_member(members: &mut [u32], i: u32, ty: u32, offset: u32)
     put_words(members, (i as usize) * MEMBER_WORDS, &words);
 }
 
-// Entry i of a table of names.
-pub fn put_name(names: &mut [usize], i: u32, name: Span)
-    requires { i * 2 + 2 ≤ length names.old }
-    ensures { names.new ≡ set (set names.old (i * 2) name.start) (i * 2 + 1) name.end }
+// The bytes of a name; none where its two positions are none in the text.
+fn name_in(s: &[u8], name: Span) -> &[u8]
+    ensures { result.now ≡ name_in s.now name.start name.end }
 {
-    let at = (i as usize) * 2;
-    names[at] = name.start;
-    names[at + 1] = name.end;
+    s.get(name.start..name.end).unwrap_or(b"")
 }
 
-fn name_in(s: &[u8], start: usize, end: usize) -> &[u8]
-    ensures { result.now ≡ name_in s.now start end }
+/// Whether a word is one of the names.
+pub fn is_one_of(s: &[u8], w: &[u8], names: &[Span]) -> bool
+    ensures { result ≡ is_one_of w.now (names_in s.now names.now) }
 {
-    if (start <= end) & (end <= s.len()) {
-        return &s[start..end];
-    }
-    &s[..0]
+    names
+        .iter()
+        .any(|name| wgsl_names::same(w, name_in(s, *name)))
 }
 
-// The name of entry i.
-fn name_at<'a>(s: &'a [u8], names: &[usize], i: usize) -> &'a [u8]
-    requires { i * 2 + 2 ≤ length names.now }
-    ensures { result.now ≡ name_at s.now names.now i }
+/// The shape of the struct of a name, the last one that has it.
+pub fn shape_named(s: &[u8], w: &[u8], structs: &[NamedShape]) -> Option<Shape>
+    ensures { lookup w.now (structs_in s.now structs.now) ≡ shape_found result }
 {
-    let at = i * 2;
-    name_in(s, names[at], names[at + 1])
-}
-
-// The last of the first n entries that has a name.
-pub fn entry_of(s: &[u8], w: &[u8], names: &[usize], n: u32) -> Option<usize>
-    requires { n * 2 ≤ length names.now }
-    ensures { result ≡ entry_of s.now w.now names.now n }
-{
-    for i in (0..n as usize).rev() {
-        if wgsl_names::same(w, name_at(s, names, i)) {
-            return Some(i);
+    for i in (0..structs.len()).rev() {
+        let named = structs[i];
+        if wgsl_names::same(w, name_in(s, named.name)) {
+            return Some(named.shape);
         }
     }
     None
-}
-
-// Entry i of the table of shapes.
-pub fn put_shape(shapes: &mut [u32], i: u32, shape: Shape)
-    requires { i * 4 + 4 ≤ length shapes.old }
-    ensures { shapes.new ≡ with_part 4 shapes.old (i * 4) (shape.number ∷ shape.size ∷ shape.align ∷ flag shape.fixed ∷ []) }
-{
-    let words = [
-        shape.number,
-        shape.size,
-        shape.align,
-        u32::from(shape.fixed),
-    ];
-    put_words(shapes, (i as usize) * 4, &words);
-}
-
-pub fn shape_at(shapes: &[u32], i: usize) -> Shape
-    requires { i * 4 + 4 ≤ length shapes.now }
-    ensures { result ≡ shape_at shapes.now i }
-{
-    let at = i * 4;
-    Shape {
-        number: shapes[at],
-        size: shapes[at + 1],
-        align: shapes[at + 2],
-        fixed: shapes[at + 3] == 1,
-    }
 }

@@ -6,11 +6,11 @@ use Prim.Native.Nat.{ℕ, suc, ◌+◌, ◌-◌, ◌≤◌, ◌<◌}
 use native.Mathlib.Numerals.{add-one}
 use native.Mathlib.Omega.{arith}
 use lib.Dec.{eqb}
-use lib.ListN.{length, get_or, drop, drop_of_length-le, get_or-eq_default}
+use lib.ListN.{length, get_or, drop, drop_of_length-le}
 use borrow.Author.Tests.{eqb-true, ne_eqb}
 use Rattle.std.specs.Prelude.{Result, Ok, Err}
 use Rattle.wgsl_tokens.specs.Tokens.{Mode, code, line, block, stopped, is_blank, ends_line, is_ascii, opens_line, opens_block, closes_block, code_step, block_step, step_of, tokens, from}
-use Rattle.wgsl_tokens.specs.Lexed.{IsBad, starts_gap}
+use Rattle.wgsl_tokens.specs.Lexed.{IsBad}
 use Rattle.wgsl_tokens.specs.Serving.{GapAt}
 use Rattle.wgsl_tokens.specs.declared.BrokenComment.{BrokenComment}
 use Rattle.wgsl_tokens.proofs.TokenLaws.{inside, both, head_next, drop_two, code_skip, block_skip, tokens_at}
@@ -90,10 +90,6 @@ module _ (s : List ℕ) (i : ℕ) where
     unfolding step_of code_step
     gap_block b l e =
         tokens_at s i h (code 0) ∙ rw (b, head_next s i, l, e) (block_skip 1 (drop (suc i) s)) ∙ ap (tokens (block 0 1)) (drop_two s i)
-
--- past the end nothing begins
-pub past_gap : (s : List ℕ) (i : ℕ) → length s ≤ i → starts_gap s i ≡ false
-past_gap s i h = rw (get_or-eq_default s 0 h)
 
 -- a gap that goes on in another mode
 pub gap_later : (mode later : Mode) (s : List ℕ) (at next : ℕ) (g : Result ℕ BrokenComment) → at ≤ next → tokens mode (drop at s) ≡ tokens later (drop next s)

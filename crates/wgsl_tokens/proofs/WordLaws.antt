@@ -16,9 +16,7 @@ use Rattle.program_words.specs.Number.{is_digit, number_of}
 use Rattle.std.specs.Prelude.{Result}
 use Rattle.program_words.specs.declared.NumberError.{NumberError}
 use Rattle.wgsl_tokens.specs.Tokens.{number_token, Token, word, mark, bad, code, stopped, is_blank, starts_word, in_word, is_mark, opens_line, opens_block, word_of, digits_of, code_step, step_of, tokens, from}
-use Rattle.wgsl_tokens.specs.Lexed.{IsBad, starts_gap, TokenAt}
-use Rattle.wgsl_tokens.specs.declared.Lexed.{Lexed}
-use Rattle.wgsl_tokens.specs.declared.Lexed.TheVariants.{Word, Number, Large, Mark, Bad, End}
+use Rattle.wgsl_tokens.specs.Lexed.{IsBad, starts_gap}
 use Rattle.wgsl_tokens.proofs.TokenLaws.{neither, head_next, code_skip, tokens_at}
 
 -- neither blank nor a comment
@@ -128,12 +126,3 @@ module _ (s : List ℕ) (i e : ℕ) (some_byte : i < e) (within : e ≤ length s
   pub digits_good : is_odd ≡ false → (n : Result ℕ NumberError) → n ≡ number_of (part s i e) → digits_of (part s i e) (get_or s e 0) ≡ number_token n
   unfolding digits_of
   digits_good t n is = rw (part_first s i e within some_byte, part-length s i e within (omega arith), t, is)
-
--- the same tokens from an earlier position on
-pub token_later : (s : List ℕ) (at start : ℕ) (t : Lexed) → from s at ≡ from s start → TokenAt s start t → TokenAt s at t
-token_later s at start (Word a b) e t = (t.0, t.1, e ∙ t.2)
-token_later s at start (Number value end) e t = e ∙ t
-token_later s at start (Large end) e t = e ∙ t
-token_later s at start (Mark byte end) e t = e ∙ t
-token_later s at start Bad e t = (t.0, e ∙ t.1)
-token_later s at start End e t = e ∙ t

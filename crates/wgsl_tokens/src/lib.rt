@@ -11,7 +11,7 @@ ghost use Rattle.wgsl_tokens.specs.Serving.{is_in, GapAt, BlockAt};
 use program_words::NumberError;
 
 // The next token, and where the text goes on after it.
-#[derive(Clone, Copy)]
+#[derive(Clone, Copy, Debug, PartialEq, Eq)]
 pub enum Lexed {
     Word { start: usize, end: usize },
     Number { value: u32, end: usize },
@@ -29,7 +29,7 @@ pub struct BrokenComment {
 }
 
 // A byte later in block comments: in how many of them, or after the last one.
-#[derive(Clone, Copy)]
+#[derive(Clone, Copy, Debug, PartialEq, Eq)]
 pub enum Block {
     Inside { at: usize, depth: usize },
     Closed(usize),
@@ -37,7 +37,7 @@ pub enum Block {
 
 // What a run consists of.
 // Kept: a closure for the two classes would need clauses of its own at `run_end` and at each call, and says no more than the two names.
-#[derive(Clone, Copy)]
+#[derive(Clone, Copy, Debug, PartialEq, Eq)]
 pub enum Run {
     Name,
     Digits,
@@ -47,7 +47,7 @@ pub enum Run {
 pub fn byte_at(s: &[u8], at: usize) -> u8
     ensures { result ≡ get_or s.now at 0 }
 {
-    if at < s.len() { s[at] } else { 0 }
+    ir_records::item_or(s, at, 0)
 }
 
 fn is_blank(c: u8) -> bool
@@ -120,6 +120,7 @@ fn closes_block(c: u8, next: u8) -> bool
     (c == b'*') & (next == b'/')
 }
 
+// Kept: the match is the two tests, each under its name.
 fn is_in(run: Run, c: u8) -> bool
     ensures { result ≡ is_in run c }
 {
@@ -130,6 +131,7 @@ fn is_in(run: Run, c: u8) -> bool
 }
 
 // Where the run that starts at `at` ends.
+// Kept: program_words::run_end has the same loop over other classes; that it names them is said there.
 fn run_end(s: &[u8], at: usize, run: Run) -> usize
     requires { at ≤ length s.now }
     ensures value { result ≡ at + run_of (is_in run) (drop at s.now) }

@@ -7,13 +7,16 @@ use Rattle.ir_records.specs.Refusal.{number_of}
 use Rattle.wgsl_tokens.specs.Tokens.{Token, from}
 use Rattle.wgsl_grammar.specs.Grammar.{Reading, refused, read}
 use Rattle.wgsl_grammar.specs.declared.Refusal.{Refusal}
+use Rattle.wgsl_grammar.specs.declared.Problem.TheVariants.{TypesFull}
+use Rattle.wgsl_grammar.specs.Serving.{refusal_of}
 use Rattle.wgsl_tables.specs.Tables.{Records, records_in}
 use Rattle.wgsl_types.specs.Types.{Closing, stopped, full, closed, Counted, scalar_type, template_type, arguments_of}
 use Rattle.wgsl_types.specs.declared.CountAt.{CountAt}
 use Rattle.wgsl_types.specs.declared.Opened.{Opened}
 use Rattle.wgsl_types.specs.declared.Opened.TheVariants as opened
 use Rattle.wgsl_types.specs.declared.Closed.{Closed}
-use Rattle.wgsl_types.specs.declared.Closed.TheVariants as answer
+use Rattle.wgsl_types.specs.declared.Unclosed.{Unclosed}
+use Rattle.wgsl_types.specs.declared.Unclosed.TheVariants as unclosed
 
 abbrev pub count_read : List ℕ → Result CountAt Refusal → Reading Counted
 count_read s (Ok c) = read (record { count = c.count; rest = from s c.at })
@@ -27,12 +30,17 @@ opened_type inner room left types s (Ok (opened.Template t at)) = template_type 
 opened_type inner room left types s (Ok (opened.Array at)) = arguments_of room (inner types (from s at))
 opened_type inner room left types s (Err r) = stopped (number_of r.fault)
 
+-- of a type inside another, or for its record
+abbrev pub refused_inside : Unclosed → Refusal
+refused_inside (unclosed.Refused r) = r
+refused_inside (unclosed.Full e close) = refusal_of TypesFull close
+
 -- what the reading of a type came to, after so many records, in the type words as they were and as they are; behind the records nothing changes
-abbrev pub TypeRead : List ℕ → (room before : ℕ) → (was is : List ℕ) → Closing → Result Closed Refusal → Type 0
-TypeRead s room before was is c (Ok (answer.Whole e made at close)) =
-    (c ≡ closed e (records_in type_words is made) (from s at)) × (before ≤ made) × (made ≤ room) × (drop (made * type_words) is ≡ drop (made * type_words) was)
-TypeRead s room before was is c (Ok (answer.Full e close)) = c ≡ full e
-TypeRead s room before was is c (Err r) = c ≡ stopped (number_of r.fault)
+abbrev pub TypeRead : List ℕ → (room before : ℕ) → (was is : List ℕ) → Closing → Result Closed Unclosed → Type 0
+TypeRead s room before was is c (Ok x) =
+    (c ≡ closed x.shape (records_in type_words is x.made) (from s x.at)) × (before ≤ x.made) × (x.made ≤ room) × (drop (x.made * type_words) is ≡ drop (x.made * type_words) was)
+TypeRead s room before was is c (Err (unclosed.Full e close)) = c ≡ full e
+TypeRead s room before was is c (Err (unclosed.Refused r)) = c ≡ stopped (number_of r.fault)
 
 -- there is room for the records that the lent words admit
 abbrev pub Room : (room made : ℕ) → (types : List ℕ) → Type 0

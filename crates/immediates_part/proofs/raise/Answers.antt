@@ -4,9 +4,5 @@ use Rattle.immediates_part.specs.Part.{raised}
 use Rattle.immediates_part.proofs.RaisedLaws.{shifted_out}
 use Rattle.immediates_part.proofs.raise.Goals as goal
 
-pub returns-then-n-lt64 : goal.returns-then-n-lt64
-unfolding raised
-returns-then-n-lt64 c = refl
-
 pub returns : goal.returns
 returns c = sym (shifted_out c.args.mask c.args.n c.if-n-lt64.false)

@@ -11,14 +11,6 @@ use Rattle.immediates_ranges.proofs.RangeLaws.{shifts, range_mask}
 use Rattle.immediates_ranges.proofs.PartLaws.{partly_mask}
 use Rattle.immediates_ranges.proofs.range_slots.Goals as goal
 
-pub returns-then-size-eq0 : goal.returns-then-size-eq0
-unfolding range_slots
-returns-then-size-eq0 c = rw c.if-size-eq0.true refl
-
-pub returns-then-end-gt-SLOT_BYTES : goal.returns-then-end-gt-SLOT_BYTES
-unfolding range_slots
-returns-then-end-gt-SLOT_BYTES c = let a = c.args in rw (ne_eqb a.size 0 c.if-size-eq0.false, lt-leb (a.offset + a.size) slot_bytes c.if-end-gt-SLOT_BYTES.true) refl
-
 pub returns : goal.returns
 unfolding range_slots
 returns c =

@@ -11,33 +11,33 @@ use Rattle.immediates_walk.proofs.+members_part_struct_part.Goals as goal
 
 pub members_part-returns-in_err-plain-clause-value : goal.members_part-returns-in_err-plain-clause-value
 members_part-returns-in_err-plain-clause-value t c =
-    ap part_found c.from_residual.ensures ∙ rw c.struct_members-own.ensures at (rw c.in_err-plain.was at (c.plain_from.ensures.by_index c.args.members.now c.loop-j.invariant.so_far))
+    ap part_found c.from_residual.ensures ∙ rw c.in_err-plain.was at c.plain_from.ensures.value
 
 pub members_part-returns-in_err-nested-clause-value : goal.members_part-returns-in_err-nested-clause-value
 members_part-returns-in_err-nested-clause-value t c =
-    let a = c.args in
-    let ms = a.members.now in
-    let own = c.struct_members-own.result.now in
-    let struct = (rw c.in_ok-plain.was at c.plain_from.ensures.taken_bound) c.if-count-taken.false in
-    let early : c.member_type-t.result < a.ty = rw c.member_type-t.ensures struct.0 in
-    let at = ap (λ (x : ℕ). a.offset + x) c.member_offset.ensures in
+    let a = c.args.walk.of in
+    let own = c.struct_members-own.ensures in
+    let struct = (rw c.in_ok-plain.was at c.plain_from.ensures.taken_bound) c.if-walk-taken.false in
+    let type = rw own at c.member_type-t.ensures in
+    let early : c.member_type-t.result < a.ty = rw type struct.0 in
+    let at = ap (λ (x : ℕ). a.offset + x) (rw own at c.member_offset.ensures) in
     let nested = sym (ap part_found c.in_err-nested.was) ∙ c.struct_part.ensures.value in
-    let all = part_refused (decoded a.types.now ms) a.ty own a.offset c.in_ok-plain.plain.taken c.member_type-t.ensures at early nested a.count (omega (arith, c.if-count-taken.false)) in
-    ap part_found c.from_residual-in_err-nested.ensures ∙ rw c.struct_members-own.ensures at all
+    ap part_found c.from_residual-in_err-nested.ensures
+    ∙ part_refused (decoded a.types.now a.members.now) a.ty (struct_members a.types.now a.members.now a.ty) a.offset c.in_ok-plain.plain.taken type at early nested a.count (omega (arith, c.if-walk-taken.false))
 
 pub members_part-loop-j-preserved : goal.members_part-loop-j-preserved
 members_part-loop-j-preserved t c =
-    let a = c.args in
-    let ms = a.members.now in
-    let own = c.struct_members-own.result.now in
-    let struct = (rw c.in_ok-plain.was at c.plain_from.ensures.taken_bound) c.if-count-taken.false in
-    let found = rw c.in_ok-plain.was at (c.plain_from.ensures.by_index ms c.loop-j.invariant.so_far) in
-    let early : c.member_type-t.result < a.ty = rw c.member_type-t.ensures struct.0 in
-    let at = ap (λ (x : ℕ). a.offset + x) c.member_offset.ensures in
+    let a = c.args.walk.of in
+    let own = c.struct_members-own.ensures in
+    let struct = (rw c.in_ok-plain.was at c.plain_from.ensures.taken_bound) c.if-walk-taken.false in
+    let found = rw c.in_ok-plain.was at c.plain_from.ensures.value in
+    let type = rw own at c.member_type-t.ensures in
+    let early : c.member_type-t.result < a.ty = rw type struct.0 in
+    let at = ap (λ (x : ℕ). a.offset + x) (rw own at c.member_offset.ensures) in
     let nested = sym (ap part_found c.in_ok-nested.was) ∙ c.struct_part.ensures.value in
     record {
-      within = omega (arith, c.if-count-taken.false);
-      so_far = part_more (decoded a.types.now ms) a.ty own a.offset c.in_ok-plain.plain.taken c.member_type-t.ensures at early found nested c.join-part.ensures;
+      within = omega (arith, c.if-walk-taken.false);
+      so_far = part_more (decoded a.types.now a.members.now) a.ty (struct_members a.types.now a.members.now a.ty) a.offset c.in_ok-plain.plain.taken type at early found nested c.join-part.ensures;
       keeps = c.struct_part.ensures.keeps_2;
     }
 
@@ -64,28 +64,27 @@ struct_part-returns-then-is_kept-clause-value t c =
     let own = c.requires.keeps a.ty (a.offset % 4) (omega arith) is in
     c.moved.ensures ∙ moved_found a.types.now a.members.now a.ty a.offset (sym (ap part_found c.in_ok-kept_part.was) ∙ c.kept_part.ensures ∙ own)
 
-pub struct_part-members_part-walked-requires : goal.struct_part-members_part-walked-requires
+pub struct_part-invariant_of-walk-clause-so_far : goal.struct_part-invariant_of-walk-clause-so_far
 unfolding members_part
-struct_part-members_part-walked-requires t c =
-    (omega (arith, c.decreases), (c.requires.sizes, (omega (arith, c.requires.ty_in_bounds), (c.requires.keeps, (omega arith, c.nothing_at-nothing.ensures)))))
+struct_part-invariant_of-walk-clause-so_far t c = c.nothing_at.ensures
 
 pub struct_part-returns-in_err-walked-clause-value : goal.struct_part-returns-in_err-walked-clause-value
 struct_part-returns-in_err-walked-clause-value t c =
     let a = c.args in
-    let own = own_part a.types.now a.members.now a.ty (a.offset % 4) c.requires.ty_value c.type_word-count.ensures c.members_part-walked.ensures.value in
+    let own = own_part a.types.now a.members.now a.ty (a.offset % 4) c.requires.ty_value c.type_word.ensures c.members_part-walked.ensures.value in
     ap part_found c.from_residual-in_err-walked.ensures ∙ moved_found a.types.now a.members.now a.ty a.offset (sym (ap part_found c.in_err-walked.was) ∙ own)
 
 pub struct_part-returns-clause-value : goal.struct_part-returns-clause-value
 struct_part-returns-clause-value t c =
     let a = c.args in
-    let own = own_part a.types.now a.members.now a.ty (a.offset % 4) c.requires.ty_value c.type_word-count.ensures c.members_part-walked.ensures.value in
+    let own = own_part a.types.now a.members.now a.ty (a.offset % 4) c.requires.ty_value c.type_word.ensures c.members_part-walked.ensures.value in
     c.moved-2.ensures ∙ moved_found a.types.now a.members.now a.ty a.offset (sym (ap part_found c.in_ok-walked.was) ∙ own)
 
 pub struct_part-returns-in_err-walked-clause-keeps_2 : goal.struct_part-returns-in_err-walked-clause-keeps_2
 struct_part-returns-in_err-walked-clause-keeps_2 t c =
     let a = c.args in
     let walk = c.members_part-walked in
-    let own = own_part a.types.now a.members.now a.ty (a.offset % 4) c.requires.ty_value c.type_word-count.ensures walk.ensures.value in
+    let own = own_part a.types.now a.members.now a.ty (a.offset % 4) c.requires.ty_value c.type_word.ensures walk.ensures.value in
     let long : a.ty * 16 + 16 ≤ length walk.new.kept = omega (arith, c.requires.ty_in_bounds, walk.auto.kept) in
     rw c.keep.ensures (keeps_more walk.new.kept a.ty (a.offset % 4) long (omega arith) (part_at (decoded a.types.now a.members.now)) (part_found walk.result) own walk.ensures.keeps_2)
 
@@ -93,6 +92,6 @@ pub struct_part-returns-clause-keeps_2 : goal.struct_part-returns-clause-keeps_2
 struct_part-returns-clause-keeps_2 t c =
     let a = c.args in
     let walk = c.members_part-walked in
-    let own = own_part a.types.now a.members.now a.ty (a.offset % 4) c.requires.ty_value c.type_word-count.ensures walk.ensures.value in
+    let own = own_part a.types.now a.members.now a.ty (a.offset % 4) c.requires.ty_value c.type_word.ensures walk.ensures.value in
     let long : a.ty * 16 + 16 ≤ length walk.new.kept = omega (arith, c.requires.ty_in_bounds, walk.auto.kept) in
     rw c.keep.ensures (keeps_more walk.new.kept a.ty (a.offset % 4) long (omega arith) (part_at (decoded a.types.now a.members.now)) (part_found walk.result) own walk.ensures.keeps_2)

@@ -10,4 +10,4 @@ pub whole_as_slice-members_part : goal.whole_as_slice-members_part
 whole_as_slice-members_part g c = omega (arith, c.requires.words_bound)
 
 pub members_part-requires-clause-keeps : goal.members_part-requires-clause-keeps
-members_part-requires-clause-keeps g c = keeps_nothing (part_at (decoded c.args.types.now c.args.members.now)) _ g.row.N refl
+members_part-requires-clause-keeps g c = keeps_nothing (part_at (decoded c.args.walk.of.types.now c.args.walk.of.members.now)) _ g.row.N refl

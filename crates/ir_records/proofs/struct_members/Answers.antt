@@ -20,7 +20,7 @@ pub returns-then-i-types : goal.returns-then-i-types
 unfolding struct_members
 returns-then-i-types c =
     let test = rw (c.type_word-count.ensures, c.type_word-first.ensures, c.type_word-kind.ensures) at c.if-i-types.true in
-    rw (test) (rw (c.type_word-count.ensures, c.type_word-first.ensures) at c.member_part.ensures)
+    rw (test) (rw (c.type_word-count.ensures, c.type_word-first.ensures) at c.member_part.ensures.words)
 
 pub returns : goal.returns
 unfolding struct_members

@@ -2,7 +2,7 @@ use mathlib.Core.Path.{sym, ap, ◌∙◌}
 use Prim.Native.Nat.{◌≤◌}
 use native.Mathlib.Omega.{arith}
 use Rattle.proc_alignment.specs.Alignment.{most}
-use Rattle.std.specs.Prelude.{ℕ, Option, Some, None, Err}
+use Rattle.std.specs.Prelude.{ℕ, Some, None, Err}
 use Rattle.order_types.specs.Serving.{refusal_number}
 use Rattle.order_call.specs.Answer.{Refused, order_answer_of}
 use Rattle.order_call.specs.Call.{Left}
@@ -32,19 +32,18 @@ overflow_cast-own c =
     let last = c.last_of-last.ensures in
     let is = rw last at (sym c.first_order.ensures) ∙ c.in-Some.is in
     let small : a.span ≤ most = omega arith in
-    let fits = span_small a.types.now a.rows.now a.n a.wanted.now a.span c.in-Some.order s.requires.wanted_len_bound small s.requires.by_index number is in
+    let fits = span_small a.types.now a.rows.now a.n a.wanted.now a.span c.in-Some.number s.requires.wanted_len_bound small s.requires.by_index number is in
     omega (arith, c.span_of-own.ensures, fits)
 
-pub with_order-requires : goal.with_order-requires
-with_order-requires c =
+pub with_order-requires-clause-by_index : goal.with_order-requires-clause-by_index
+with_order-requires-clause-by_index c =
     let s = c in
     let a = s.args in
     let number = sym c.check.ensures ∙ ap refusal_number c.in_default.is in
     let last = c.last_of-last.ensures in
     let is = rw last at (sym c.first_order.ensures) ∙ c.in-Some.is in
     let small : a.span ≤ most = omega arith in
-    let offsets = offset-small a.types.now a.rows.now a.n a.wanted.now a.span c.in-Some.order s.requires.wanted_len_bound small s.requires.by_index number is in
-    record { wanted_len_bound = s.requires.wanted_len_bound; n_in_bounds = s.requires.n_in_bounds; wanted_bound = s.requires.wanted_bound; wanted_in_bounds = s.requires.wanted_in_bounds; by_index = offsets; span_value = c.span_of-own.ensures }
+    offset-small a.types.now a.rows.now a.n a.wanted.now a.span c.in-Some.number s.requires.wanted_len_bound small s.requires.by_index number is
 
 pub returns-in-Some : goal.returns-in-Some
 returns-in-Some c =
@@ -53,7 +52,7 @@ returns-in-Some c =
     let number = sym c.check.ensures ∙ ap refusal_number c.in_default.is in
     let last = c.last_of-last.ensures in
     let is = rw last at (sym c.first_order.ensures) ∙ c.in-Some.is in
-    let e = chosen_order a.rule a.capabilities a.types.now a.n a.members.now a.m a.rows.now a.wanted.now a.span c.if-wanted-eq0.false number (Some c.in-Some.order) is in
+    let e = chosen_order a.rule a.capabilities a.types.now a.n a.members.now a.m a.rows.now a.wanted.now a.span c.if-wanted-eq0.false number (Some c.in-Some.number) is in
     let w = c.with_order.ensures in
     record { value = w.value ∙ ap (λ (l : Left). l.answer) (sym e); types_after = w.types_after ∙ ap (λ (l : Left). l.types) (sym e); members_after = w.members_after ∙ ap (λ (l : Left). l.members) (sym e); rows_after = w.rows_after ∙ ap (λ (l : Left). l.rows) (sym e) }
 

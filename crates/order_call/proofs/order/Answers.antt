@@ -35,7 +35,7 @@ choose-requires c =
     let accepted = sym k.ensures.value ∙ ap outcome_of c.in_ok-check_first.was in
     let n6 : a.n * 6 ≤ length a.types.now = omega (arith, r.record') in
     let aligned = positive a.rule a.capabilities a.types.now a.n (take (a.m * 4) a.members.now) a.rows.now n6 accepted in
-    record { wanted_len_bound = r.few; n_in_bounds = r.record'; wanted_bound = r.count; wanted_in_bounds = r.words; by_index = rw k.ensures.rows_after aligned }
+    record { wanted_len_bound = r.few; type_in_bounds = r.record'; wanted_bound = r.count; wanted_in_bounds = r.words; by_index = rw k.ensures.rows_after aligned }
 
 pub returns : goal.returns
 returns c =

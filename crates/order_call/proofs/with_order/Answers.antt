@@ -5,18 +5,13 @@ use Rattle.order_call.specs.Answer.{order_answer_of}
 use Rattle.order_call.specs.Call.{struct_answer}
 use Rattle.order_call.proofs.with_order.Goals as goal
 
-pub tried-requires : goal.tried-requires
-tried-requires c =
-    let p = c.requires in
-    record { k_bound = p.wanted_len_bound; n_in_bounds = p.n_in_bounds; k_bound_2 = p.wanted_bound; k_in_bounds = p.wanted_in_bounds; by_index = p.by_index }
-
 pub returns : goal.returns
 returns c =
     let a = c.args in
     let span = c.requires.span_value in
     let t = c.tried in
-    let answer = ap (struct_answer a.n a.span a.order) (ap outcome_of (sym c.in_ok-tried.was) ∙ t.ensures.value) in
-    rw (← span) record { value = answer; types_after = rw t.ensures.value at t.ensures.types_after; members_after = rw t.ensures.value at t.ensures.members_after; rows_after = t.ensures.rows_after }
+    let answer = ap (struct_answer a.n a.span a.order.number) (ap outcome_of (sym c.in_ok-tried.was) ∙ t.ensures.value) in
+    rw (← c.requires.order_value, ← span) record { value = answer; types_after = rw t.ensures.value at t.ensures.types_after; members_after = rw t.ensures.value at t.ensures.members_after; rows_after = t.ensures.rows_after }
 
 pub returns-in_err-tried : goal.returns-in_err-tried
 returns-in_err-tried c =
@@ -24,5 +19,5 @@ returns-in_err-tried c =
     let a = c.args in
     let span = c.requires.span_value in
     let t = c.tried in
-    let answer = ap order_answer_of same ∙ ap (struct_answer a.n a.span a.order) (ap outcome_of (sym c.in_err-tried.was) ∙ t.ensures.value) in
-    rw (← span) record { value = answer; types_after = rw t.ensures.value at t.ensures.types_after; members_after = rw t.ensures.value at t.ensures.members_after; rows_after = t.ensures.rows_after }
+    let answer = ap order_answer_of same ∙ ap (struct_answer a.n a.span a.order.number) (ap outcome_of (sym c.in_err-tried.was) ∙ t.ensures.value) in
+    rw (← c.requires.order_value, ← span) record { value = answer; types_after = rw t.ensures.value at t.ensures.types_after; members_after = rw t.ensures.value at t.ensures.members_after; rows_after = t.ensures.rows_after }

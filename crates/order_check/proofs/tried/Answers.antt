@@ -13,17 +13,14 @@ use Rattle.order_struct.proofs.KeepLaws.{kept-part, restored}
 use Rattle.order_check.specs.Tables.{types_with, members_with}
 use Rattle.order_check.proofs.tried.Goals as goal
 
-pub put_struct-requires : goal.put_struct-requires
-put_struct-requires c = c.requires
-
 pub check_first-checked-requires : goal.check_first-checked-requires
 check_first-checked-requires c =
     let s = c in
     let a = s.args in
     let types = a.types.now in
     let members = a.members.now in
-    let n6 : a.n * 6 + 6 ≤ length types = s.requires.n_in_bounds in
-    let m4 : a.m * 4 + a.k * 4 ≤ length members = omega (arith, s.requires.k_in_bounds) in
+    let n6 : a.n * 6 + 6 ≤ length types = s.requires.type_in_bounds in
+    let m4 : a.m * 4 + a.order.n * 4 ≤ length members = omega (arith, s.requires.rows_in_bounds) in
     let w = c.put_struct in
     record { t_in_bounds = omega (arith, n6, w.auto.types); u_in_bounds = omega (arith, m4, w.auto.members) }
 
@@ -33,8 +30,8 @@ put-requires-in-Err c =
     let a = s.args in
     let types = a.types.now in
     let members = a.members.now in
-    let n6 : a.n * 6 + 6 ≤ length types = s.requires.n_in_bounds in
-    let m4 : a.m * 4 + a.k * 4 ≤ length members = omega (arith, s.requires.k_in_bounds) in
+    let n6 : a.n * 6 + 6 ≤ length types = s.requires.type_in_bounds in
+    let m4 : a.m * 4 + a.order.n * 4 ≤ length members = omega (arith, s.requires.rows_in_bounds) in
     let w = c.put_struct in
     record { count_in_bounds = omega (arith, n6, w.auto.types); count_in_bounds_2 = omega (arith, c.put.auto.table) }
 
@@ -44,10 +41,10 @@ put-requires-in-Err-2 c =
     let a = s.args in
     let types = a.types.now in
     let members = a.members.now in
-    let n6 : a.n * 6 + 6 ≤ length types = s.requires.n_in_bounds in
-    let m4 : a.m * 4 + a.k * 4 ≤ length members = omega (arith, s.requires.k_in_bounds) in
+    let n6 : a.n * 6 + 6 ≤ length types = s.requires.type_in_bounds in
+    let m4 : a.m * 4 + a.order.n * 4 ≤ length members = omega (arith, s.requires.rows_in_bounds) in
     let w = c.put_struct in
-    record { count_in_bounds = omega (arith, m4, w.auto.members); count_in_bounds_2 = omega (arith, s.requires.k_bound, c.put-2.auto.table) }
+    record { count_in_bounds = omega (arith, m4, w.auto.members); count_in_bounds_2 = omega (arith, a.order.few, c.put-2.auto.table) }
 
 pub returns-in-Ok : goal.returns-in-Ok
 returns-in-Ok c =
@@ -55,16 +52,16 @@ returns-in-Ok c =
     let a = s.args in
     let types = a.types.now in
     let members = a.members.now in
-    let n6 : a.n * 6 + 6 ≤ length types = s.requires.n_in_bounds in
-    let m4 : a.m * 4 + a.k * 4 ≤ length members = omega (arith, s.requires.k_in_bounds) in
+    let n6 : a.n * 6 + 6 ≤ length types = s.requires.type_in_bounds in
+    let m4 : a.m * 4 + a.order.n * 4 ≤ length members = omega (arith, s.requires.rows_in_bounds) in
     let w = c.put_struct in
     let k = c.check_first-checked in
-    let record' = struct_record a.m a.k a.span in
-    let words = member_rows a.rows.now a.wanted.now a.k (member_at a.k a.order) in
-    let long = rows_length a.rows.now a.wanted.now (member_at a.k a.order) a.k in
+    let record' = struct_record a.m a.order.n a.span in
+    let words = member_rows a.rows.now a.wanted.now a.order.n (member_at a.order.n a.order.number) in
+    let long = rows_length a.rows.now a.wanted.now (member_at a.order.n a.order.number) a.order.n in
     let ts : take (a.n * 6 + 6) w.new.types ≡ types_with types a.n record' = ap (take (a.n * 6 + 6)) w.ensures.types_after ∙ take_part 6 types record' (a.n * 6) refl n6 in
-    let ms : take (a.m * 4 + a.k * 4) w.new.members ≡ members_with members a.m words =
-    ap (take (a.m * 4 + a.k * 4)) w.ensures.members_after ∙ take_part (a.k * 4) members words (a.m * 4) long m4 in
+    let ms : take (a.m * 4 + a.order.n * 4) w.new.members ≡ members_with members a.m words =
+    ap (take (a.m * 4 + a.order.n * 4)) w.ensures.members_after ∙ take_part (a.order.n * 4) members words (a.m * 4) long m4 in
     let q = c.in-Ok.is in
     record { value = rw (← ts, ← ms) k.ensures.value; types_after = rw q w.ensures.types_after; members_after = rw q w.ensures.members_after; rows_after = rw (← ts, ← ms) k.ensures.rows_after }
 
@@ -74,22 +71,22 @@ returns-in-Err c =
     let a = s.args in
     let types = a.types.now in
     let members = a.members.now in
-    let n6 : a.n * 6 + 6 ≤ length types = s.requires.n_in_bounds in
-    let m4 : a.m * 4 + a.k * 4 ≤ length members = omega (arith, s.requires.k_in_bounds) in
+    let n6 : a.n * 6 + 6 ≤ length types = s.requires.type_in_bounds in
+    let m4 : a.m * 4 + a.order.n * 4 ≤ length members = omega (arith, s.requires.rows_in_bounds) in
     let w = c.put_struct in
     let k = c.check_first-checked in
-    let record' = struct_record a.m a.k a.span in
-    let words = member_rows a.rows.now a.wanted.now a.k (member_at a.k a.order) in
-    let long = rows_length a.rows.now a.wanted.now (member_at a.k a.order) a.k in
+    let record' = struct_record a.m a.order.n a.span in
+    let words = member_rows a.rows.now a.wanted.now a.order.n (member_at a.order.n a.order.number) in
+    let long = rows_length a.rows.now a.wanted.now (member_at a.order.n a.order.number) a.order.n in
     let ts : take (a.n * 6 + 6) w.new.types ≡ types_with types a.n record' = ap (take (a.n * 6 + 6)) w.ensures.types_after ∙ take_part 6 types record' (a.n * 6) refl n6 in
-    let ms : take (a.m * 4 + a.k * 4) w.new.members ≡ members_with members a.m words =
-    ap (take (a.m * 4 + a.k * 4)) w.ensures.members_after ∙ take_part (a.k * 4) members words (a.m * 4) long m4 in
+    let ms : take (a.m * 4 + a.order.n * 4) w.new.members ≡ members_with members a.m words =
+    ap (take (a.m * 4 + a.order.n * 4)) w.ensures.members_after ∙ take_part (a.order.n * 4) members words (a.m * 4) long m4 in
     let q = c.in-Err.is in
     let kept = c.put in
     let kept-rows = c.put-2 in
     let kt : take 6 kept.new.table ≡ take 6 (drop (a.n * 6) types) = kept-part types (replicate 6 0) kept.new.table (a.n * 6) 6 n6 kept.ensures in
-    let km : take (a.k * 4) kept-rows.new.table ≡ take (a.k * 4) (drop (a.m * 4) members) =
-    kept-part members (replicate 28 0) kept-rows.new.table (a.m * 4) (a.k * 4) m4 kept-rows.ensures in
+    let km : take (a.order.n * 4) kept-rows.new.table ≡ take (a.order.n * 4) (drop (a.m * 4) members) =
+    kept-part members (replicate 28 0) kept-rows.new.table (a.m * 4) (a.order.n * 4) m4 kept-rows.ensures in
     let bt = c.put-in-Err.ensures ∙ ap (λ (x : List ℕ). paste x (a.n * 6) kept.new.table 6) w.ensures.types_after ∙ restored types record' kept.new.table (a.n * 6) 6 refl n6 kt in
-    let bm = c.put-in-Err-2.ensures ∙ ap (λ (x : List ℕ). paste x (a.m * 4) kept-rows.new.table (a.k * 4)) w.ensures.members_after ∙ restored members words kept-rows.new.table (a.m * 4) (a.k * 4) long m4 km in
+    let bm = c.put-in-Err-2.ensures ∙ ap (λ (x : List ℕ). paste x (a.m * 4) kept-rows.new.table (a.order.n * 4)) w.ensures.members_after ∙ restored members words kept-rows.new.table (a.m * 4) (a.order.n * 4) long m4 km in
     record { value = rw (← ts, ← ms) k.ensures.value; types_after = rw q bt; members_after = rw q bm; rows_after = rw (← ts, ← ms) k.ensures.rows_after }

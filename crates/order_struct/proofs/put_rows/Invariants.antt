@@ -3,4 +3,4 @@ use Rattle.order_struct.proofs.PutLaws.{Rows}
 use Rattle.order_struct.proofs.put_rows.Given as goal
 
 abbrev pub invariant-loop-j : goal.invariant-loop-j
-invariant-loop-j l = Rows l.rows l.wanted (member_at l.k l.order) l.initial.members l.m l.k l.j l.members
+invariant-loop-j l = Rows l.placed.given.rows.now l.placed.given.wanted.now (member_at l.placed.order.n l.placed.order.number) l.initial.members l.placed.m l.placed.order.n l.j l.members

@@ -3,7 +3,7 @@ use mathlib.Core.Path.{refl, sym, ap, ◌∙◌}
 use native.Mathlib.Omega.{arith}
 use Rattle.place_steps.specs.Step.{step_made, step_found}
 use Rattle.place_descent.specs.Place.{found_place}
-use Rattle.place_descent.proofs.LoopLaws.{no_start, looking_start, looking_fits, looking_ends, looking_bounds, looking_step, looking_at, looking_done, column_fits, column_last, column_passed}
+use Rattle.place_descent.proofs.LoopLaws.{no_start, looking_start, looking_ends, looking_step, looking_at, looking_done, column_last, column_passed}
 use Rattle.place_descent.proofs.place_of.Goals as goal
 
 pub returns-then-type_count-start : goal.returns-then-type_count-start
@@ -12,17 +12,8 @@ returns-then-type_count-start c = no_start _ _ _ _ (rw c.type_count.ensures at c
 pub loop-i-init : goal.loop-i-init
 loop-i-init c = looking_start _ _ _ _ c.requires (rw c.type_count.ensures at c.if-type_count-start.false)
 
-pub step_at-requires : goal.step_at-requires
-step_at-requires c = looking_bounds c.loop-i.invariant
-
-pub overflow_add-byte : goal.overflow_add-byte
-overflow_add-byte c = record { fits = omega (arith, looking_fits (looking_step c.loop-i.invariant c.loop-i-test.true (sym (ap step_found c.in_ok-next.was ∙ ap step_made c.in-To.is) ∙ c.step_at.ensures))) }
-
 pub returns-then-i-steps : goal.returns-then-i-steps
 returns-then-i-steps c = column_passed c.loop-i.invariant c.loop-i-test.true c.if-i-steps.true (sym (ap step_found c.in_ok-next.was ∙ ap step_made c.in-Column.is) ∙ c.step_at.ensures)
-
-pub overflow_add-column : goal.overflow_add-column
-overflow_add-column c = record { fits = column_fits c.loop-i.invariant (sym (ap step_found c.in_ok-next.was ∙ ap step_made c.in-Column.is) ∙ c.step_at.ensures) }
 
 pub returns-in-Column : goal.returns-in-Column
 returns-in-Column c = column_last c.loop-i.invariant c.loop-i-test.true c.if-i-steps.false (sym (ap step_found c.in_ok-next.was ∙ ap step_made c.in-Column.is) ∙ c.step_at.ensures)

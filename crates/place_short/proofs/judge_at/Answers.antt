@@ -7,16 +7,15 @@ use mathlib.Core.Path.{refl, sym, ◌∙◌}
 use Prim.Native.Nat.{◌*◌}
 use native.Mathlib.Omega.{arith}
 use lib.Seq.{length-take-le}
+use Rattle.ir_records.specs.Fields.{record_at}
+use Rattle.ir_records.proofs.TableLaws.{all_ok}
 use Rattle.ir_records.proofs.RecordLaws.{record_bounds}
 use Rattle.place_short.specs.Serving.{three_from}
 use Rattle.place_short.proofs.RecordParts.{struct_part}
 use Rattle.place_short.proofs.judge_at.Goals as goal
 
-pub slice_bounds-layout_of-end-2 : goal.slice_bounds-layout_of-end-2
-slice_bounds-layout_of-end-2 c = let a = c.args in sym (length-take-le (a.i * 3) a.words.now (omega (arith, c.requires.i_in_bounds)))
-
 pub layout_of-judged-requires : goal.layout_of-judged-requires
-layout_of-judged-requires c = let a = c.args in rw c.type_inner-inner.ensures (record_bounds a.types.now a.members.now a.i c.requires.i_value)
+layout_of-judged-requires c = let a = c.args in rw c.type_inner-inner.ensures (record_bounds a.arena.types.now a.arena.members.now a.i (all_ok (record_at a.arena.types.now a.arena.members.now) a.arena.n a.arena.in_order a.i c.requires.of_these).1)
 
 pub slice_bounds-flags_of-end-2 : goal.slice_bounds-flags_of-end-2
 slice_bounds-flags_of-end-2 c = let a = c.args in sym (length-take-le (a.i * 3) a.words.now (omega (arith, c.requires.i_in_bounds)))
@@ -24,10 +23,7 @@ slice_bounds-flags_of-end-2 c = let a = c.args in sym (length-take-le (a.i * 3) 
 pub flags_of-flagged-requires : goal.flags_of-flagged-requires
 flags_of-flagged-requires c =
     let a = c.args in
-    λ count span e. rw c.struct_members-part.ensures (struct_part a.types.now a.members.now a.i (omega (arith, c.requires.i_in_bounds_2)) c.requires.i_value count span (sym c.type_inner-inner.ensures ∙ e))
-
-pub put_three-requires : goal.put_three-requires
-put_three-requires c = c.requires.i_in_bounds
+    λ count span e. rw c.struct_members-part.ensures (struct_part a.arena.types.now a.arena.members.now a.i (omega (arith, a.arena.whole, c.requires.of_these)) (all_ok (record_at a.arena.types.now a.arena.members.now) a.arena.n a.arena.in_order a.i c.requires.of_these).1 count span (sym c.type_inner-inner.ensures ∙ e))
 
 pub returns : goal.returns
 unfolding three_from

@@ -5,9 +5,8 @@ use native.Mathlib.Omega.{arith}
 use Rattle.place_short.proofs.RefusedLaws.{refused_records, zero_scratch}
 use Rattle.place_short.proofs.judge_tables.Goals as goal
 
-pub judge_records-requires : goal.judge_records-requires
-judge_records-requires c =
-    record { n_value = c.requires.n_value; n_in_bounds = c.requires.n_in_bounds; n_value_2 = sym c.records_ok-found.ensures ∙ no_refusal c.records_ok-found.result (sym c.is_err.ensures.value ∙ c.if-is_err.false) }
+pub invariant_of-arena-clause-in_order : goal.invariant_of-arena-clause-in_order
+invariant_of-arena-clause-in_order c = sym c.records_ok-found.ensures ∙ no_refusal c.records_ok-found.result (sym c.is_err.ensures.value ∙ c.if-is_err.false)
 
 pub clear-requires : goal.clear-requires
 clear-requires c = omega (arith, c.requires.n_in_bounds)

@@ -12,7 +12,7 @@ use Rattle.place_short.proofs.layout_all.Given as goal
 
 abbrev pub invariant-loop-i : goal.invariant-loop-i
 invariant-loop-i l =
-    (first_refusal (layout_at (decoded l.types l.members)) l.i ≡ Accepted)
-    × (take (l.i * 3) l.words ≡ flat (laid_at l.types l.members) l.i)
-    × (drop (l.n * 3) l.words ≡ drop (l.n * 3) l.initial.words)
+    (first_refusal (layout_at (decoded l.arena.types.now l.arena.members.now)) l.i ≡ Accepted)
+    × (take (l.i * 3) l.words ≡ flat (laid_at l.arena.types.now l.arena.members.now) l.i)
+    × (drop (l.arena.n * 3) l.words ≡ drop (l.arena.n * 3) l.initial.words)
     × (length l.words ≡ length l.initial.words)

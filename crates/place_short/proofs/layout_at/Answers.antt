@@ -7,18 +7,14 @@ use mathlib.Core.Path.{refl, sym, ◌∙◌}
 use Prim.Native.Nat.{◌*◌}
 use native.Mathlib.Omega.{arith}
 use lib.Seq.{length-take-le}
+use Rattle.ir_records.specs.Fields.{record_at}
+use Rattle.ir_records.proofs.TableLaws.{all_ok}
 use Rattle.ir_records.proofs.RecordLaws.{record_bounds}
 use Rattle.place_short.specs.Serving.{laid_from}
 use Rattle.place_short.proofs.layout_at.Goals as goal
 
-pub slice_bounds-layout_of-end-2 : goal.slice_bounds-layout_of-end-2
-slice_bounds-layout_of-end-2 c = let a = c.args in sym (length-take-le (a.i * 3) a.words.now (omega (arith, c.requires.i_in_bounds)))
-
 pub layout_of-judged-requires : goal.layout_of-judged-requires
-layout_of-judged-requires c = let a = c.args in rw c.type_inner-inner.ensures (record_bounds a.types.now a.members.now a.i c.requires.i_value)
-
-pub put_three-requires : goal.put_three-requires
-put_three-requires c = c.requires.i_in_bounds
+layout_of-judged-requires c = let a = c.args in rw c.type_inner-inner.ensures (record_bounds a.arena.types.now a.arena.members.now a.i (all_ok (record_at a.arena.types.now a.arena.members.now) a.arena.n a.arena.in_order a.i c.requires.of_these).1)
 
 pub returns : goal.returns
 unfolding laid_from

@@ -12,18 +12,6 @@ use Rattle.place_short_flags.proofs.blended_flags.Goals as goal
 pub returns-then-not-sourced : goal.returns-then-not-sourced
 returns-then-not-sourced c =
     let a = c.args in
-    let p = c.requires in
-    let none : Sourceless a.part.now a.count = λ j h. p.sourceless (c.if-not-sourced.true) j (omega (arith, h, p.part_len)) in
-    rw (no_sources (bit a.capabilities dual_source_blending) a.part.now a.count none)
-    (sym (no_blend (type_inner a.types.now) (short_flags a.words.now) a.part.now a.count a.flags none))
-
-pub returns : goal.returns
-returns c =
-    let passed = rw c.capable-dual.ensures at (sym c.sources_of.ensures ∙ ap judged c.in_ok-sources_of.was) in
-    rw passed c.struct_blend.ensures
-
-pub returns-in_err-sources_of : goal.returns-in_err-sources_of
-returns-in_err-sources_of c =
-    let stopped = rw c.capable-dual.ensures at (sym c.sources_of.ensures ∙ ap judged c.in_err-sources_of.was) in
-    let same : c.from_residual.result ≡ Err c.in_err-sources_of.field-0.0 = search rules in
-    rw stopped (ap judged same)
+    let none : Sourceless a.part.words.now a.part.count = λ j h. c.requires (c.if-not-sourced.true) j (omega (arith, h, a.part.counted)) in
+    rw (no_sources (bit a.capabilities dual_source_blending) a.part.words.now a.part.count none)
+    (sym (no_blend (type_inner a.types.now) (short_flags a.words.now) a.part.words.now a.part.count a.flags none))

@@ -25,7 +25,7 @@ returns-in_err-bounds c =
     let same : c.from_residual.result ≡ Err c.in_err-bounds.field-0.0 = search rules in
     let refused = rw (c.in_err-bounds.was, l.invariant.1) at (sym c.member_step.ensures) in
     record {
-      result_value = ap taken_result same ∙ sym (member_refused (type_inner a.types.now) (short_sizes a.words.now) (short_flags a.words.now) a.count a.span a.part.now l.j l.bounds l.invariant.0 _ _ _ refused a.count c.loop-j-test.true);
+      result_value = ap taken_result same ∙ sym (member_refused (type_inner a.types.now) (short_sizes a.words.now) (short_flags a.words.now) a.part.count a.span a.part.words.now l.j l.bounds l.invariant.0 _ _ _ refused a.part.count c.loop-j-test.true);
       sources_known = rw same tt;
     }
 
@@ -34,11 +34,7 @@ loop-j-preserved c =
     let a = c.args in
     let l = c.loop-j in
     let taken = rw (c.in_ok-bounds.was, l.invariant.1) at (sym c.member_step.ensures) in (
-      member_taken (type_inner a.types.now) (short_sizes a.words.now) (short_flags a.words.now) a.count a.span a.part.now l.j l.bounds l.invariant.0 _ taken,
-      rw (c.own_offset-offset.ensures, c.own_type-t.ensures) at c.struct_at-previous.ensures ∙ sym (previous_next (type_inner a.types.now) (short_sizes a.words.now) (short_flags a.words.now) a.count a.span a.part.now l.j),
-      λ e. one_more_sourceless a.part.now l.j l.sources l.invariant.2 (rw c.own_source-sources.ensures at e),
+      member_taken (type_inner a.types.now) (short_sizes a.words.now) (short_flags a.words.now) a.part.count a.span a.part.words.now l.j l.bounds l.invariant.0 _ taken,
+      rw (c.offset_of.ensures, c.type_of.ensures) at c.struct_at-previous.ensures ∙ sym (previous_next (type_inner a.types.now) (short_sizes a.words.now) (short_flags a.words.now) a.part.count a.span a.part.words.now l.j),
+      λ e. one_more_sourceless a.part.words.now l.j l.sources l.invariant.2 (rw c.source_of-sources.ensures at e),
     )
-
-pub returns : goal.returns
-returns c =
-    let l = c.loop-j in record { result_value = sym (rw (le_antisymm l.auto.j-end c.loop-j-test.false) at l.invariant.0); sources_known = λ e j h. l.invariant.2 (eqb-true l.sources 0 (not-false _ e)) j (omega (arith, h, c.requires, c.loop-j-test.false)) }

@@ -10,6 +10,6 @@ use Rattle.place_short_flags.proofs.members_of.Given as goal
 
 abbrev pub invariant-loop-j : goal.invariant-loop-j
 invariant-loop-j l =
-    (bounds_after (type_inner l.types) (short_sizes l.words) (short_flags l.words) l.count l.span l.part l.j ≡ ok l.bounds)
-    × (l.previous ≡ previous_of (type_inner l.types) l.part l.j)
-    × (l.sources ≡ 0 → Sourceless l.part l.j)
+    (bounds_after (type_inner l.types) (short_sizes l.words) (short_flags l.words) l.part.count l.span l.part.words.now l.j ≡ ok l.bounds)
+    × (l.previous ≡ previous_of (type_inner l.types) l.part.words.now l.j)
+    × (l.sources ≡ 0 → Sourceless l.part.words.now l.j)

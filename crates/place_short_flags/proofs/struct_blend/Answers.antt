@@ -10,7 +10,7 @@ returns-in-None-None c =
     let a = c.args in
     let first = rw c.in-None-None.is-0 at c.source_at-first.ensures in
     let second = rw c.in-None-None.is-1 at c.source_at-second.ensures in
-    sym (blend_by (type_inner a.types.now) (short_flags a.words.now) a.part.now a.count a.flags None None first second)
+    sym (blend_by (type_inner a.types.now) (short_flags a.words.now) a.part.words.now a.part.count a.flags None None first second)
 
 pub returns-in-Some-Some : goal.returns-in-Some-Some
 returns-in-Some-Some c =
@@ -20,7 +20,7 @@ returns-in-Some-Some c =
     let second = rw w.is-1 at c.source_at-second.ensures in
     let own = sym (rw c.member_type.ensures at c.short_word-own.ensures) in
     c.pair_of.ensures (short_flags a.words.now) own
-    ∙ sym (blend_by (type_inner a.types.now) (short_flags a.words.now) a.part.now a.count a.flags (Some w.a) (Some w.b) first second)
+    ∙ sym (blend_by (type_inner a.types.now) (short_flags a.words.now) a.part.words.now a.part.count a.flags (Some w.a) (Some w.b) first second)
 
 pub returns-in-None-Some : goal.returns-in-None-Some
 returns-in-None-Some c =
@@ -28,7 +28,7 @@ returns-in-None-Some c =
     let w = c.in-None-Some in
     let first = rw w.is-0 at c.source_at-first.ensures in
     let second = rw w.is-1 at c.source_at-second.ensures in
-    rw c.invalid.ensures (sym (blend_by (type_inner a.types.now) (short_flags a.words.now) a.part.now a.count a.flags None (Some w.field-0-1) first second))
+    rw c.invalid.ensures (sym (blend_by (type_inner a.types.now) (short_flags a.words.now) a.part.words.now a.part.count a.flags None (Some w.field-0-1) first second))
 
 pub returns-in-Some-None : goal.returns-in-Some-None
 returns-in-Some-None c =
@@ -36,4 +36,4 @@ returns-in-Some-None c =
     let w = c.in-Some-None in
     let first = rw w.is-0 at c.source_at-first.ensures in
     let second = rw w.is-1 at c.source_at-second.ensures in
-    rw c.invalid-in-Some-None.ensures (sym (blend_by (type_inner a.types.now) (short_flags a.words.now) a.part.now a.count a.flags (Some w.field-0-0) None first second))
+    rw c.invalid-in-Some-None.ensures (sym (blend_by (type_inner a.types.now) (short_flags a.words.now) a.part.words.now a.part.count a.flags (Some w.field-0-0) None first second))

@@ -1,19 +1,9 @@
 use mathlib.Core.Path.{◌≡◌}
 use Prim.Native.Nat.{suc, ◌+◌, ◌*◌}
 use native.Mathlib.Omega.{arith}
-use lib.ListN.{length-set}
 use lib.Seq.{sets-eq}
 use Rattle.place_short_layout.specs.ShortRows.{three_words}
 use Rattle.place_short_layout.proofs.put_three.Goals as goal
-
-pub bounds-words-at-2 : goal.bounds-words-at-2
-bounds-words-at-2 c = simp length-set (omega (arith, c.requires))
-
-pub bounds-words-at-3 : goal.bounds-words-at-3
-bounds-words-at-3 c = simp length-set (omega (arith, c.requires))
-
-pub shape_of-words : goal.shape_of-words
-shape_of-words c = simp length-set
 
 pub returns : goal.returns
 returns c =

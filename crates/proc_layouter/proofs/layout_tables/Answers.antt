@@ -1,5 +1,4 @@
-use Rattle.std.proofs.Common.{rules, Err, Ok, ◌≡◌, ◌∙◌, sym, ap, refl}
-use Rattle.std.specs.Prelude as std
+use Rattle.std.proofs.Common.{rules, Err, ◌≡◌, ◌∙◌, sym, ap, refl}
 use Rattle.ir_records.specs.Table.{also}
 use Rattle.ir_records.specs.Refusal.{outcome_of}
 use Rattle.ir_records.proofs.RefusalLaws.{no_refusal}

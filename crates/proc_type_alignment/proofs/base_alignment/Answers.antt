@@ -1,4 +1,4 @@
-use borrow.Author.Tests.{lt-ltb, le-ltb}
+use borrow.Author.Tests.{lt-ltb}
 use Rattle.proc_type_alignment.proofs.base_alignment.Goals as goal
 
 pub returns-then-base-i : goal.returns-then-base-i

@@ -1,6 +1,4 @@
 use mathlib.Core.Path.{refl, sym, ◌∙◌}
-use native.Mathlib.Omega.{arith}
-use Rattle.proc_alignment.proofs.PowerLaws.{mul_within}
 use Rattle.proc_type_alignment.proofs.leaf_alignment.Goals as goal
 
 pub returns-then-power_of_two : goal.returns-then-power_of_two

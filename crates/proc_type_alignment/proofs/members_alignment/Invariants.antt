@@ -10,4 +10,4 @@ use Rattle.proc_type_alignment.proofs.members_alignment.Given as goal
 
 abbrev pub invariant-loop-j : goal.invariant-loop-j
 invariant-loop-j l =
-    (members_alignment (layouts_in l.rows) l.i l.part l.j ≡ ok l.a) × (l.sources ≡ 0 → Sourceless l.part l.j)
+    (members_alignment (layouts_in l.before.rows.now) l.before.i l.part.words.now l.j ≡ ok l.a) × (l.sources ≡ 0 → Sourceless l.part.words.now l.j)

@@ -9,9 +9,9 @@ pub returns-then-array_fields : goal.returns-then-array_fields
 unfolding inner_of
 returns-then-array_fields c =
     let a = c.args in
-    λ m n members. rw (sym (c.array_fields.ensures m a.a a.d) ∙ c.if-array_fields.true) (c.array_layout.ensures ∙ array_laid (layouts_in a.rows.now) a.i a.a a.c a.d members (eqb a.b 0))
+    λ m n members. rw (sym (c.array_fields.ensures m a.w.a a.w.d) ∙ c.if-array_fields.true) (c.array_layout.ensures ∙ array_laid (layouts_in a.rows.now) a.i a.w.a a.w.c a.w.d members (eqb a.w.b 0))
 
 pub returns : goal.returns
 returns c =
     let a = c.args in
-    λ m n members. rw (sym (c.array_fields.ensures m a.a a.d) ∙ c.if-array_fields.false) c.unfit.ensures
+    λ m n members. rw (sym (c.array_fields.ensures m a.w.a a.w.d) ∙ c.if-array_fields.false) c.unfit.ensures

@@ -1,4 +1,3 @@
-use mathlib.Core.Path.{refl}
 use Rattle.proc_type_layout.proofs.based_layout.Goals as goal
 
 pub returns-then-not-fit : goal.returns-then-not-fit

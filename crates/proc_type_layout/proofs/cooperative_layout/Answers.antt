@@ -11,15 +11,15 @@ pub cooperative_size-requires : goal.cooperative_size-requires
 unfolding inner_of
 cooperative_size-requires c =
     let a = c.args in
-    let b = taken_bounds 3 a.a a.b a.c a.d a.e c.cooperative_fields.result c.cooperative_fields.ensures c.if-cooperative_fields.true in
-    record { columns_bound = cooperative_within a.a b.0; rows_bound = cooperative_within a.b b.1; width_bound = b.2 }
+    let b = taken_bounds 3 a.w.a a.w.b a.w.c a.w.d a.w.e c.cooperative_fields.result c.cooperative_fields.ensures c.if-cooperative_fields.true in
+    record { columns_bound = cooperative_within a.w.a b.0; rows_bound = cooperative_within a.w.b b.1; width_bound = b.2 }
 
 pub leaf_alignment-requires : goal.leaf_alignment-requires
 unfolding inner_of
 leaf_alignment-requires c =
     let a = c.args in
-    let b = taken_bounds 3 a.a a.b a.c a.d a.e c.cooperative_fields.result c.cooperative_fields.ensures c.if-cooperative_fields.true in
-    record { factor_bound = cooperative_within a.b b.1; width_bound = b.2 }
+    let b = taken_bounds 3 a.w.a a.w.b a.w.c a.w.d a.w.e c.cooperative_fields.result c.cooperative_fields.ensures c.if-cooperative_fields.true in
+    record { factor_bound = cooperative_within a.w.b b.1; width_bound = b.2 }
 
 pub returns-then-cooperative_fields : goal.returns-then-cooperative_fields
 unfolding inner_of layout_of try_size alignment_of

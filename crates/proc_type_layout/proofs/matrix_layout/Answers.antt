@@ -11,15 +11,15 @@ pub matrix_size-requires : goal.matrix_size-requires
 unfolding inner_of
 matrix_size-requires c =
     let a = c.args in
-    let b = taken_bounds 2 a.a a.b a.c a.d a.e c.matrix_fields.result c.matrix_fields.ensures c.if-matrix_fields.true in
+    let b = taken_bounds 2 a.w.a a.w.b a.w.c a.w.d a.w.e c.matrix_fields.result c.matrix_fields.ensures c.if-matrix_fields.true in
     record { columns_bound = b.0; width_bound = b.2 }
 
 pub leaf_alignment-requires : goal.leaf_alignment-requires
 unfolding inner_of
 leaf_alignment-requires c =
     let a = c.args in
-    let b = taken_bounds 2 a.a a.b a.c a.d a.e c.matrix_fields.result c.matrix_fields.ensures c.if-matrix_fields.true in
-    record { factor_bound = rw c.vector_alignment-factor.ensures (factor_within a.b); width_bound = b.2 }
+    let b = taken_bounds 2 a.w.a a.w.b a.w.c a.w.d a.w.e c.matrix_fields.result c.matrix_fields.ensures c.if-matrix_fields.true in
+    record { factor_bound = rw c.vector_alignment-factor.ensures (factor_within a.w.b); width_bound = b.2 }
 
 pub returns-then-matrix_fields : goal.returns-then-matrix_fields
 unfolding inner_of layout_of try_size alignment_of

@@ -11,7 +11,7 @@ pub leaf_alignment-requires : goal.leaf_alignment-requires
 unfolding inner_of
 leaf_alignment-requires c =
     let a = c.args in
-    let b = taken_bounds 0 a.a a.b a.c a.d a.e c.scalar_fields.result c.scalar_fields.ensures c.if-scalar_fields.true in
+    let b = taken_bounds 0 a.w.a a.w.b a.w.c a.w.d a.w.e c.scalar_fields.result c.scalar_fields.ensures c.if-scalar_fields.true in
     record { factor_bound = omega arith; width_bound = b }
 
 pub returns-then-scalar_fields : goal.returns-then-scalar_fields

@@ -11,44 +11,38 @@ use Rattle.proc_type_methods.specs.TypeMethods.{try_size}
 use Rattle.proc_type_alignment.specs.TypeAlignment.{members_alignment, alignment_of}
 use Rattle.proc_type_alignment.specs.Serving.{layouts_in, located_result}
 use Rattle.proc_type_layout.specs.TypeLayout.{sized_layout, layout_of}
-use Rattle.proc_type_layout.proofs.TypeLayoutLaws.{members-within, part-length}
+use Rattle.proc_type_layout.proofs.TypeLayoutLaws.{members-within}
 use Rattle.proc_type_layout.proofs.struct_record.Goals as goal
 
 pub member_part-part-requires : goal.member_part-part-requires
 member_part-part-requires c =
     let a = c.args in
-    members-within (member_count a.members.now) a.a a.b 0 a.d a.e (sym (c.struct_fields.ensures 0) ∙ c.if-struct_fields.true)
-
-pub members_alignment-requires-clause-part_len : goal.members_alignment-requires-clause-part_len
-members_alignment-requires-clause-part_len c =
-    let a = c.args in
-    let h = members-within (member_count a.members.now) a.a a.b 0 a.d a.e (sym (c.struct_fields.ensures 0) ∙ c.if-struct_fields.true) in
-    rw c.member_part-part.ensures (part-length a.members.now a.a a.b h)
+    members-within (member_count a.members.now) a.w.a a.w.b a.w.c a.w.d a.w.e (sym (rw c.member_count.ensures at (c.struct_fields.ensures a.w.c)) ∙ c.if-struct_fields.true)
 
 pub returns-in_err-located : goal.returns-in_err-located
 unfolding inner_of layout_of try_size alignment_of
 returns-in_err-located c =
     let a = c.args in
-    let part = take (a.b * member_words) (drop (a.a * member_words) a.members.now) in
-    let located = rw c.member_part-part.ensures at c.members_alignment.ensures.result_value in
+    let part = take (a.w.b * member_words) (drop (a.w.a * member_words) a.members.now) in
+    let located = rw (c.member_part-part.ensures.words, c.member_part-part.ensures.count) at c.members_alignment.ensures.result_value in
     let same : c.from_residual.result ≡ Err c.in_err-located.field-0.0 = search rules in
-    λ n. rw (sym (c.struct_fields.ensures a.c) ∙ c.if-struct_fields.true)
-    (ap judged same ∙ ap (λ (o : Result ℕ). sized_layout o a.c) (ap located_result (sym c.in_err-located.was) ∙ located)
-    ∙ sym (require_then (sources_located part) 2 0 0 (members_alignment (layouts_in a.rows.now) a.i part a.b) (λ x. ok (record { size = a.c; alignment = x }))))
+    λ n. rw (sym (rw c.member_count.ensures at (c.struct_fields.ensures a.w.c)) ∙ c.if-struct_fields.true)
+    (ap judged same ∙ ap (λ (o : Result ℕ). sized_layout o a.w.c) (ap located_result (sym c.in_err-located.was) ∙ located)
+    ∙ sym (require_then (sources_located part) 2 0 0 (members_alignment (layouts_in a.before.rows.now) a.before.i part a.w.b) (λ x. ok (record { size = a.w.c; alignment = x }))))
 
 pub returns-then-struct_fields : goal.returns-then-struct_fields
 unfolding inner_of layout_of try_size alignment_of
 returns-then-struct_fields c =
     let a = c.args in
-    let part = take (a.b * member_words) (drop (a.a * member_words) a.members.now) in
-    let located = rw c.member_part-part.ensures at c.members_alignment.ensures.result_value in
-    λ n. rw (sym (c.struct_fields.ensures a.c) ∙ c.if-struct_fields.true)
-    (ap (λ (o : Result ℕ). sized_layout o a.c) (ap located_result (sym c.in_ok-located.was) ∙ located)
-    ∙ sym (require_then (sources_located part) 2 0 0 (members_alignment (layouts_in a.rows.now) a.i part a.b) (λ x. ok (record { size = a.c; alignment = x }))))
+    let part = take (a.w.b * member_words) (drop (a.w.a * member_words) a.members.now) in
+    let located = rw (c.member_part-part.ensures.words, c.member_part-part.ensures.count) at c.members_alignment.ensures.result_value in
+    λ n. rw (sym (rw c.member_count.ensures at (c.struct_fields.ensures a.w.c)) ∙ c.if-struct_fields.true)
+    (ap (λ (o : Result ℕ). sized_layout o a.w.c) (ap located_result (sym c.in_ok-located.was) ∙ located)
+    ∙ sym (require_then (sources_located part) 2 0 0 (members_alignment (layouts_in a.before.rows.now) a.before.i part a.w.b) (λ x. ok (record { size = a.w.c; alignment = x }))))
 
 -- a field outside its set
 pub returns : goal.returns
 returns c =
     let a = c.args in
-    λ n. rw (sym (c.struct_fields.ensures a.c) ∙ c.if-struct_fields.false)
-    (c.unfit.ensures ∙ sym (refused_twice 2 0 0 (sources_located (take (a.b * member_words) (drop (a.a * member_words) a.members.now)))))
+    λ n. rw (sym (rw c.member_count.ensures at (c.struct_fields.ensures a.w.c)) ∙ c.if-struct_fields.false)
+    (c.unfit.ensures ∙ sym (refused_twice 2 0 0 (sources_located (take (a.w.b * member_words) (drop (a.w.a * member_words) a.members.now)))))

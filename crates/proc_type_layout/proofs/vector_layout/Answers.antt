@@ -11,14 +11,14 @@ pub vector_size-requires : goal.vector_size-requires
 unfolding inner_of
 vector_size-requires c =
     let a = c.args in
-    let w = taken_bounds 1 a.a a.b a.c a.d a.e c.vector_fields.result c.vector_fields.ensures c.if-vector_fields.true in record { size_bound = w.0; width_bound = w.1 }
+    let w = taken_bounds 1 a.w.a a.w.b a.w.c a.w.d a.w.e c.vector_fields.result c.vector_fields.ensures c.if-vector_fields.true in record { size_bound = w.0; width_bound = w.1 }
 
 pub leaf_alignment-requires : goal.leaf_alignment-requires
 unfolding inner_of
 leaf_alignment-requires c =
     let a = c.args in
-    let b = taken_bounds 1 a.a a.b a.c a.d a.e c.vector_fields.result c.vector_fields.ensures c.if-vector_fields.true in
-    record { factor_bound = rw c.vector_alignment-factor.ensures (factor_within a.a); width_bound = b.1 }
+    let b = taken_bounds 1 a.w.a a.w.b a.w.c a.w.d a.w.e c.vector_fields.result c.vector_fields.ensures c.if-vector_fields.true in
+    record { factor_bound = rw c.vector_alignment-factor.ensures (factor_within a.w.a); width_bound = b.1 }
 
 pub returns-then-vector_fields : goal.returns-then-vector_fields
 unfolding inner_of layout_of try_size alignment_of

@@ -1,17 +1,12 @@
 -- `program_arguments::read_numbers` meets its contract. The invariant: the k numbers that are read and those that are left are all. Assumes nothing.
 use borrow.Author.Rules.{rules}
-use mathlib.Core.Path.{◌≡◌, refl, sym, ◌∙◌}
+use mathlib.Core.Path.{◌≡◌, sym, ◌∙◌}
 use native.Mathlib.Omega.{arith}
 use lib.ListN.{drop, length-set}
 use Rattle.program_words.specs.Words.{words}
 use Rattle.program_arguments.specs.Arguments.{reason_of}
-use Rattle.program_arguments.proofs.ArgumentLaws.{numbers_first, numbers_more, numbers_wrong, numbers_end, numbers_many}
+use Rattle.program_arguments.proofs.ArgumentLaws.{numbers_more, numbers_wrong, numbers_end, numbers_many}
 use Rattle.program_arguments.proofs.read_numbers.Goals as goal
-
-pub loop-k-init : goal.loop-k-init
-loop-k-init c =
-    let a = c.args in
-    (search rules, search rules, numbers_first a.command a.most 0 a.numbers.now (words (drop a.at a.s.now)) refl, refl)
 
 pub returns-in-Ok-None : goal.returns-in-Ok-None
 returns-in-Ok-None c =

@@ -1,14 +1,9 @@
 -- `program_output::line_end` meets its contract. The invariant: the line is what was passed and what is left of it from i on. Assumes nothing.
-use borrow.Author.Rules.{rules}
 use mathlib.Core.Path.{◌≡◌}
 use native.Mathlib.Omega.{arith}
 use lib.ListN.{length}
-use lib.Seq.{slice_empty}
 use Rattle.program_output.proofs.TextLaws.{line_more, line_stop, line_done}
 use Rattle.program_output.proofs.line_end.Goals as goal
-
-pub loop-i-init : goal.loop-i-init
-loop-i-init c = let a = c.args in (search rules, search rules, rw (slice_empty a.start a.text.now))
 
 pub returns-then-text-i-eq-NEWLINE : goal.returns-then-text-i-eq-NEWLINE
 returns-then-text-i-eq-NEWLINE c =

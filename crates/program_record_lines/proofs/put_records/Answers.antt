@@ -3,4 +3,4 @@ use Rattle.program_output.proofs.PutLaws.{puts_both}
 use Rattle.program_record_lines.proofs.put_records.Goals as goal
 
 pub returns : goal.returns
-returns c = puts_both c.put_types-end.ensures c.put_members.ensures
+returns c = puts_both c.put_lines.ensures c.put_lines-2.ensures

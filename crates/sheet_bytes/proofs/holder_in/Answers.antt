@@ -1,13 +1,9 @@
 -- `sheet_bytes::holder_in` meets its contract. The invariant: the search from j on finds what the whole search finds. Assumes nothing.
 use borrow.Author.Rules.{rules}
 use mathlib.Core.Path.{sym, ◌∙◌}
-use native.Mathlib.Nat.{sub-zero, le_antisymm}
+use native.Mathlib.Nat.{le_antisymm}
 use Rattle.sheet_bytes.proofs.HolderLaws.{holder_found, holder_next, holder_none}
 use Rattle.sheet_bytes.proofs.holder_in.Goals as goal
-
-pub loop-j-init : goal.loop-j-init
-loop-j-init c =
-    (search rules, rw sub-zero)
 
 pub returns-then-holds : goal.returns-then-holds
 returns-then-holds c =

@@ -5,4 +5,4 @@ use Rattle.sheet_table.specs.Width.{longest}
 use Rattle.sheet_table.proofs.name_width.Given as goal
 
 abbrev pub invariant-loop-j : goal.invariant-loop-j
-invariant-loop-j l = (l.j ≤ l.count) × (l.width ≡ longest l.named.text.now l.named.names.now l.named.types.now l.i l.j)
+invariant-loop-j l = (l.j ≤ l.count) × (l.width ≡ longest l.t.sheet.text.now l.t.sheet.names.now l.t.sheet.types.now l.t.i l.j)

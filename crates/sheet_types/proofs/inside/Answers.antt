@@ -1,13 +1,8 @@
 -- `sheet_types::inside` meets its contract. The invariant: what is inside the arrays that are left is inside all. Assumes nothing.
 use borrow.Author.Rules.{rules}
 use mathlib.Core.Path.{sym, ◌∙◌}
-use native.Mathlib.Nat.{sub-zero}
 use Rattle.sheet_types.proofs.TypeLaws.{arrays_step, arrays_stop, arrays_done}
 use Rattle.sheet_types.proofs.inside.Goals as goal
-
-pub loop-init : goal.loop-init
-loop-init c =
-    (search rules, rw sub-zero)
 
 pub returns-then-type_word-ne-ARRAY_KIND : goal.returns-then-type_word-ne-ARRAY_KIND
 returns-then-type_word-ne-ARRAY_KIND c =

@@ -4,15 +4,8 @@ use mathlib.Core.List.{List}
 use Prim.Native.Nat.{ℕ}
 use native.Mathlib.Omega.{arith}
 use Rattle.sheet_types.specs.Types.{name_length}
-use Rattle.sheet_types.proofs.TypeLaws.{length_printed, length_numbered}
+use Rattle.sheet_types.proofs.TypeLaws.{length_numbered}
 use Rattle.sheet_types.proofs.name_length.Goals as goal
-
-pub returns-then-is_printable : goal.returns-then-is_printable
-returns-then-is_printable c =
-    let b = c in
-    let a = b.args in
-    let e = b.member_name-name.ensures in
-    length_printed b.member_name-name.result.now a.j (sym c.is_printable.ensures ∙ c.if-is_printable.true) ∙ ap (λ (n : List ℕ). name_length n a.j) e
 
 pub returns : goal.returns
 returns c =

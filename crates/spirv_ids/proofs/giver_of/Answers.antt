@@ -19,21 +19,21 @@ one_is false = refl
 pub loop-p-init : goal.loop-p-init
 loop-p-init c =
     let a = c.args in
-    let g = c.requires.gives_from in
-    (giver_from a.place.words.now a.place.from g a.place.at a.id, g.stands, sym g.none)
+    let g = a.place.input.gives in
+    (giver_from a.place.input.words.now a.place.input.from g a.place.at a.id, g.stands, sym g.none)
 
 pub returns-then-count-eq0 : goal.returns-then-count-eq0
 returns-then-count-eq0 c =
     let a = c.args in
     let l = c.loop-p in
-    let ws = a.place.words.now in
+    let ws = a.place.input.words.now in
     giver_missing ws a.place.at a.id (sym l.invariant.0 ∙ search_stuck ws a.place.at (gives ws a.id) l.p (sym c.word_count-count.ensures.0 ∙ c.if-count-eq0.true))
 
 pub returns-then-is_giver : goal.returns-then-is_giver
 returns-then-is_giver c =
     let a = c.args in
     let l = c.loop-p in
-    let ws = a.place.words.now in
+    let ws = a.place.input.words.now in
     let found : l.p ≡ giver ws a.place.at a.id =
     sym (search_found ws a.place.at (gives ws a.id) l.p c.loop-p-test.true
     (omega (arith, c.word_count-count.ensures.0, c.if-count-eq0.false)) (sym c.is_giver.ensures ∙ c.if-is_giver.true)) ∙ l.invariant.0 in
@@ -44,14 +44,14 @@ overflow_add-number c =
     let a = c.args in
     let l = c.loop-p in
     let e = rw (c.is_read.ensures, c.opcode_of.ensures) at c.from-number.ensures in
-    let most = number_upto a.place.words.now l.p l.invariant.1 a.place.at c.loop-p-test.true (omega (arith, c.word_count-count.ensures.0, c.if-count-eq0.false)) in
-    omega (arith, e, one_is (is_read (opcode a.place.words.now l.p)), most, l.invariant.2, c.requires.at_bound)
+    let most = number_upto a.place.input.words.now l.p l.invariant.1 a.place.at c.loop-p-test.true (omega (arith, c.word_count-count.ensures.0, c.if-count-eq0.false)) in
+    omega (arith, e, one_is (is_read (opcode a.place.input.words.now l.p)), most, l.invariant.2, a.place.few)
 
 pub loop-p-preserved : goal.loop-p-preserved
 loop-p-preserved c =
     let a = c.args in
     let l = c.loop-p in
-    let ws = a.place.words.now in
+    let ws = a.place.input.words.now in
     let some : 0 < word_count ws l.p = omega (arith, c.word_count-count.ensures.0, c.if-count-eq0.false) in
     let e = rw (c.is_read.ensures, c.opcode_of.ensures) at c.from-number.ensures in
     rw c.word_count-count.ensures.0 (
@@ -64,5 +64,5 @@ pub returns : goal.returns
 returns c =
     let a = c.args in
     let l = c.loop-p in
-    let ws = a.place.words.now in
+    let ws = a.place.input.words.now in
     giver_missing ws a.place.at a.id (sym l.invariant.0 ∙ search_end ws a.place.at (gives ws a.id) l.p c.loop-p-test.false)

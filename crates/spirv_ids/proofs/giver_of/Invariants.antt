@@ -9,7 +9,7 @@ use Rattle.spirv_ids.proofs.giver_of.Given as goal
 
 abbrev pub invariant-loop-p : goal.invariant-loop-p
 invariant-loop-p l =
-    (first (gives l.place.words.now l.id) (between l.place.words.now l.p l.place.at) ≡ giver l.place.words.now l.place.at l.id) × Stands l.place.words.now l.p × (l.number ≡ type_number l.place.words.now l.p)
+    (first (gives l.place.input.words.now l.id) (between l.place.input.words.now l.p l.place.at) ≡ giver l.place.input.words.now l.place.at l.id) × Stands l.place.input.words.now l.p × (l.number ≡ type_number l.place.input.words.now l.p)
 
 abbrev pub decreases-loop-p : goal.decreases-loop-p
 decreases-loop-p l = l.place.at - l.p

@@ -1,4 +1,5 @@
 -- `spirv_ids::integer_before` meets its contract. Assumes nothing.
+use borrow.Author.Rules.{rules}
 use mathlib.Core.Path.{ap, ◌∙◌}
 use Prim.Native.Nat.{◌-◌}
 use native.Mathlib.Omega.{arith}
@@ -11,7 +12,8 @@ use Rattle.spirv_ids.proofs.integer_before.Goals as goal
 pub returns : goal.returns
 returns c =
     let a = c.args in
-    let g = c.requires.gives_from in
-    c.first_between.ensures
-    ∙ find_found a.place.words.now a.place.at (is_integer a.place.words.now a.id) (a.place.at - a.place.from) a.place.from (omega (arith, g.stands.start))
-    ∙ ap found (integer-from a.place.words.now a.place.from g a.place.at a.id)
+    let ws = a.input.words.now in
+    let g = a.input.gives in
+    c.first_between.ensures (is_integer ws a.id) (λ p r h told. search rules)
+    ∙ find_found ws a.at (is_integer ws a.id) (a.at - a.input.from) a.input.from (omega (arith, g.stands.start))
+    ∙ ap found (integer-from ws a.input.from g a.at a.id)

@@ -6,6 +6,6 @@ use Rattle.spirv_members.proofs.members_of.Given as goal
 
 abbrev pub invariant-loop-j : goal.invariant-loop-j
 invariant-loop-j l =
-    (l.seen.unsupported ≡ members_unsupported l.place.words.now l.tables.types.now l.place.at l.j)
-    × (l.seen.sound ≡ members_sound l.place.words.now l.place.at l.j)
-    × (l.seen.alignment ≡ largest_alignment l.place.words.now l.tables.alignments.now l.place.at l.j)
+    (l.seen.unsupported ≡ members_unsupported l.place.input.words.now l.tables.types.now l.place.at l.j)
+    × (l.seen.sound ≡ members_sound l.place.input.words.now l.place.at l.j)
+    × (l.seen.alignment ≡ largest_alignment l.place.input.words.now l.tables.alignments.now l.place.at l.j)

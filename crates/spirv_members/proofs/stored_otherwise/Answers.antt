@@ -1,4 +1,5 @@
 -- `spirv_members::stored_otherwise` meets its contract. Assumes nothing.
+use borrow.Author.Rules.{rules}
 use borrow.Author.Tests.{lt-ltb, le-ltb}
 use Prim.Native.Nat.{◌-◌}
 use native.Mathlib.Omega.{arith}
@@ -16,7 +17,7 @@ returns-then-step-gt0 c =
     rw (
       lt-ltb 0 a.step c.if-step-gt0.true,
       c.is_some.ensures,
-      c.first_between.ensures,
+      c.first_between.ensures (is_otherwise ws c.word_of-id.result a.j a.step) (λ p r h told. search rules),
       c.word_of-id.ensures,
       find_found ws a.at (is_otherwise ws (word ws a.at 1) a.j a.step) (a.at - 5) 5 (omega arith),
       found_is,

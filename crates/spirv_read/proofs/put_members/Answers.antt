@@ -5,10 +5,10 @@ use Rattle.spirv_read.proofs.put_members.Goals as goal
 pub loop-j-init : goal.loop-j-init
 loop-j-init c =
     let a = c.args in
-    rows_start a.place.words.now a.place.at a.members.now a.m a.n
+    rows_start a.place.input.words.now a.place.at a.members.now a.m a.n
 
 pub loop-j-preserved : goal.loop-j-preserved
 loop-j-preserved c =
     let l = c.loop-j in
     let a = c.args in
-    rw c.put_member.ensures (rows_more a.place.words.now a.place.at a.members.now a.m a.n l.j l.members c.loop-j-test.true c.requires.n_in_bounds l.invariant)
+    rw c.put_member.ensures (rows_more a.place.input.words.now a.place.at a.members.now a.m a.n l.j l.members c.loop-j-test.true c.requires.n_in_bounds l.invariant)

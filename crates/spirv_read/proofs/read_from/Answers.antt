@@ -8,12 +8,12 @@ use Rattle.spirv_read.proofs.read_from.Goals as goal
 pub loop-at-init : goal.loop-at-init
 loop-at-init c =
     let a = c.args in
-    reading_starts a.space.types a.space.members a.words.now a.types.now a.members.now a.alignments.now c.requires.room
+    reading_starts a.space.types a.space.members a.input.words.now a.types.now a.members.now a.alignments.now c.requires
 
 pub returns-in_err-held : goal.returns-in_err-held
 returns-in_err-held c =
     let a = c.args in
-    let ws = a.words.now in
+    let ws = a.input.words.now in
     let l = c.loop-at in
     let same : c.from_residual.result ≡ Err c.in_err-held.field-0.0 = search rules in
     let e = reading_refused a.space.types a.space.members ws a.types.now a.members.now a.alignments.now l.at l.types l.members l.alignments l.held.types l.held.members l.invariant c.loop-at-test.true _ c.in_err-held.ensures in
@@ -22,7 +22,7 @@ returns-in_err-held c =
 pub loop-at-preserved : goal.loop-at-preserved
 loop-at-preserved c =
     let a = c.args in
-    let ws = a.words.now in
+    let ws = a.input.words.now in
     let l = c.loop-at in
     let s = c.in_ok-held.ensures in
     let k = c.step_at.auto in
@@ -32,7 +32,7 @@ loop-at-preserved c =
 pub returns : goal.returns
 returns c =
     let a = c.args in
-    let ws = a.words.now in
+    let ws = a.input.words.now in
     let l = c.loop-at in
     let h = c.loop-at-test.false in (
       ended_section a.space.types a.space.members ws a.types.now a.members.now a.alignments.now l.at l.types l.members l.alignments l.held.types l.held.members l.invariant h,

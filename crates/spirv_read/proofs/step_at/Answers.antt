@@ -10,7 +10,7 @@ use Rattle.spirv_read.proofs.step_at.Goals as goal
 pub returns-in-Some : goal.returns-in-Some
 returns-in-Some c =
     let a = c.args in
-    let ws = a.place.words.now in
+    let ws = a.place.input.words.now in
     let judged = rw c.in-Some.is at c.in_ok-judge.ensures in
     let told = judged.1 in
     let t = type-count a.space.types a.space.members ws a.place.at a.types.now a.members.now a.alignments.now c.requires.room a.held.types a.held.members c.requires.held in

@@ -12,6 +12,6 @@ pub returns-then-not-sourced : goal.returns-then-not-sourced
 returns-then-not-sourced c =
     let a = c.args in
     let p = c.requires in
-    let none : Sourceless a.part.now a.count = λ j h. p.sourceless (c.if-not-sourced.true) j (omega (arith, h, p.part_len)) in
-    rw (no_sources (bit a.capabilities dual_source_blending) a.part.now a.count none)
-    (sym (no_blend (type_inner a.types.now) (row_flags (rows_in a.rows.now)) a.part.now a.count a.flags none))
+    let none : Sourceless a.part.words.now a.part.count = λ j h. p.sourceless (c.if-not-sourced.true) j (omega (arith, h, c.args.part.counted)) in
+    rw (no_sources (bit a.capabilities dual_source_blending) a.part.words.now a.part.count none)
+    (sym (no_blend (type_inner a.types.now) (row_flags (rows_in a.before.rows.now)) a.part.words.now a.part.count a.flags none))

@@ -12,19 +12,19 @@ returns-in-None-None c =
     let a = c.args in
     let first = rw c.in-None-None.is-0 at c.source_at-first.ensures in
     let second = rw c.in-None-None.is-1 at c.source_at-second.ensures in
-    sym (blend_by (type_inner a.types.now) (row_flags (rows_in a.rows.now)) a.part.now a.count a.flags None None first second)
+    sym (blend_by (type_inner a.types.now) (row_flags (rows_in a.before.rows.now)) a.part.words.now a.part.count a.flags None None first second)
 
-pub own_word-own-requires : goal.own_word-own-requires
-own_word-own-requires c =
+pub word-own-requires : goal.word-own-requires
+word-own-requires c =
     let a = c.args in
     let p = c.requires in
     let first = rw c.in-Some-Some.is-0 at c.source_at-first.ensures in
-    let below : c.in-Some-Some.a < a.count = omega (arith, first, source_within a.part.now 1 a.count) in
-    let earlier = p.by_index c.in-Some-Some.a below in
-    rw c.member_type-s.ensures (omega (arith, earlier, p.rows_len))
+    let below : c.in-Some-Some.a < a.part.count = omega (arith, first, source_within a.part.words.now 1 a.part.count) in
+    let earlier = p c.in-Some-Some.a below in
+    rw c.member_type-s.ensures (omega (arith, earlier, c.args.before.laid))
 
 pub pair_of-requires : goal.pair_of-requires
-pair_of-requires c = omega (arith, c.requires.part_len)
+pair_of-requires c = omega (arith, c.args.part.counted)
 
 pub returns-in-Some-Some : goal.returns-in-Some-Some
 unfolding rows_in
@@ -33,9 +33,9 @@ returns-in-Some-Some c =
     let w = c.in-Some-Some in
     let first = rw w.is-0 at c.source_at-first.ensures in
     let second = rw w.is-1 at c.source_at-second.ensures in
-    let own = sym (rw c.member_type-s.ensures at c.own_word-own.ensures) in
-    c.pair_of.ensures (row_flags (rows_in a.rows.now)) own
-    ∙ sym (blend_by (type_inner a.types.now) (row_flags (rows_in a.rows.now)) a.part.now a.count a.flags (Some w.a) (Some w.b) first second)
+    let own = sym (rw c.member_type-s.ensures at c.word-own.ensures) in
+    c.pair_of.ensures (row_flags (rows_in a.before.rows.now)) own
+    ∙ sym (blend_by (type_inner a.types.now) (row_flags (rows_in a.before.rows.now)) a.part.words.now a.part.count a.flags (Some w.a) (Some w.b) first second)
 
 pub returns-in-None-Some : goal.returns-in-None-Some
 returns-in-None-Some c =
@@ -43,7 +43,7 @@ returns-in-None-Some c =
     let w = c.in-None-Some in
     let first = rw w.is-0 at c.source_at-first.ensures in
     let second = rw w.is-1 at c.source_at-second.ensures in
-    rw c.invalid.ensures (sym (blend_by (type_inner a.types.now) (row_flags (rows_in a.rows.now)) a.part.now a.count a.flags None (Some w.field-0-1) first second))
+    rw c.invalid.ensures (sym (blend_by (type_inner a.types.now) (row_flags (rows_in a.before.rows.now)) a.part.words.now a.part.count a.flags None (Some w.field-0-1) first second))
 
 pub returns-in-Some-None : goal.returns-in-Some-None
 returns-in-Some-None c =
@@ -51,4 +51,4 @@ returns-in-Some-None c =
     let w = c.in-Some-None in
     let first = rw w.is-0 at c.source_at-first.ensures in
     let second = rw w.is-1 at c.source_at-second.ensures in
-    rw c.invalid-in-Some-None.ensures (sym (blend_by (type_inner a.types.now) (row_flags (rows_in a.rows.now)) a.part.now a.count a.flags (Some w.field-0-0) None first second))
+    rw c.invalid-in-Some-None.ensures (sym (blend_by (type_inner a.types.now) (row_flags (rows_in a.before.rows.now)) a.part.words.now a.part.count a.flags (Some w.field-0-0) None first second))

@@ -10,26 +10,15 @@ pub returns-then-j-eq0 : goal.returns-then-j-eq0
 unfolding previous_of
 returns-then-j-eq0 c = rw c.if-j-eq0.true refl
 
-pub own_type-t-requires : goal.own_type-t-requires
-own_type-t-requires c =
-    let pre = c.requires in
-    omega (arith, pre.part_len, pre.j_le_count, c.if-j-eq0.false)
-
-pub own_offset-offset-requires : goal.own_offset-offset-requires
-own_offset-offset-requires c =
-    let pre = c.requires in
-    omega (arith, pre.part_len, pre.j_le_count, c.if-j-eq0.false)
-
 pub least_after-requires : goal.least_after-requires
 least_after-requires c =
-    let s = c in
-    let earlier = rw (← c.own_type-t.ensures) at (s.requires.by_index (s.args.j - 1) (omega (arith, s.requires.j_le_count, c.if-j-eq0.false))) in
-    omega (arith, earlier, s.requires.i_in_bounds)
+    let earlier = rw (← c.type_of-t.ensures) at (c.args.s.members_earlier (c.args.j - 1) (omega (arith, c.requires, c.if-j-eq0.false))) in
+    omega (arith, earlier, c.args.s.in_types)
 
 pub returns : goal.returns
 unfolding previous_of
 returns c =
     let a = c.args in
     let one_more : suc (a.j - 1) ≡ a.j = omega (arith, c.if-j-eq0.false) in
-    rw (c.own_offset-offset.ensures, c.own_type-t.ensures) at c.least_after.ensures
-    ∙ ap (λ (k : ℕ). least_of a.end (previous_of (type_inner a.types.now) a.part.now k)) one_more
+    rw (c.offset_of-offset.ensures, c.type_of-t.ensures) at c.least_after.ensures
+    ∙ ap (λ (k : ℕ). least_of a.end (previous_of (type_inner a.s.types.now) a.s.part.words.now k)) one_more

@@ -2,7 +2,7 @@
 use Rattle.std.proofs.Common.{rules, Err, ◌≡◌}
 use Rattle.ir_records.specs.Refusal.{judged}
 use mathlib.Core.Path.{sym, ap, ◌∙◌}
-use Prim.Native.Nat.{◌+◌}
+use Prim.Native.Nat.{◌+◌, ◌<◌}
 use native.Mathlib.Nat.{le_antisymm}
 use native.Mathlib.Omega.{arith}
 use Rattle.ir_records.specs.Record.{type_inner}
@@ -11,44 +11,42 @@ use Rattle.valid_type_info.specs.Verdict.{least_for}
 use Rattle.valid_members.proofs.StateLaws.{state_refused}
 use Rattle.valid_members.proofs.members_of.Goals as goal
 
-pub loop-j-init : goal.loop-j-init
-loop-j-init c = let pre = c.requires in (pre.taken_le_count, pre.taken_value)
+pub loop-reached-init : goal.loop-reached-init
+loop-reached-init c = let pre = c.requires in (pre.taken_le_count, pre.taken_value)
 
-pub together-reached-requires : goal.together-reached-requires
-together-reached-requires c =
-    let pre = c.requires in let l = c.loop-j in
-    record { rows_len = pre.rows_len; i_in_bounds = pre.i_in_bounds; part_len = pre.part_len; by_index = pre.by_index; taken_le_count = l.invariant.0 }
+pub together-there-requires : goal.together-there-requires
+together-there-requires c = c.loop-reached.invariant.0
 
-pub returns-then-at-count : goal.returns-then-at-count
-returns-then-at-count c =
+pub returns-then-there-s : goal.returns-then-there-s
+returns-then-there-s c =
     let a = c.args in
-    rw c.if-at-count.true at (sym (c.together-reached.ensures.taken_value a.rule c.loop-j.invariant.1))
+    rw c.if-there-s.true at (sym (c.together-there.ensures.taken_value a.rule c.loop-reached.invariant.1))
 
 pub step-requires : goal.step-requires
-step-requires c =
-    let s = c in
-    record { rows_len = s.requires.rows_len; j_value = c.together-reached.ensures.taken_value s.args.rule c.loop-j.invariant.1 }
+step-requires c = c.together-there.ensures.taken_value c.args.rule c.loop-reached.invariant.1
 
-pub returns-in_err-state : goal.returns-in_err-state
-returns-in_err-state c =
+pub returns-in_err-step : goal.returns-in_err-step
+returns-in_err-step c =
     let a = c.args in
-    let o = c.together-reached in
-    let refused = rw c.in_err-state.was at (sym c.step.ensures) in
-    let same : c.from_residual.result ≡ Err c.in_err-state.field-0.0 = search rules in
-    ap judged same ∙ sym (state_refused (least_for a.rule) (type_inner a.types.now) (rows_in a.rows.now) a.i a.count a.span a.part.now (o.result.taken + 1) refused a.count (omega (arith, o.ensures.taken_le_count_2, c.if-at-count.false)))
+    let o = c.together-there in
+    let refused = rw c.in_err-step.was at (sym c.step.ensures) in
+    let same : c.from_residual.result ≡ Err c.in_err-step.field-0.0 = search rules in
+    ap judged same ∙ sym (state_refused (least_for a.rule) (type_inner a.s.types.now) (rows_in a.s.before.rows.now) a.s.before.i a.s.part.count a.s.span a.s.part.words.now (o.result.taken + 1) refused a.s.part.count (omega (arith, o.ensures.taken_le_count, c.if-there-s.false)))
 
-pub overflow_add-j : goal.overflow_add-j
-overflow_add-j c = omega (arith, c.together-reached.ensures.taken_le_count_2, c.if-at-count.false, c.ranges.count)
+pub overflow_add-reached : goal.overflow_add-reached
+overflow_add-reached c =
+    let count : c.args.s.part.count < 4294967296 = search rules in
+    omega (arith, c.together-there.ensures.taken_le_count, c.if-there-s.false, count)
 
-pub loop-j-smaller : goal.loop-j-smaller
-loop-j-smaller c = omega (arith, c.loop-j-test.true, c.together-reached.ensures.taken_le_taken)
+pub loop-reached-smaller : goal.loop-reached-smaller
+loop-reached-smaller c = omega (arith, c.loop-reached-test.true, c.together-there.ensures.taken_le_taken)
 
-pub loop-j-preserved : goal.loop-j-preserved
-loop-j-preserved c =
-    let o = c.together-reached in
-    (omega (arith, o.ensures.taken_le_count_2, c.if-at-count.false), rw c.in_ok-state.was at (sym c.step.ensures))
+pub loop-reached-preserved : goal.loop-reached-preserved
+loop-reached-preserved c =
+    let o = c.together-there in
+    (omega (arith, o.ensures.taken_le_count, c.if-there-s.false), rw c.in_ok-step.was at (sym c.step.ensures))
 
 pub returns : goal.returns
 returns c =
-    let l = c.loop-j in
-    rw (le_antisymm l.invariant.0 c.loop-j-test.false) at (sym l.invariant.1)
+    let l = c.loop-reached in
+    rw (le_antisymm l.invariant.0 c.loop-reached-test.false) at (sym l.invariant.1)

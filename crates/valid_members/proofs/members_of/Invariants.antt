@@ -8,8 +8,8 @@ use Rattle.valid_type_info.specs.Verdict.{least_for}
 use Rattle.valid_members.specs.Serving.{state_after}
 use Rattle.valid_members.proofs.members_of.Given as goal
 
-abbrev pub invariant-loop-j : goal.invariant-loop-j
-invariant-loop-j l = (l.j ≤ l.count) × (state_after (least_for l.rule) (type_inner l.types) (rows_in l.rows) l.i l.count l.span l.part l.j ≡ ok l.state)
+abbrev pub invariant-loop-reached : goal.invariant-loop-reached
+invariant-loop-reached l = (l.reached.taken ≤ l.s.part.count) × (state_after (least_for l.rule) (type_inner l.s.types.now) (rows_in l.s.before.rows.now) l.s.before.i l.s.part.count l.s.span l.s.part.words.now l.reached.taken ≡ ok l.reached.state)
 
-abbrev pub decreases-loop-j : goal.decreases-loop-j
-decreases-loop-j l = l.count - l.j
+abbrev pub decreases-loop-reached : goal.decreases-loop-reached
+decreases-loop-reached l = l.s.part.count - l.reached.taken

@@ -1,6 +1,6 @@
 -- `valid_members::ordered_members` meets its contract. The invariant: state is what the definition has after j members, by either rule. Assumes nothing.
 use mathlib.Core.Path.{◌≡◌}
-use Prim.Native.Nat.{◌≤◌, ◌-◌}
+use Prim.Native.Nat.{◌≤◌}
 use Rattle.ir_records.specs.Result.{ok}
 use Rattle.ir_records.specs.Record.{type_inner}
 use Rattle.valid_type_info.specs.TypeInfo.{rows_in}
@@ -11,7 +11,7 @@ use Rattle.valid_members.proofs.ordered_members.Given as goal
 
 abbrev pub invariant-loop-j : goal.invariant-loop-j
 invariant-loop-j l =
-    (l.taken ≤ l.j)
-    × (l.j ≤ l.count)
-    × ((rule : UniformRule) → state_after (least_for rule) (type_inner l.types) (rows_in l.rows) l.i l.count l.span l.part l.taken ≡ ok l.initial.state
-    → state_after (least_for rule) (type_inner l.types) (rows_in l.rows) l.i l.count l.span l.part l.j ≡ ok l.state)
+    (l.fn.from.taken ≤ l.j)
+    × (l.j ≤ l.s.part.count)
+    × ((rule : UniformRule) → state_after (least_for rule) (type_inner l.s.types.now) (rows_in l.s.before.rows.now) l.s.before.i l.s.part.count l.s.span l.s.part.words.now l.fn.from.taken ≡ ok l.fn.from.state
+    → state_after (least_for rule) (type_inner l.s.types.now) (rows_in l.s.before.rows.now) l.s.before.i l.s.part.count l.s.span l.s.part.words.now l.j ≡ ok l.state)

@@ -1,18 +1,9 @@
 use Rattle.ir_records.specs.Record.{type_inner}
 use Rattle.valid_type_info.specs.TypeInfo.{rows_in}
-use Rattle.valid_type_info.specs.Verdict.{least_for, ok_verdict}
-use Rattle.valid_members.proofs.StateLaws.{plain_before, plain_state}
+use Rattle.valid_type_info.specs.Verdict.{least_for}
+use Rattle.valid_members_plain.specs.Serving.{uniform_so_far}
+use Rattle.valid_members.proofs.StateLaws.{plain_before, plain_state, so_far}
 use Rattle.valid_members.proofs.plain_from.Goals as goal
-
-pub from_state-from-requires : goal.from_state-from-requires
-from_state-from-requires c =
-    let pre = c.requires in
-    record { i_in_bounds = pre.i_in_bounds; part_len = pre.part_len; by_index = pre.by_index; taken_le_count = pre.taken_le_count }
-
-pub plain_members-reached-requires : goal.plain_members-reached-requires
-plain_members-reached-requires c =
-    let pre = c.requires in
-    record { rows_len = pre.rows_len; i_in_bounds = pre.i_in_bounds; part_len = pre.part_len; by_index = pre.by_index; taken_le_count = pre.taken_le_count }
 
 pub returns : goal.returns
 returns c =
@@ -20,9 +11,12 @@ returns c =
     let pre = c.requires in
     let p = c.plain_members-reached in record {
       taken_le_taken = p.ensures.taken_le_taken;
-      taken_le_count_2 = p.ensures.taken_le_count_2;
+      taken_le_count = p.ensures.taken_le_count;
       taken_value = λ rule e.
-          let from = plain_before (least_for rule) (type_inner a.types.now) (rows_in a.rows.now) a.i a.count a.span a.part.now a.taken a.before (ok_verdict a.before.uniform.ty) e pre.uniform_value pre.storage_value in
-          let after = p.ensures.plain_after rule a.before.immediates (rw c.from_state-from.ensures from) in
-          rw (c.carried-state.ensures, c.ok_verdict-uniform.ensures) (plain_state (least_for rule) (type_inner a.types.now) (rows_in a.rows.now) a.i a.count a.span a.part.now p.result.taken p.result.state (ok_verdict p.result.state.uniform) a.before.immediates after);
+          let fits = so_far a.both a.from.state.uniform pre.uniform_value in
+          let inner = type_inner a.s.types.now in
+          let rows = rows_in a.s.before.rows.now in
+          let from = plain_before (least_for rule) inner rows a.s.before.i a.s.part.count a.s.span a.s.part.words.now a.from.taken a.from.state (uniform_so_far a.both a.from.state.uniform.ty a.from.state.uniform) e fits.0 pre.storage_value in
+          let after = p.ensures.plain_after rule a.from.state.uniform a.from.state.immediates fits.1 (rw c.from_state.ensures from) in
+          rw (c.carried.ensures, c.uniform_from-uniform.ensures) (plain_state (least_for rule) inner rows a.s.before.i a.s.part.count a.s.span a.s.part.words.now p.result.taken p.result.state (uniform_so_far a.both p.result.state.uniform a.from.state.uniform) a.from.state.immediates after);
     }

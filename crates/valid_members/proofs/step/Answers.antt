@@ -8,11 +8,11 @@ use Rattle.valid_members.proofs.StateLaws.{state_step}
 use Rattle.valid_members.proofs.step.Goals as goal
 
 pub row_at-row-requires : goal.row_at-row-requires
-row_at-row-requires c = omega (arith, c.requires.rows_len)
+row_at-row-requires c = omega (arith, c.args.s.before.laid)
 
 pub returns : goal.returns
 returns c =
-    let s = c in let a = s.args in
-    let type-read : c.member_type-ty.result ≡ member_type a.part.now a.j = c.member_type-ty.ensures in
-    let one = rw (c.row_at-row.ensures, c.struct_at-next.ensures, c.is_array-array.ensures, c.member_offset-offset.ensures, type-read) at c.member.ensures in
-    rw add-one (one ∙ sym (state_step (least_for a.rule) (type_inner a.types.now) (rows_in a.rows.now) a.i a.count a.span a.part.now a.j a.state s.requires.j_value))
+    let a = c.args in
+    let type-read : c.member_type.result ≡ member_type a.s.part.words.now a.at.taken = c.member_type.ensures in
+    let one = rw (c.row_at-row.ensures, c.struct_at-next.ensures, c.is_array-array.ensures, c.member_offset.ensures, type-read) at c.member.ensures in
+    rw add-one (one ∙ sym (state_step (least_for a.rule) (type_inner a.s.types.now) (rows_in a.s.before.rows.now) a.s.before.i a.s.part.count a.s.span a.s.part.words.now a.at.taken a.at.state c.requires))

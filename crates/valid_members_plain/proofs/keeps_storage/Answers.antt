@@ -2,14 +2,14 @@ use mathlib.Core.Path.{refl}
 use Rattle.valid_type_info.specs.TypeInfo.{rows_in}
 use Rattle.valid_members_plain.proofs.keeps_storage.Goals as goal
 
-pub returns-then-own_word : goal.returns-then-own_word
+pub returns-then-word : goal.returns-then-word
 unfolding rows_in
-returns-then-own_word c =
-    let test = rw (c.own_word-2.ensures, c.own_word.ensures) at c.if-own_word.true in
-    rw (test, c.is_masked.ensures, c.own_word-then-own_word.ensures) refl
+returns-then-word c =
+    let test = rw (c.word-2.ensures, c.word.ensures) at c.if-word.true in
+    rw (test, c.is_masked.ensures, c.word-then-word.ensures) refl
 
 pub returns : goal.returns
 unfolding rows_in
 returns c =
-    let test = rw (c.own_word-2.ensures, c.own_word.ensures) at c.if-own_word.false in
+    let test = rw (c.word-2.ensures, c.word.ensures) at c.if-word.false in
     rw test refl

@@ -11,7 +11,7 @@ use Rattle.ir_records.proofs.ResultLaws.{required, refused_twice, T_true}
 use Rattle.proc_type_alignment.specs.TypeAlignment.{members_alignment}
 use Rattle.proc_type_alignment.specs.Serving.{layouts_in, located_result}
 use Rattle.proc_type_alignment.proofs.AcceptedAlignment.{members_earlier}
-use Rattle.proc_type_layout.proofs.TypeLayoutLaws.{members-within, part-length}
+use Rattle.proc_type_layout.proofs.TypeLayoutLaws.{members-within}
 use Rattle.valid_type_info.specs.Verdict.{least_for}
 use Rattle.valid_structs.proofs.RecordRowLaws.{struct_row_is, struct_row_refused}
 use Rattle.valid_structs.proofs.struct_row.Goals as goal
@@ -19,48 +19,38 @@ use Rattle.valid_structs.proofs.struct_row.Goals as goal
 pub returns-then-not-struct_fields : goal.returns-then-not-struct_fields
 returns-then-not-struct_fields c =
     let a = c.args in
-    λ n. rw (sym (c.struct_fields.ensures a.span) ∙ c.if-not-struct_fields.true, refused_twice 2 0 0 (sources_located (take (a.count * member_words) (drop (a.first * member_words) a.members.now)))) (rw c.of.ensures refl, refl)
+    λ n. rw (sym (rw c.member_count.ensures at (c.struct_fields.ensures a.w.c)) ∙ c.if-not-struct_fields.true, refused_twice 2 0 0 (sources_located (take (a.w.b * member_words) (drop (a.w.a * member_words) a.members.now)))) (rw c.of.ensures refl, refl)
 
 pub member_part-part-requires : goal.member_part-part-requires
 member_part-part-requires c =
     let a = c.args in
-    members-within (member_count a.members.now) a.first a.count 0 a.d a.e (sym (c.struct_fields.ensures 0) ∙ c.if-not-struct_fields.false)
-
-pub slice_bounds-members_alignment-end-2 : goal.slice_bounds-members_alignment-end-2
-slice_bounds-members_alignment-end-2 c = let a = c.args in sym (length-take-le (a.i * 14) a.rows.now (omega (arith, c.requires.i_in_bounds)))
-
-pub members_alignment-requires : goal.members_alignment-requires
-members_alignment-requires c =
-    let a = c.args in
-    let h = members-within (member_count a.members.now) a.first a.count 0 a.d a.e (sym (c.struct_fields.ensures 0) ∙ c.if-not-struct_fields.false) in
-    record { rows_len = length-take-le (a.i * 14) a.rows.now (omega (arith, c.requires.i_in_bounds)); part_len = rw c.member_part-part.ensures (part-length a.members.now a.first a.count h) }
+    members-within (member_count a.members.now) a.w.a a.w.b a.w.c a.w.d a.w.e (sym (rw c.member_count.ensures at (c.struct_fields.ensures a.w.c)) ∙ c.if-not-struct_fields.false)
 
 pub members_row-requires : goal.members_row-requires
 members_row-requires c =
     let s = c in
     let a = s.args in
-    let h = members-within (member_count a.members.now) a.first a.count 0 a.d a.e (sym (c.struct_fields.ensures 0) ∙ c.if-not-struct_fields.false) in
-    let part = c.member_part-part.result.now in
+    let part = c.member_part-part.result in
     let ls = layouts_in (take (a.i * 14) a.rows.now) in
-    let e = (required (sources_located part) 2 0 0 (members_alignment ls a.i part a.count) _ (sym c.members_alignment.ensures.result_value ∙ ap located_result c.in_ok-located.was)).1 in
-    record { i_in_bounds = s.requires.i_in_bounds; i_in_bounds_2 = s.requires.i_in_bounds_2; part_len = rw c.member_part-part.ensures (part-length a.members.now a.first a.count h); by_index = members_earlier ls a.i part a.count _ e; sourceless = rw c.in_ok-located.was at c.members_alignment.ensures.sources_told }
+    let e = (required (sources_located part.words.now) 2 0 0 (members_alignment ls a.i part.words.now part.count) _ (sym (rw (c.of-2.ensures.rows, c.of-2.ensures.i) at c.members_alignment.ensures.result_value) ∙ ap located_result c.in_ok-located.was)).1 in
+    record { i_in_bounds = s.requires.i_in_bounds; i_in_bounds_2 = s.requires.i_in_bounds_2; by_index = members_earlier ls a.i part.words.now part.count _ e; sourceless = rw c.in_ok-located.was at c.members_alignment.ensures.sources_told }
 
 pub returns : goal.returns
 returns c =
     let a = c.args in
     let m = member_count a.members.now in
-    let fit = sym (c.struct_fields.ensures a.span) ∙ c.if-not-struct_fields.false in
-    let e = rw c.member_part-part.ensures at (sym c.members_alignment.ensures.result_value ∙ ap located_result c.in_ok-located.was) in
-    let part = take (a.count * member_words) (drop (a.first * member_words) a.members.now) in
+    let fit = sym (rw c.member_count.ensures at (c.struct_fields.ensures a.w.c)) ∙ c.if-not-struct_fields.false in
+    let e = rw (c.member_part-part.ensures.words, c.member_part-part.ensures.count) at (sym (rw (c.of-2.ensures.rows, c.of-2.ensures.i) at c.members_alignment.ensures.result_value) ∙ ap located_result c.in_ok-located.was) in
+    let part = take (a.w.b * member_words) (drop (a.w.a * member_words) a.members.now) in
     let r = required (sources_located part) 2 0 0 _ _ e in
-    λ n. rw (T_true (sources_located part) r.0, struct_row_is (least_for a.rule) a.capabilities m n (type_inner a.types.now) (take (a.i * 14) a.rows.now) a.i a.first a.count a.span a.d a.e _ fit _ r.1)
-    (rw c.member_part-part.ensures at c.members_row.ensures)
+    λ n. rw (T_true (sources_located part) r.0, struct_row_is (least_for a.rule) a.capabilities m n (type_inner a.types.now) (take (a.i * 14) a.rows.now) a.i a.w.a a.w.b a.w.c a.w.d a.w.e _ fit _ r.1)
+    (rw (c.member_part-part.ensures.words, c.member_part-part.ensures.count) at c.members_row.ensures)
 
 pub returns-in_err-located : goal.returns-in_err-located
 returns-in_err-located c =
     let a = c.args in
     let m = member_count a.members.now in
-    let fit = sym (c.struct_fields.ensures a.span) ∙ c.if-not-struct_fields.false in
-    let e = rw c.member_part-part.ensures at (sym c.members_alignment.ensures.result_value ∙ ap located_result c.in_err-located.was) in
+    let fit = sym (rw c.member_count.ensures at (c.struct_fields.ensures a.w.c)) ∙ c.if-not-struct_fields.false in
+    let e = rw (c.member_part-part.ensures.words, c.member_part-part.ensures.count) at (sym (rw (c.of-2.ensures.rows, c.of-2.ensures.i) at c.members_alignment.ensures.result_value) ∙ ap located_result c.in_err-located.was) in
     let same : c.from_residual.result ≡ Err c.in_err-located.field-0.0 = search rules in
-    λ n. rw (struct_row_refused (least_for a.rule) a.capabilities m n (type_inner a.types.now) (take (a.i * 14) a.rows.now) a.i a.first a.count a.span a.d a.e _ fit (sources_located (take (a.count * member_words) (drop (a.first * member_words) a.members.now))) e) (ap judged same, refl)
+    λ n. rw (struct_row_refused (least_for a.rule) a.capabilities m n (type_inner a.types.now) (take (a.i * 14) a.rows.now) a.i a.w.a a.w.b a.w.c a.w.d a.w.e _ fit (sources_located (take (a.w.b * member_words) (drop (a.w.a * member_words) a.members.now))) e) (ap judged same, refl)

@@ -9,8 +9,8 @@ returns-then-code-ne0 c = rw (ne_eqb _ 0 c.if-code-ne0.true)
 
 pub returns-then-is_aligned : goal.returns-then-is_aligned
 unfolding array_verdict
-returns-then-is_aligned c = let a = rw c.larger.ensures at c.larger-a.ensures in rw (c.if-code-ne0.false, ← a, sym c.is_aligned.ensures ∙ c.if-is_aligned.true) refl
+returns-then-is_aligned c = let a = rw c.max.ensures at c.max-a.ensures in rw (c.if-code-ne0.false, ← a, sym c.is_aligned.ensures ∙ c.if-is_aligned.true) refl
 
 pub returns-else-is_aligned : goal.returns-else-is_aligned
 unfolding array_verdict
-returns-else-is_aligned c = let a = rw c.larger.ensures at c.larger-a.ensures in rw (c.if-code-ne0.false, ← a, sym c.is_aligned.ensures ∙ c.if-is_aligned.false) refl
+returns-else-is_aligned c = let a = rw c.max.ensures at c.max-a.ensures in rw (c.if-code-ne0.false, ← a, sym c.is_aligned.ensures ∙ c.if-is_aligned.false) refl

@@ -16,7 +16,7 @@ returns c =
     let a = c.args in
     λ k m n inner members.
     let laid = sym (c.array_record.ensures m n members) ∙ ap judged c.in_ok-layout.was in
-    rw (array_row_is a.least k m n inner (take (a.i * 14) a.rows.now) a.i a.base a.form a.count a.stride a.e members _ laid)
+    rw (array_row_is a.least k m n inner (take (a.i * 14) a.rows.now) a.i a.w.a a.w.b a.w.c a.w.d a.w.e members _ laid)
     c.array_over.ensures
 
 pub returns-in_err-layout : goal.returns-in_err-layout
@@ -24,5 +24,5 @@ returns-in_err-layout c =
     let a = c.args in
     let same : c.from_residual.result ≡ Err c.in_err-layout.field-0.0 = search rules in
     λ k m n inner members.
-    rw (refused_row a.least k m n inner (take (a.i * 14) a.rows.now) a.i 7 a.base a.form a.count a.stride a.e members (sym (c.array_record.ensures m n members) ∙ ap judged c.in_err-layout.was))
+    rw (refused_row a.least k m n inner (take (a.i * 14) a.rows.now) a.i 7 a.w.a a.w.b a.w.c a.w.d a.w.e members (sym (c.array_record.ensures m n members) ∙ ap judged c.in_err-layout.was))
     (ap judged same, refl)

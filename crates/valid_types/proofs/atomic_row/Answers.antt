@@ -15,6 +15,6 @@ unfolding fields_ok layout_of try_size alignment_of inner_of leaf_flags
 returns c =
     let a = c.args in
     λ least m n i inner words members.
-    leaf_row least a.capabilities m n inner words i members 4 a.a a.b a.c a.d a.e c.joined.result _
-    (c.scalar_layout-laid.ensures m n i (layouts_in words) members) a.b (Atomic a.a a.b) refl (λ l e. refl)
+    leaf_row least a.capabilities m n inner words i members 4 a.w.a a.w.b a.w.c a.w.d a.w.e c.joined.result _
+    (c.scalar_layout-laid.ensures m n i (layouts_in words) members) a.w.b (Atomic a.w.a a.w.b) refl (λ l e. refl)
     (rw c.atomic_flags-flagged.ensures at c.joined.ensures)

@@ -14,6 +14,6 @@ unfolding inner_of non_data_flags layout_of try_size alignment_of rows_in
 returns c =
     let a = c.args in
     λ least k m i members.
-    other_row least k m (type_count a.types.now) (type_inner a.types.now) a.rows.now i members 13 a.a a.b a.c a.d a.e c.joined.result _
-    (rw (c.binding_array_fields.ensures m a.a) at c.based_layout-laid.ensures) 1 (BindingArray a.a a.b a.c) refl refl
+    other_row least k m (type_count a.types.now) (type_inner a.types.now) a.rows.now i members 13 a.w.a a.w.b a.w.c a.w.d a.w.e c.joined.result _
+    (rw (c.binding_array_fields.ensures m a.w.a) at c.based_layout-laid.ensures) 1 (BindingArray a.w.a a.w.b a.w.c) refl refl
     (rw (c.binding_array_of-flagged.ensures, c.row_word.ensures) at c.joined.ensures)

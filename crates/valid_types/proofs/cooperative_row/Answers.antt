@@ -11,6 +11,6 @@ unfolding inner_of leaf_flags
 returns c =
     let a = c.args in
     λ least m n i inner words members.
-    leaf_row least a.capabilities m n inner words i members 3 a.a a.b a.c a.d a.e c.joined.result _
-    (c.cooperative_layout-laid.ensures m n i (layouts_in words) members) a.d (CooperativeMatrix a.a a.b a.c a.d a.e) refl (λ l e. refl)
+    leaf_row least a.capabilities m n inner words i members 3 a.w.a a.w.b a.w.c a.w.d a.w.e c.joined.result _
+    (c.cooperative_layout-laid.ensures m n i (layouts_in words) members) a.w.d (CooperativeMatrix a.w.a a.w.b a.w.c a.w.d a.w.e) refl (λ l e. refl)
     (rw c.cooperative_flags-flagged.ensures at c.joined.ensures)

@@ -13,6 +13,6 @@ unfolding inner_of non_data_flags layout_of try_size alignment_of
 returns c =
     let a = c.args in
     λ least m n i inner words members.
-    other_row least a.capabilities m n inner words i members 9 a.a a.b a.c a.d a.e c.joined.result _
-    (rw (c.image_fields.ensures m) at c.handle_layout-laid.ensures) 1 (Image a.a a.b a.c) refl refl
+    other_row least a.capabilities m n inner words i members 9 a.w.a a.w.b a.w.c a.w.d a.w.e c.joined.result _
+    (rw (c.image_fields.ensures m) at c.handle_layout-laid.ensures) 1 (Image a.w.a a.w.b a.w.c) refl refl
     (rw c.image_flags-flagged.ensures at c.joined.ensures)

@@ -14,6 +14,6 @@ unfolding fields_ok inner_of leaf_flags layout_of try_size alignment_of
 returns c =
     let a = c.args in
     λ least m n i inner words members.
-    leaf_row least a.capabilities m n inner words i members 12 a.a a.b a.c a.d a.e c.joined.result _
-    (rw (c.acceleration_fields.ensures m) at c.handle_layout-laid.ensures) 1 (RayQuery a.a) refl (λ l e. refl)
+    leaf_row least a.capabilities m n inner words i members 12 a.w.a a.w.b a.w.c a.w.d a.w.e c.joined.result _
+    (rw (c.acceleration_fields.ensures m) at c.handle_layout-laid.ensures) 1 (RayQuery a.w.a) refl (λ l e. refl)
     (rw c.ray_query_flags-flagged.ensures at c.joined.ensures)

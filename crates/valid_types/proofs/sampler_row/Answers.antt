@@ -13,6 +13,6 @@ unfolding inner_of non_data_flags layout_of try_size alignment_of
 returns c =
     let a = c.args in
     λ least k m n i inner words members.
-    other_row least k m n inner words i members 10 a.a a.b a.c a.d a.e c.joined.result _
+    other_row least k m n inner words i members 10 a.w.a a.w.b a.w.c a.w.d a.w.e c.joined.result _
     (rw (c.sampler_fields.ensures m) at c.handle_layout-laid.ensures) 1 Sampler refl refl
     (rw c.sampler_flags.ensures at c.joined.ensures)

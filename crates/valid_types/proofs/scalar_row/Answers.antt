@@ -11,6 +11,6 @@ unfolding inner_of leaf_flags
 returns c =
     let a = c.args in
     λ least m n i inner words members.
-    leaf_row least a.capabilities m n inner words i members 0 a.a a.b a.c a.d a.e c.joined.result _
-    (c.scalar_layout-laid.ensures m n i (layouts_in words) members) a.b (Scalar a.a a.b) refl (λ l e. refl)
+    leaf_row least a.capabilities m n inner words i members 0 a.w.a a.w.b a.w.c a.w.d a.w.e c.joined.result _
+    (c.scalar_layout-laid.ensures m n i (layouts_in words) members) a.w.b (Scalar a.w.a a.w.b) refl (λ l e. refl)
     (rw (c.immediates_word.ensures, c.numeric_flags-flagged.ensures) at c.joined.ensures)

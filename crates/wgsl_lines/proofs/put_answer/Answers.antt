@@ -10,4 +10,4 @@ returns-in-Ok c =
 pub returns-in-Err : goal.returns-in-Err
 returns-in-Err c =
     let read = c.read_at in
-    refusal_answer _ _ _ _ _ read.result read.ensures.result_value _ _ _ c.in-Err.is (rw c.of.ensures at c.put_refusal-end.ensures) c.put_message.ensures
+    refusal_answer _ _ _ _ _ read.result read.ensures.result_value _ _ _ c.in-Err.is (rw c.of.ensures at c.put_refusal.ensures) c.put_message.ensures

@@ -1,7 +1,4 @@
-use mathlib.Core.Path.{refl}
-use Prim.Native.Nat.{◌+◌, ◌*◌, ◌≤◌}
-use native.Mathlib.Omega.{arith}
-use lib.ListN.{length}
+use Rattle.std.proofs.Common.{◌+◌, ◌*◌, ◌<◌, length, refl, arith}
 use Rattle.ir_records.specs.Record.{member_words}
 use Rattle.ir_rows.proofs.RowLaws.{drop_part}
 use Rattle.wgsl_members.proofs.MemberLaws.{place_is}
@@ -10,9 +7,9 @@ use Rattle.wgsl_members.proofs.place_member.Goals as goal
 pub returns : goal.returns
 returns c =
     let b = c.args.body in
-    let named : b.names * 2 + 2 ≤ length c.args.names.now = omega (arith, c.requires.named, c.requires.name_room) in
+    let named : b.names < length c.args.names.now = omega (arith, c.requires.named, c.requires.name_room) in
     record {
-      is = λ s words. rw (c.put_name.ensures, c.put_member.ensures, c.written.ensures, c.larger.ensures, c.round_up-offset.ensures.0, c.given_or-align.ensures, c.given_or-size.ensures)
+      is = λ s words. rw (c.put_member.ensures, c.written.ensures, c.max.ensures, c.from.ensures, c.round_up-offset.ensures.0, c.given_or-align.ensures, c.given_or-size.ensures)
           (place_is s words c.args.names.now c.args.members.now b c.args.attributes c.args.shape c.args.types c.args.name c.args.at named c.requires.room);
       types_made = refl;
       members_made = refl;

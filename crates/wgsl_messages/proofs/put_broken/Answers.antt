@@ -4,7 +4,7 @@ use Rattle.program_output.proofs.PutLaws.{puts_both}
 use Rattle.wgsl_messages.proofs.put_broken.Goals as goal
 
 pub returns-then-byte-text : goal.returns-then-byte-text
-returns-then-byte-text c = rw (lt-ltb _ _ c.if-byte-text.true) (puts_both c.put_position-end.ensures c.put_sentence.ensures)
+returns-then-byte-text c = rw (lt-ltb _ _ c.if-byte-text.true) (puts_both c.put_position.ensures c.put_sentence.ensures)
 
 pub returns : goal.returns
-returns c = rw (le-ltb _ _ c.if-byte-text.false) (puts_both c.put_position-end.ensures c.put_sentence-2.ensures)
+returns c = rw (le-ltb _ _ c.if-byte-text.false) (puts_both c.put_position.ensures c.put_sentence-2.ensures)

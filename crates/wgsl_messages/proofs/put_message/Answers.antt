@@ -13,4 +13,4 @@ returns-in-Ok c =
     let start = c.token_start in
     let token = c.next_token-token in
     says_token _ _ _ _ _ _ _ _ start.result token.result c.in-Ok.is start.ensures token.ensures
-    (puts_both (puts_both c.put_position-a.ensures c.put_found-b.ensures) c.put_reason.ensures)
+    (puts_both (puts_both c.put_position.ensures c.put_found.ensures) c.put_reason.ensures)

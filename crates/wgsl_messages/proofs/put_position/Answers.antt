@@ -7,4 +7,4 @@ pub returns : goal.returns
 unfolding position_text
 returns c =
     let p = c.line_and_column-p.ensures in
-    puts_both (puts_both (rw p at c.put_named-a.ensures) (rw p at c.put_named-b.ensures)) c.put_text.ensures
+    puts_both (puts_both (rw p at c.put_named.ensures) (rw p at c.put_named-2.ensures)) c.put_text.ensures

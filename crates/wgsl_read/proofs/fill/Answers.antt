@@ -1,7 +1,6 @@
-use Rattle.wgsl_members.specs.Serving.{rooms}
 use Rattle.wgsl_structs.specs.Serving.{declarations}
 use Rattle.wgsl_read.proofs.TextLaws.{text_filled}
 use Rattle.wgsl_read.proofs.fill.Goals as goal
 
 pub returns : goal.returns
-returns c = text_filled c.args.text.now (declarations _ _ _ c.args.types.now c.args.members.now) (declarations _ _ _ c.read_declarations.new.types c.read_declarations.new.members) (rooms c.min.result c.min-2.result) (rw (c.min.ensures, c.min-2.ensures)) c.read_declarations.result c.read_declarations.ensures
+returns c = text_filled c.args.text.now (declarations _ _ c.args.types.now c.args.members.now) (declarations _ _ c.read_declarations.new.types c.read_declarations.new.members) (record { types = c.min.result; members = c.min-2.result }) (rw (c.min.ensures, c.min-2.ensures)) c.read_declarations.result c.read_declarations.ensures

@@ -7,12 +7,6 @@ use Rattle.wgsl_tokens.proofs.block_step.Goals as goal
 pub returns-then-not-is_ascii : goal.returns-then-not-is_ascii
 returns-then-not-is_ascii c = block_bad c.args.s.now c.args.at c.requires.0 c.args.depth (sym c.is_ascii.ensures ∙ c.if-not-is_ascii.true)
 
-pub overflow_add-result : goal.overflow_add-result
-overflow_add-result c =
-    let s = c.args.s.now in
-    let two = closes_inside s c.args.at (rw c.byte_at-next.ensures at (sym c.closes_block.ensures ∙ c.if-closes_block.true)) in
-    omega arith
-
 pub returns-then-depth-eq1 : goal.returns-then-depth-eq1
 returns-then-depth-eq1 c =
     let s = c.args.s.now in
@@ -21,12 +15,6 @@ returns-then-depth-eq1 c =
     let two = closes_inside s c.args.at shut in
     (search rules, omega arith, block_last s c.args.at c.requires.0 c.args.depth a shut c.if-depth-eq1.true)
 
-pub overflow_add-result-then-closes_block : goal.overflow_add-result-then-closes_block
-overflow_add-result-then-closes_block c =
-    let s = c.args.s.now in
-    let two = closes_inside s c.args.at (rw c.byte_at-next.ensures at (sym c.closes_block.ensures ∙ c.if-closes_block.true)) in
-    omega arith
-
 pub returns-then-closes_block : goal.returns-then-closes_block
 returns-then-closes_block c =
     let s = c.args.s.now in
@@ -34,12 +22,6 @@ returns-then-closes_block c =
     let shut = rw c.byte_at-next.ensures at (sym c.closes_block.ensures ∙ c.if-closes_block.true) in
     let two = closes_inside s c.args.at shut in
     (search rules, omega arith, search rules, search rules, block_closes s c.args.at c.requires.0 c.args.depth a shut c.if-depth-eq1.false)
-
-pub overflow_add-result-then-opens_block : goal.overflow_add-result-then-opens_block
-overflow_add-result-then-opens_block c =
-    let s = c.args.s.now in
-    let two = opens_inside s c.args.at (rw c.byte_at-next.ensures at (sym c.opens_block.ensures ∙ c.if-opens_block.true)) in
-    omega arith
 
 pub returns-then-opens_block : goal.returns-then-opens_block
 returns-then-opens_block c =

@@ -4,17 +4,10 @@ use native.Mathlib.Omega.{arith}
 use lib.ListN.{length}
 use Rattle.wgsl_tokens.proofs.TokenLaws.{tokens_end}
 use Rattle.wgsl_tokens.proofs.WordLaws.{mark_token, bad_token}
-use borrow.Author.Rules.{rules}
 use Rattle.wgsl_tokens.proofs.token_at.Goals as goal
 
 pub returns-then-s-start : goal.returns-then-s-start
 returns-then-s-start c = tokens_end c.args.s.now c.args.start c.if-s-start.true
-
-pub word_at-requires : goal.word_at-requires
-word_at-requires c = (search rules, c.requires, sym c.starts_word.ensures ∙ c.if-starts_word.true)
-
-pub number_at-requires : goal.number_at-requires
-number_at-requires c = (search rules, c.requires, sym c.starts_word.ensures ∙ c.if-starts_word.false, sym c.is_digit.ensures ∙ c.if-is_digit.true)
 
 pub returns-then-is_mark : goal.returns-then-is_mark
 returns-then-is_mark c =

@@ -1,5 +1,0 @@
-use mathlib.Core.Path.{refl}
-use Rattle.ir_records.proofs.own_record.Goals as goal
-
-pub returns : goal.returns
-returns c = rw (c.own_word-6.ensures, c.own_word-5.ensures, c.own_word-4.ensures, c.own_word-3.ensures, c.own_word-2.ensures, c.own_word.ensures) refl

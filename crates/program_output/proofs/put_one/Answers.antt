@@ -1,6 +1,0 @@
--- `program_output::put_one` meets its contract: one after the other. Assumes nothing.
-use Rattle.program_output.proofs.PutLaws.{puts_both}
-use Rattle.program_output.proofs.put_one.Goals as goal
-
-pub returns : goal.returns
-returns c = puts_both c.put_named-end.ensures c.put_byte.ensures

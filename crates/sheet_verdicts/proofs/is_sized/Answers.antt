@@ -1,5 +1,0 @@
-use Rattle.sheet_verdicts.proofs.is_sized.Goals as goal
-
-pub returns : goal.returns
-returns c =
-    rw c.row_word.ensures
