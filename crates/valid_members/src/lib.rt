@@ -46,14 +46,14 @@ pub enum Way {
 // One member m of struct s, in 01's order.
 fn member(
     rule: UniformRule,
-    s: StructType,
+    s: &StructType,
     m: MemberAt,
     array: bool,
     next: Option<PreviousStruct>,
     row: Row,
     state: State,
 ) -> Result<State, TypeRefusal>
-    ensures { judged result ≡ member_step (least_for rule) m.i s.entry.part.count s.entry.span m.j m.t m.offset array next row state }
+    ensures { judged result ≡ member_step (least_for rule) m.i s.now.part.count s.now.span m.j m.t m.offset array next row state }
 {
     let d = valid_type_info::distance_to(state.previous, m.offset);
     let bounds = valid_member_bounds::member_bounds(
@@ -154,9 +154,9 @@ fn is_in_order(
 }
 
 // The step of a member in order, in fewer tests than `member`.
-fn ordered_member(s: StructType, m: MemberAt, state: State) -> Option<State>
-    requires { m.t < s.before.i }
-    ensures { (rule : rule.UniformRule) (count : ℕ) → ordered_step result (member_step (least_for rule) m.i count s.entry.span m.j m.t m.offset (is_array (type_inner s.entry.types.now m.t)) (struct_at (type_inner s.entry.types.now m.t) m.offset) (rows_in s.entry.before.rows.now m.t) state) }
+fn ordered_member(s: &StructType, m: MemberAt, state: State) -> Option<State>
+    requires { m.t < s.now.before.i }
+    ensures { (rule : rule.UniformRule) (count : ℕ) → ordered_step result (member_step (least_for rule) m.i count s.now.span m.j m.t m.offset (is_array (type_inner s.now.types.now m.t)) (struct_at (type_inner s.now.types.now m.t) m.offset) (rows_in s.now.before.rows.now m.t) state) }
 {
     let flags = s.before.word(m.t, ir_rows::FLAGS);
     let own = s.before.word(m.t, ir_rows::IMMEDIATES);
@@ -186,11 +186,11 @@ fn ordered_member(s: StructType, m: MemberAt, state: State) -> Option<State>
 }
 
 // The members of struct i from `taken` on, up to the first for which `member` is needed. They are taken alike by either rule.
-fn ordered_members(s: StructType, from: Reached) -> Reached
-    requires { from.taken ≤ s.part.count }
+fn ordered_members(s: &StructType, from: Reached) -> Reached
+    requires { from.taken ≤ s.now.part.count }
     ensures taken_le_taken { from.taken ≤ result.taken }
-    ensures taken_le_count { result.taken ≤ s.entry.part.count }
-    ensures taken_value { (rule : rule.UniformRule) → state_after (least_for rule) (type_inner s.entry.types.now) (rows_in s.entry.before.rows.now) s.entry.before.i s.entry.part.count s.entry.span s.entry.part.words.now from.taken ≡ ok from.state → state_after (least_for rule) (type_inner s.entry.types.now) (rows_in s.entry.before.rows.now) s.entry.before.i s.entry.part.count s.entry.span s.entry.part.words.now result.taken ≡ ok result.state }
+    ensures taken_le_count { result.taken ≤ s.now.part.count }
+    ensures taken_value { (rule : rule.UniformRule) → state_after (least_for rule) (type_inner s.now.types.now) (rows_in s.now.before.rows.now) s.now.before.i s.now.part.count s.now.span s.now.part.words.now from.taken ≡ ok from.state → state_after (least_for rule) (type_inner s.now.types.now) (rows_in s.now.before.rows.now) s.now.before.i s.now.part.count s.now.span s.now.part.words.now result.taken ≡ ok result.state }
 {
     let mut state = from.state;
     for j in from.taken..s.part.count {
@@ -216,9 +216,9 @@ fn ordered_members(s: StructType, from: Reached) -> Reached
 }
 
 // Where member j may begin that overlaps none before it and keeps the distance; end: the end of the member before it.
-fn least_at(s: StructType, j: u32, end: u32) -> u64
-    requires { j ≤ s.part.count }
-    ensures { result ≡ least_of end (previous_of (type_inner s.entry.types.now) s.entry.part.words.now j) }
+fn least_at(s: &StructType, j: u32, end: u32) -> u64
+    requires { j ≤ s.now.part.count }
+    ensures { result ≡ least_of end (previous_of (type_inner s.now.types.now) s.now.part.words.now j) }
 {
     if j == 0 {
         return end as u64;
@@ -229,9 +229,9 @@ fn least_at(s: StructType, j: u32, end: u32) -> u64
 }
 
 // The same state for the loops of valid_members_plain.
-fn from_state(s: StructType, from: Reached) -> PlainState
-    requires { from.taken ≤ s.part.count }
-    ensures { result ≡ record { end = from.state.bounds.end; flags = from.state.bounds.flags; uniform = from.state.uniform.ty; storage = from.state.storage.ty; least = least_of from.state.bounds.end (previous_of (type_inner s.entry.types.now) s.entry.part.words.now from.taken) } }
+fn from_state(s: &StructType, from: Reached) -> PlainState
+    requires { from.taken ≤ s.now.part.count }
+    ensures { result ≡ record { end = from.state.bounds.end; flags = from.state.bounds.flags; uniform = from.state.uniform.ty; storage = from.state.storage.ty; least = least_of from.state.bounds.end (previous_of (type_inner s.now.types.now) s.now.part.words.now from.taken) } }
 {
     let state = from.state;
     PlainState {
@@ -282,13 +282,13 @@ fn uniform_from(both: bool, alignment: u32, failed: Verdict) -> Verdict
 }
 
 // The members of a struct from `taken` on as long as none breaks a rule. both: both verdicts are Ok; else the uniform one has failed, and stays.
-fn plain_from(both: bool, s: StructType, from: Reached) -> Reached
-    requires taken_le_count { from.taken ≤ s.part.count }
+fn plain_from(both: bool, s: &StructType, from: Reached) -> Reached
+    requires taken_le_count { from.taken ≤ s.now.part.count }
     requires uniform_value { UniformFits both from.state.uniform }
     requires storage_value { from.state.storage ≡ ok_verdict from.state.storage.ty }
     ensures taken_le_taken { from.taken ≤ result.taken }
-    ensures taken_le_count { result.taken ≤ s.entry.part.count }
-    ensures taken_value { (rule : rule.UniformRule) → state_after (least_for rule) (type_inner s.entry.types.now) (rows_in s.entry.before.rows.now) s.entry.before.i s.entry.part.count s.entry.span s.entry.part.words.now from.taken ≡ ok from.state → state_after (least_for rule) (type_inner s.entry.types.now) (rows_in s.entry.before.rows.now) s.entry.before.i s.entry.part.count s.entry.span s.entry.part.words.now result.taken ≡ ok result.state }
+    ensures taken_le_count { result.taken ≤ s.now.part.count }
+    ensures taken_value { (rule : rule.UniformRule) → state_after (least_for rule) (type_inner s.now.types.now) (rows_in s.now.before.rows.now) s.now.before.i s.now.part.count s.now.span s.now.part.words.now from.taken ≡ ok from.state → state_after (least_for rule) (type_inner s.now.types.now) (rows_in s.now.before.rows.now) s.now.before.i s.now.part.count s.now.span s.now.part.words.now result.taken ≡ ok result.state }
 {
     let start = valid_members_plain::Reached {
         taken: from.taken,
@@ -309,11 +309,11 @@ fn plain_from(both: bool, s: StructType, from: Reached) -> Reached
 }
 
 // The members of struct i from `taken` on, up to the first that needs every rule or another loop. They are taken alike by either rule.
-fn together(s: StructType, from: Reached) -> Reached
-    requires { from.taken ≤ s.part.count }
+fn together(s: &StructType, from: Reached) -> Reached
+    requires { from.taken ≤ s.now.part.count }
     ensures taken_le_taken { from.taken ≤ result.taken }
-    ensures taken_le_count { result.taken ≤ s.entry.part.count }
-    ensures taken_value { (rule : rule.UniformRule) → state_after (least_for rule) (type_inner s.entry.types.now) (rows_in s.entry.before.rows.now) s.entry.before.i s.entry.part.count s.entry.span s.entry.part.words.now from.taken ≡ ok from.state → state_after (least_for rule) (type_inner s.entry.types.now) (rows_in s.entry.before.rows.now) s.entry.before.i s.entry.part.count s.entry.span s.entry.part.words.now result.taken ≡ ok result.state }
+    ensures taken_le_count { result.taken ≤ s.now.part.count }
+    ensures taken_value { (rule : rule.UniformRule) → state_after (least_for rule) (type_inner s.now.types.now) (rows_in s.now.before.rows.now) s.now.before.i s.now.part.count s.now.span s.now.part.words.now from.taken ≡ ok from.state → state_after (least_for rule) (type_inner s.now.types.now) (rows_in s.now.before.rows.now) s.now.before.i s.now.part.count s.now.span s.now.part.words.now result.taken ≡ ok result.state }
 {
     let way = way_of(
         s.part.count - from.taken,
@@ -329,9 +329,9 @@ fn together(s: StructType, from: Reached) -> Reached
 }
 
 // The next member by every rule.
-fn step(rule: UniformRule, s: StructType, at: Reached) -> Result<State, TypeRefusal>
-    requires { state_after (least_for rule) (type_inner s.types.now) (rows_in s.before.rows.now) s.before.i s.part.count s.span s.part.words.now at.taken ≡ ok at.state }
-    ensures { judged result ≡ state_after (least_for rule) (type_inner s.entry.types.now) (rows_in s.entry.before.rows.now) s.entry.before.i s.entry.part.count s.entry.span s.entry.part.words.now (at.taken + 1) }
+fn step(rule: UniformRule, s: &StructType, at: Reached) -> Result<State, TypeRefusal>
+    requires { state_after (least_for rule) (type_inner s.now.types.now) (rows_in s.now.before.rows.now) s.now.before.i s.now.part.count s.now.span s.now.part.words.now at.taken ≡ ok at.state }
+    ensures { judged result ≡ state_after (least_for rule) (type_inner s.now.types.now) (rows_in s.now.before.rows.now) s.now.before.i s.now.part.count s.now.span s.now.part.words.now (at.taken + 1) }
 {
     let m = MemberAt {
         i: s.before.i,
@@ -347,10 +347,10 @@ fn step(rule: UniformRule, s: StructType, at: Reached) -> Result<State, TypeRefu
 
 // The members of struct i from `taken` on, whose rows are in part; rows has those of the types before it. After one that takes every rule,
 // the next are taken together again.
-pub fn members_of(rule: UniformRule, s: StructType, from: Reached) -> Result<State, TypeRefusal>
-    requires taken_le_count { from.taken ≤ s.part.count }
-    requires taken_value { state_after (least_for rule) (type_inner s.types.now) (rows_in s.before.rows.now) s.before.i s.part.count s.span s.part.words.now from.taken ≡ ok from.state }
-    ensures { judged result ≡ state_after (least_for rule) (type_inner s.entry.types.now) (rows_in s.entry.before.rows.now) s.entry.before.i s.entry.part.count s.entry.span s.entry.part.words.now s.entry.part.count }
+pub fn members_of(rule: UniformRule, s: &StructType, from: Reached) -> Result<State, TypeRefusal>
+    requires taken_le_count { from.taken ≤ s.now.part.count }
+    requires taken_value { state_after (least_for rule) (type_inner s.now.types.now) (rows_in s.now.before.rows.now) s.now.before.i s.now.part.count s.now.span s.now.part.words.now from.taken ≡ ok from.state }
+    ensures { judged result ≡ state_after (least_for rule) (type_inner s.now.types.now) (rows_in s.now.before.rows.now) s.now.before.i s.now.part.count s.now.span s.now.part.words.now s.now.part.count }
 {
     let mut reached = from;
     // Kept: it goes on by as many members as were taken together, which no range does.

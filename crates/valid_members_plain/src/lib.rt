@@ -104,13 +104,13 @@ fn uniform_after(both: bool, before: Earlier, t: u32, so_far: u32) -> u32
 // One member of type t, if it breaks no rule. both: the uniform verdict is kept too; else it has failed.
 fn plain_member(
     both: bool,
-    s: StructType,
+    s: &StructType,
     t: u32,
     offset: u32,
     state: PlainState,
 ) -> Option<PlainState>
-    requires { t < s.before.i }
-    ensures { (rule : rule.UniformRule) (u : verdict.Verdict) (count j : ℕ) (before : Option PreviousStruct) → HasFailed both u → least_of state.end before ≡ state.least → Stepped both (least_for rule) u (type_inner s.entry.types.now t) (rows_in s.entry.before.rows.now t) s.entry.before.i count s.entry.span j t offset before state result }
+    requires { t < s.now.before.i }
+    ensures { (rule : rule.UniformRule) (u : verdict.Verdict) (count j : ℕ) (before : Option PreviousStruct) → HasFailed both u → least_of state.end before ≡ state.least → Stepped both (least_for rule) u (type_inner s.now.types.now t) (rows_in s.now.before.rows.now t) s.now.before.i count s.now.span j t offset before state result }
 {
     let flags = s.before.word(t, ir_rows::FLAGS);
     let end = valid_member_rules::end_of(offset, s.before.word(t, ir_rows::SIZE));
@@ -152,11 +152,11 @@ pub fn start(rule: UniformRule) -> PlainState
 }
 
 // The members of a struct from `taken` on, up to the first that breaks a rule. both: both verdicts are Ok; else the uniform one has failed, and stays.
-pub fn plain_members(both: bool, s: StructType, from: Reached) -> Reached
-    requires { from.taken ≤ s.part.count }
+pub fn plain_members(both: bool, s: &StructType, from: Reached) -> Reached
+    requires { from.taken ≤ s.now.part.count }
     ensures taken_le_taken { from.taken ≤ result.taken }
-    ensures taken_le_count { result.taken ≤ s.entry.part.count }
-    ensures plain_after { (rule : rule.UniformRule) (u : verdict.Verdict) (immediates : ℕ) → HasFailed both u → PlainAfter (least_for rule) (type_inner s.entry.types.now) (rows_in s.entry.before.rows.now) s.entry.before.i s.entry.part.count s.entry.span s.entry.part.words.now from.taken (uniform_so_far both from.state.uniform u) immediates from.state → PlainAfter (least_for rule) (type_inner s.entry.types.now) (rows_in s.entry.before.rows.now) s.entry.before.i s.entry.part.count s.entry.span s.entry.part.words.now result.taken (uniform_so_far both result.state.uniform u) immediates result.state }
+    ensures taken_le_count { result.taken ≤ s.now.part.count }
+    ensures plain_after { (rule : rule.UniformRule) (u : verdict.Verdict) (immediates : ℕ) → HasFailed both u → PlainAfter (least_for rule) (type_inner s.now.types.now) (rows_in s.now.before.rows.now) s.now.before.i s.now.part.count s.now.span s.now.part.words.now from.taken (uniform_so_far both from.state.uniform u) immediates from.state → PlainAfter (least_for rule) (type_inner s.now.types.now) (rows_in s.now.before.rows.now) s.now.before.i s.now.part.count s.now.span s.now.part.words.now result.taken (uniform_so_far both result.state.uniform u) immediates result.state }
 {
     let mut state = from.state;
     for j in from.taken..s.part.count {

@@ -23,8 +23,8 @@ use valid_type_info::{Row, StructType, UniformRule};
 
 // All members of struct i, by the rules that do not read blend sources. Where none breaks a rule, no member comes next, and the struct right before it
 // is not looked for.
-fn members_of(rule: UniformRule, s: StructType) -> Result<State, TypeRefusal>
-    ensures { Told (least_for rule) (type_inner s.entry.types.now) (rows_in s.entry.before.rows.now) s.entry.before.i s.entry.part.count s.entry.span s.entry.part.words.now result }
+fn members_of(rule: UniformRule, s: &StructType) -> Result<State, TypeRefusal>
+    ensures { Told (least_for rule) (type_inner s.now.types.now) (rows_in s.now.before.rows.now) s.now.before.i s.now.part.count s.now.span s.now.part.words.now result }
 {
     let start = Reached {
         taken: 0,
@@ -80,7 +80,7 @@ fn members_row(
         part,
         span,
     };
-    match members_of(rule, s) {
+    match members_of(rule, &s) {
         Ok(state) => {
             let flags = valid_blend::blended_flags(
                 located.sourced,

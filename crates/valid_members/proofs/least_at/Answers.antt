@@ -12,8 +12,8 @@ returns-then-j-eq0 c = rw c.if-j-eq0.true refl
 
 pub least_after-requires : goal.least_after-requires
 least_after-requires c =
-    let earlier = rw (← c.type_of-t.ensures) at (c.args.s.members_earlier (c.args.j - 1) (omega (arith, c.requires, c.if-j-eq0.false))) in
-    omega (arith, earlier, c.args.s.in_types)
+    let earlier = rw (← c.type_of-t.ensures) at (c.args.s.now.members_earlier (c.args.j - 1) (omega (arith, c.requires, c.if-j-eq0.false))) in
+    omega (arith, earlier, c.args.s.now.in_types)
 
 pub returns : goal.returns
 unfolding previous_of
@@ -21,4 +21,4 @@ returns c =
     let a = c.args in
     let one_more : suc (a.j - 1) ≡ a.j = omega (arith, c.if-j-eq0.false) in
     rw (c.offset_of-offset.ensures, c.type_of-t.ensures) at c.least_after.ensures
-    ∙ ap (λ (k : ℕ). least_of a.end (previous_of (type_inner a.s.types.now) a.s.part.words.now k)) one_more
+    ∙ ap (λ (k : ℕ). least_of a.end (previous_of (type_inner a.s.now.types.now) a.s.now.part.words.now k)) one_more

@@ -13,7 +13,7 @@ returns c =
     let a = c.args in
     let d = c.distance_to-d in
     let by = rw (c.in_ok-bounds.was, c.is_within.ensures) at c.member_bounds.ensures in
-    let told = bounds-within a.s.part.count a.s.span (is_within d.result) a.array a.m.offset a.m.j a.row.size a.row.flags a.state.bounds c.in_ok-bounds.bounds (sym by) in
+    let told = bounds-within a.s.now.part.count a.s.now.span (is_within d.result) a.array a.m.offset a.m.j a.row.size a.row.flags a.state.bounds c.in_ok-bounds.bounds (sym by) in
     let taken = rw d.ensures.within at by in
     let uniform = uniform-by (least_for a.rule) d.result a.state.previous a.m.i a.m.j a.m.t a.m.offset a.row a.state.uniform (λ v. d.ensures.verdict a.rule a.m.i a.m.j v told) in
     rw (← taken, c.immediates_of.ensures, c.storage_of.ensures, c.uniform_of.ensures, c.least_for-least.ensures, uniform) refl

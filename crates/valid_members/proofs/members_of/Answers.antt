@@ -31,11 +31,11 @@ returns-in_err-step c =
     let o = c.together-there in
     let refused = rw c.in_err-step.was at (sym c.step.ensures) in
     let same : c.from_residual.result ≡ Err c.in_err-step.field-0.0 = search rules in
-    ap judged same ∙ sym (state_refused (least_for a.rule) (type_inner a.s.types.now) (rows_in a.s.before.rows.now) a.s.before.i a.s.part.count a.s.span a.s.part.words.now (o.result.taken + 1) refused a.s.part.count (omega (arith, o.ensures.taken_le_count, c.if-there-s.false)))
+    ap judged same ∙ sym (state_refused (least_for a.rule) (type_inner a.s.now.types.now) (rows_in a.s.now.before.rows.now) a.s.now.before.i a.s.now.part.count a.s.now.span a.s.now.part.words.now (o.result.taken + 1) refused a.s.now.part.count (omega (arith, o.ensures.taken_le_count, c.if-there-s.false)))
 
 pub overflow_add-reached : goal.overflow_add-reached
 overflow_add-reached c =
-    let count : c.args.s.part.count < 4294967296 = search rules in
+    let count : c.args.s.now.part.count < 4294967296 = search rules in
     omega (arith, c.together-there.ensures.taken_le_count, c.if-there-s.false, count)
 
 pub loop-reached-smaller : goal.loop-reached-smaller

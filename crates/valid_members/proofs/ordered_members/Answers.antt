@@ -13,7 +13,7 @@ pub loop-j-init : goal.loop-j-init
 loop-j-init c = let pre = c.requires in (omega arith, pre, λ rule e. e)
 
 pub ordered_member-requires : goal.ordered_member-requires
-ordered_member-requires c = rw (← c.type_of.ensures) at (c.args.s.members_earlier c.loop-j.j c.loop-j-test.true)
+ordered_member-requires c = rw (← c.type_of.ensures) at (c.args.s.now.members_earlier c.loop-j.j c.loop-j-test.true)
 
 pub returns-in-None : goal.returns-in-None
 returns-in-None c = let l = c.loop-j in record { taken_le_taken = l.invariant.0; taken_le_count = l.invariant.1; taken_value = l.invariant.2 }
@@ -25,8 +25,8 @@ loop-j-preserved c =
       omega (arith, l.invariant.0),
       omega (arith, c.loop-j-test.true),
       λ rule e.
-          let step = rw (c.in-Some.is, c.offset_of.ensures, c.type_of.ensures) at (c.ordered_member.ensures rule a.s.part.count) in
-          rw add-one (state_step (least_for rule) (type_inner a.s.types.now) (rows_in a.s.before.rows.now) a.s.before.i a.s.part.count a.s.span a.s.part.words.now l.j l.state (l.invariant.2 rule e) ∙ step),
+          let step = rw (c.in-Some.is, c.offset_of.ensures, c.type_of.ensures) at (c.ordered_member.ensures rule a.s.now.part.count) in
+          rw add-one (state_step (least_for rule) (type_inner a.s.now.types.now) (rows_in a.s.now.before.rows.now) a.s.now.before.i a.s.now.part.count a.s.now.span a.s.now.part.words.now l.j l.state (l.invariant.2 rule e) ∙ step),
     )
 
 pub returns : goal.returns

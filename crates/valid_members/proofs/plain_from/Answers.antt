@@ -14,9 +14,9 @@ returns c =
       taken_le_count = p.ensures.taken_le_count;
       taken_value = λ rule e.
           let fits = so_far a.both a.from.state.uniform pre.uniform_value in
-          let inner = type_inner a.s.types.now in
-          let rows = rows_in a.s.before.rows.now in
-          let from = plain_before (least_for rule) inner rows a.s.before.i a.s.part.count a.s.span a.s.part.words.now a.from.taken a.from.state (uniform_so_far a.both a.from.state.uniform.ty a.from.state.uniform) e fits.0 pre.storage_value in
+          let inner = type_inner a.s.now.types.now in
+          let rows = rows_in a.s.now.before.rows.now in
+          let from = plain_before (least_for rule) inner rows a.s.now.before.i a.s.now.part.count a.s.now.span a.s.now.part.words.now a.from.taken a.from.state (uniform_so_far a.both a.from.state.uniform.ty a.from.state.uniform) e fits.0 pre.storage_value in
           let after = p.ensures.plain_after rule a.from.state.uniform a.from.state.immediates fits.1 (rw c.from_state.ensures from) in
-          rw (c.carried.ensures, c.uniform_from-uniform.ensures) (plain_state (least_for rule) inner rows a.s.before.i a.s.part.count a.s.span a.s.part.words.now p.result.taken p.result.state (uniform_so_far a.both p.result.state.uniform a.from.state.uniform) a.from.state.immediates after);
+          rw (c.carried.ensures, c.uniform_from-uniform.ensures) (plain_state (least_for rule) inner rows a.s.now.before.i a.s.now.part.count a.s.now.span a.s.now.part.words.now p.result.taken p.result.state (uniform_so_far a.both p.result.state.uniform a.from.state.uniform) a.from.state.immediates after);
     }

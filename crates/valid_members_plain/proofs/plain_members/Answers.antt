@@ -15,7 +15,7 @@ pub loop-j-init : goal.loop-j-init
 loop-j-init c = (omega arith, c.requires, λ rule u immediates failed p. p)
 
 pub plain_member-requires : goal.plain_member-requires
-plain_member-requires c = rw (← c.type_of-t.ensures) at (c.args.s.members_earlier c.loop-j.j c.loop-j-test.true)
+plain_member-requires c = rw (← c.type_of-t.ensures) at (c.args.s.now.members_earlier c.loop-j.j c.loop-j-test.true)
 
 pub returns-in-None : goal.returns-in-None
 returns-in-None c = let l = c.loop-j in record { taken_le_taken = l.invariant.0; taken_le_count = l.invariant.1; plain_after = l.invariant.2 }
@@ -29,7 +29,7 @@ loop-j-preserved c =
       omega (arith, c.loop-j-test.true),
       λ rule u immediates failed p.
           let before = l.invariant.2 rule u immediates failed p in
-          let step = rw (c.in-Some.is, c.offset_of-offset.ensures, c.type_of-t.ensures) at (c.plain_member.ensures rule u a.s.part.count l.j (previous_of (type_inner a.s.types.now) a.s.part.words.now l.j) failed before.4) in
+          let step = rw (c.in-Some.is, c.offset_of-offset.ensures, c.type_of-t.ensures) at (c.plain_member.ensures rule u a.s.now.part.count l.j (previous_of (type_inner a.s.now.types.now) a.s.now.part.words.now l.j) failed before.4) in
           (rw (add-one, before.0) step.0, rw (add-one, before.1) step.1, rw (add-one, before.2) step.2, rw (add-one, before.3, step.3) refl, rw add-one step.4),
     )
 

@@ -11,14 +11,14 @@ plain_members-reached-requires c = omega arith
 
 pub returns-then-reached-s : goal.returns-then-reached-s
 returns-then-reached-s c =
-    let s = c.args.s in
+    let s = c.args.s.now in
     let start = plain_start (least_for c.args.rule) (type_inner s.types.now) (rows_in s.before.rows.now) s.before.i s.part.count s.span s.part.words.now in
     let after = rw c.if-reached-s.true at (c.plain_members-reached.ensures.plain_after c.args.rule (ok_verdict 0) 0 tt (rw c.start.ensures start)) in
     rw (c.ok_verdict-uniform.ensures, c.ok_verdict.ensures) (after.0, after.1, after.2, after.3)
 
 pub members_of-requires : goal.members_of-requires
 members_of-requires c =
-    let s = c.args.s in
+    let s = c.args.s.now in
     let inner = type_inner s.types.now in
     let rows = rows_in s.before.rows.now in
     let p = c.plain_members-reached in
@@ -28,5 +28,5 @@ members_of-requires c =
 
 pub returns : goal.returns
 returns c =
-    let s = c.args.s in
+    let s = c.args.s.now in
     told (least_for c.args.rule) (type_inner s.types.now) (rows_in s.before.rows.now) s.before.i s.part.count s.span s.part.words.now c.members_of.result c.members_of.ensures
