@@ -1,6 +1,7 @@
 -- Serves the contracts of functions inside the library: it adds nothing to what the other files say, and a reader may skip it.
 -- Assumes nothing.
-use Rattle.std.specs.Prelude.{Bool, true, false, List, ℕ, zero, suc, max, get_or, T}
+use Rattle.std.specs.Prelude.{List, ℕ, zero, suc, max, get_or, T}
+use lib.Dec.{T_prop}
 use Rattle.std.specs.Coded.{Π_prop, Unit-prop, le_prop}
 use Rattle.spirv_members.specs.Members.{member_number}
 use Rattle.ir_records.specs.declared.Leaf.{Leaf}
@@ -21,16 +22,12 @@ abbrev pub Bounded : (ts : List ℕ) → Type 0
 Bounded ts = (t : ℕ) → InnerBounds (type_inner ts t)
 
 -- which has at most one proof
-T-prop : (b : Bool) → IsProp (T b)
-T-prop true = Unit-prop
-T-prop false = λ x y. absurd x
-
 LeafBounds-prop : (leaf : Leaf) → IsProp (LeafBounds leaf)
 LeafBounds-prop (Scalar kind width) x y = le_prop x y
 LeafBounds-prop (Vector size kind width) x y = λ i. (le_prop x.0 y.0 i, le_prop x.1 y.1 i)
 LeafBounds-prop (Matrix columns rows kind width) x y = λ i. (le_prop x.0 y.0 i, le_prop x.1 y.1 i, le_prop x.2 y.2 i)
 LeafBounds-prop (CooperativeMatrix columns rows kind width role) x y =
-    λ i. (T-prop (cooperative_size_ok columns) x.0 y.0 i, T-prop (cooperative_size_ok rows) x.1 y.1 i, le_prop x.2 y.2 i)
+    λ i. (T_prop (cooperative_size_ok columns) x.0 y.0 i, T_prop (cooperative_size_ok rows) x.1 y.1 i, le_prop x.2 y.2 i)
 LeafBounds-prop (Atomic kind width) x y = le_prop x y
 LeafBounds-prop (RayQuery v) x y = Unit-prop x y
 
