@@ -3,15 +3,14 @@
 
 use valid_type_info::UniformRule;
 
+// Kept: the system's number of the stream, as in each crate that writes to it: a crate for one number would be no plainer.
 const STDOUT: i32 = 1;
 
-const ROW_WORDS: u32 = 14;
-
 fn print_row(rows: &[u32], i: u32) {
-    io::print_decimal(STDOUT, i as u64);
-    for j in 0..ROW_WORDS {
+    io::print_decimal(STDOUT, u64::from(i));
+    for j in 0..ir_records::ROW_WORDS {
         io::write_all(STDOUT, b" ");
-        io::print_decimal(STDOUT, ir_rows::row_word(rows, i, j) as u64);
+        io::print_decimal(STDOUT, u64::from(ir_rows::row_word(rows, i, j as u32)));
     }
     io::write_all(STDOUT, b"\n");
 }

@@ -1,25 +1,19 @@
 -- What is stated of the word of the uniform rule, proved.
 -- Assumes nothing.
-use mathlib.Core.Path.{◌≡◌, refl}
+use mathlib.Core.Path.{refl}
 use mathlib.Core.List.{List}
-use mathlib.Core.Bool.{false}
 use Prim.Native.Nat.{ℕ, ◌<◌}
-use borrow.Author.Tests.{le-leb, lt-leb}
-use Rattle.ir_records.specs.Fields.{capabilities_known}
+use borrow.Author.Tests.{le-leb}
 use Rattle.valid_arena.specs.Arena.{arena_answer, arena_words}
 use Rattle.immediates_slots.specs.Immediates.{slots_answer}
 use Rattle.immediates_pass.specs.Pass.{choose_answer}
 use Rattle.place_lookup.specs.Place.{lookup_answer}
 use Rattle.place_report.specs.Report.{lengths_fit, report_answer, report_rows, report_words}
 use Rattle.valid_rule_word.specs.RuleWord.{capabilities_by}
+use Rattle.valid_rule_word.proofs.WordLaws.{unknown}
 use Rattle.doors.specs.OtherRule.{OtherRule, RuleWord}
 
--- no arena is asked for with a capability word that is known
-unknown : (word c : ℕ) → 1 < word → capabilities_known (capabilities_by word c) ≡ false
-unfolding capabilities_by
-unknown word c h = rw (lt-leb word 1 h) refl
-
-other_rule : (word c : ℕ) → 1 < word → (ts ms rows : List ℕ) → OtherRule word c ts ms rows
+pub other_rule : (word c : ℕ) → 1 < word → (ts ms rows : List ℕ) → OtherRule word c ts ms rows
 unfolding arena_answer arena_words slots_answer choose_answer lookup_answer lengths_fit report_answer report_rows report_words
 other_rule word c h ts ms rows =
     let u = unknown word c h in

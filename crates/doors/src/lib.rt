@@ -4,22 +4,159 @@
 ghost use Rattle.std.specs.Prelude.{◌≡◌, ◌*◌, eqb, length};
 ghost use Rattle.ir_records.specs.Result.{pick};
 ghost use Rattle.ir_records.specs.Record.{type_word, member_words};
+ghost use Rattle.ir_records.specs.Refusal.{outcome_of};
 ghost use Rattle.proc_layouter.specs.Layouter.{layout_answer, layout_words};
 ghost use Rattle.valid_rule_word.specs.RuleWord.{rule_of, capabilities_by};
 ghost use Rattle.valid_arena.specs.Arena.{arena_answer, arena_words};
-ghost use Rattle.immediates_ranges.specs.Slots.{range_slots, part_answer, contains, difference, union};
+ghost use Rattle.immediates_ranges.specs.Slots.{slots_answer_of, range_slots, part_answer, contains, difference, union};
 ghost use Rattle.immediates_slots.specs.Immediates.{slots_answer};
 ghost use Rattle.immediates_pass.specs.Pass.{begin, SetRange, Choose, Dispatch};
+ghost use Rattle.place_lookup.specs.Answer.{place_answer_of};
 ghost use Rattle.place_lookup.specs.Place.{lookup_answer};
 ghost use Rattle.place_short.specs.Short.{short_lookup, short_words};
 ghost use Rattle.place_runs.specs.Places.{places_answer, places_scratch, places_words};
 ghost use Rattle.proc_plain_types.specs.PlainTypes.{plain_answer};
+ghost use Rattle.place_report.specs.Answer.{report_answer_of};
 ghost use Rattle.place_report.specs.Report.{report_answer, report_rows, report_words};
 ghost use Rattle.spirv_read.specs.Read.{read_into, section_of, types_after, members_after};
 ghost use Rattle.wgsl_read.specs.Text.{text_of, answer_of, types_left, members_left};
 ghost use Rattle.order_call.specs.Call.{ordered};
 ghost use Rattle.order_words.specs.Words.{order_outcome, with_found};
 ghost use Rattle.doors_words.specs.Words.{slots_outcome, place_outcome, totals_outcome, plain_outcome, byte_of, leaf_of, carried_of, wasted_of, part_start, part_length, with_answer, with_two, with_numbers, with_masks, with_pass, with_tried, tried_in, pass_rows, with_one, section_outcome, types_read, members_read, text_outcome, text_types, text_members};
+
+use immediates_ranges::Slots;
+use ir_records::Refusal;
+use place_descent::Place;
+use place_report::Totals;
+use valid_type_info::UniformRule;
+
+// Kept: `types`, `members`, `capabilities`, `rule`, `rows`, `ty`, `offset`, `start`, `steps`, `text`: the parameters of the calls are those of the C interface.
+
+// ---- the calls by the rule that a word is, or number 1
+// Kept: `check_by` and `judge_by`, and `slots_by` and `place_by`, differ in the call that each makes by the rule. One function would take the call as a closure, and
+// a closure that writes the rows has to say what they are after it.
+fn check_by(
+    types: &[u32],
+    members: &[u32],
+    capabilities: u32,
+    rule: u32,
+    rows: &mut [u32],
+) -> Result<(), Refusal>
+    ensures value { outcome_of result ≡ arena_answer (capabilities_by rule capabilities) types.now members.now rows.old }
+    ensures rows_after { rows.new ≡ arena_words (rule_of rule) (capabilities_by rule capabilities) types.now members.now rows.old }
+{
+    let by = UniformRule::try_from(rule)?;
+    valid_arena::check(types, members, capabilities, by, rows)
+}
+
+fn judge_by(
+    types: &[u32],
+    members: &[u32],
+    capabilities: u32,
+    rule: u32,
+    rows: &mut [u32],
+) -> Result<(), Refusal>
+    ensures value { outcome_of result ≡ arena_answer (capabilities_by rule capabilities) types.now members.now rows.old }
+    ensures rows_after { rows.new ≡ arena_words (rule_of rule) (capabilities_by rule capabilities) types.now members.now rows.old }
+{
+    let by = UniformRule::try_from(rule)?;
+    valid_arena::judge(types, members, capabilities, by, rows)
+}
+
+// Kept: as check_by.
+fn slots_by(
+    types: &[u32],
+    members: &[u32],
+    capabilities: u32,
+    rule: u32,
+    rows: &mut [u32],
+    ty: u32,
+    offset: u32,
+) -> Result<Slots, Refusal>
+    ensures value { slots_answer_of result ≡ slots_answer (capabilities_by rule capabilities) types.now members.now rows.old ty offset }
+    ensures rows_after { rows.new ≡ arena_words (rule_of rule) (capabilities_by rule capabilities) types.now members.now rows.old }
+{
+    let by = UniformRule::try_from(rule)?;
+    immediates_slots::immediate_slots(types, members, capabilities, by, rows, ty, offset)
+}
+
+// Kept: as check_by.
+fn place_by(
+    types: &[u32],
+    members: &[u32],
+    capabilities: u32,
+    rule: u32,
+    rows: &mut [u32],
+    start: u32,
+    steps: &[u32],
+) -> Result<Place, Refusal>
+    ensures value { place_answer_of result ≡ lookup_answer (capabilities_by rule capabilities) types.now members.now rows.old start steps.now }
+    ensures rows_after { rows.new ≡ arena_words (rule_of rule) (capabilities_by rule capabilities) types.now members.now rows.old }
+{
+    let by = UniformRule::try_from(rule)?;
+    place_lookup::lookup(types, members, capabilities, by, rows, start, steps)
+}
+
+fn report_by(
+    types: &[u32],
+    members: &[u32],
+    capabilities: u32,
+    rule: u32,
+    rows: &mut [u32],
+    report: &mut [u64],
+) -> Result<Totals, Refusal>
+    ensures value { report_answer_of result ≡ report_answer (capabilities_by rule capabilities) types.now members.now rows.old report.old }
+    ensures rows_after { rows.new ≡ report_rows (rule_of rule) (capabilities_by rule capabilities) types.now members.now rows.old report.old }
+    ensures report_after { report.new ≡ report_words (capabilities_by rule capabilities) types.now members.now rows.old report.old }
+{
+    let by = UniformRule::try_from(rule)?;
+    place_report::report(types, members, capabilities, by, rows, report)
+}
+
+// ---- steps of a pass in three lent words, which a refused one leaves
+fn set(pass: &mut [u64], offset: u32, size: u32) -> Result<(), Refusal>
+    ensures value { outcome_of result ≡ (tried_in pass.old (SetRange offset size)).outcome }
+    ensures pass_after { pass.new ≡ with_tried pass.old (tried_in pass.old (SetRange offset size)) }
+{
+    let before = doors_words::pass_of(pass)?;
+    let after = immediates_pass::set_range(before, offset, size)?;
+    doors_words::put_pass(pass, after);
+    Ok(())
+}
+
+fn choose(
+    types: &[u32],
+    members: &[u32],
+    capabilities: u32,
+    rule: u32,
+    rows: &mut [u32],
+    ty: u32,
+    pass: &mut [u64],
+) -> Result<(), Refusal>
+    ensures value { outcome_of result ≡ (tried_in pass.old (Choose (capabilities_by rule capabilities) types.now members.now rows.old ty)).outcome }
+    ensures rows_after { rows.new ≡ pass_rows pass.old (rule_of rule) (capabilities_by rule capabilities) types.now members.now rows.old }
+    ensures pass_after { pass.new ≡ with_tried pass.old (tried_in pass.old (Choose (capabilities_by rule capabilities) types.now members.now rows.old ty)) }
+{
+    let before = doors_words::pass_of(pass)?;
+    let by = UniformRule::try_from(rule)?;
+    let after = immediates_pass::choose(before, types, members, capabilities, by, rows, ty)?;
+    doors_words::put_pass(pass, after);
+    Ok(())
+}
+
+// The slots that are missing are zeros where no dispatch is tried.
+fn dispatch(pass: &[u64], missing: &mut [u64]) -> Result<(), Refusal>
+    ensures value { outcome_of result ≡ (tried_in pass.now Dispatch).outcome }
+    ensures missing_after { missing.new ≡ with_one missing.old (tried_in pass.now Dispatch).missing }
+{
+    doors_words::put_one(missing, 0);
+    let before = doors_words::pass_of(pass)?;
+    let Err(reason) = immediates_pass::dispatch(before) else {
+        return Ok(());
+    };
+    doors_words::put_one(missing, reason.missing);
+    Err(Refusal::from(reason))
+}
 
 // Sizes and alignments of an arena, in the first two words of the lent rows.
 pub fn wuldazin_layout(types: &[u32], members: &[u32], rows: &mut [u32], answer: &mut [u32])
@@ -43,9 +180,7 @@ pub fn wuldazin_check(
     ensures rows_after { rows.new ≡ arena_words (rule_of rule) (capabilities_by rule capabilities) types.now members.now rows.old }
     ensures answer_after { answer.new ≡ with_answer answer.old (arena_answer (capabilities_by rule capabilities) types.now members.now rows.old) }
 {
-    let known = valid_rule_word::capabilities_by(rule, capabilities);
-    let by = valid_rule_word::rule_of(rule);
-    let outcome = valid_arena::check(types, members, known, by, rows);
+    let outcome = check_by(types, members, capabilities, rule, rows);
     doors_words::put_answer(answer, &outcome);
 }
 
@@ -61,9 +196,7 @@ pub fn wuldazin_judge(
     ensures rows_after { rows.new ≡ arena_words (rule_of rule) (capabilities_by rule capabilities) types.now members.now rows.old }
     ensures answer_after { answer.new ≡ with_answer answer.old (arena_answer (capabilities_by rule capabilities) types.now members.now rows.old) }
 {
-    let known = valid_rule_word::capabilities_by(rule, capabilities);
-    let by = valid_rule_word::rule_of(rule);
-    let outcome = valid_arena::judge(types, members, known, by, rows);
+    let outcome = judge_by(types, members, capabilities, rule, rows);
     doors_words::put_answer(answer, &outcome);
 }
 
@@ -95,9 +228,7 @@ pub fn wuldazin_slots(
     ensures mask_after { mask.new ≡ with_masks mask.old (slots_answer (capabilities_by rule capabilities) types.now members.now rows.old ty offset) }
     ensures answer_after { answer.new ≡ with_answer answer.old (slots_outcome (slots_answer (capabilities_by rule capabilities) types.now members.now rows.old ty offset)) }
 {
-    let known = valid_rule_word::capabilities_by(rule, capabilities);
-    let by = valid_rule_word::rule_of(rule);
-    let found = immediates_slots::immediate_slots(types, members, known, by, rows, ty, offset);
+    let found = slots_by(types, members, capabilities, rule, rows, ty, offset);
     doors_words::put_masks(mask, found);
     doors_words::put_answer(answer, &found);
 }
@@ -139,9 +270,7 @@ pub fn wuldazin_place(
     ensures place_after { place.new ≡ with_two place.old (byte_of (lookup_answer (capabilities_by rule capabilities) types.now members.now rows.old start steps.now)) (leaf_of (lookup_answer (capabilities_by rule capabilities) types.now members.now rows.old start steps.now)) }
     ensures answer_after { answer.new ≡ with_answer answer.old (place_outcome (lookup_answer (capabilities_by rule capabilities) types.now members.now rows.old start steps.now)) }
 {
-    let known = valid_rule_word::capabilities_by(rule, capabilities);
-    let by = valid_rule_word::rule_of(rule);
-    let found = place_lookup::lookup(types, members, known, by, rows, start, steps);
+    let found = place_by(types, members, capabilities, rule, rows, start, steps);
     doors_words::put_place(place, found);
     doors_words::put_answer(answer, &found);
 }
@@ -201,9 +330,7 @@ pub fn wuldazin_report(
     ensures totals_after { totals.new ≡ with_two totals.old (carried_of (report_answer (capabilities_by rule capabilities) types.now members.now rows.old report.old)) (wasted_of (report_answer (capabilities_by rule capabilities) types.now members.now rows.old report.old)) }
     ensures answer_after { answer.new ≡ with_answer answer.old (totals_outcome (report_answer (capabilities_by rule capabilities) types.now members.now rows.old report.old)) }
 {
-    let known = valid_rule_word::capabilities_by(rule, capabilities);
-    let by = valid_rule_word::rule_of(rule);
-    let found = place_report::report(types, members, known, by, rows, report);
+    let found = report_by(types, members, capabilities, rule, rows, report);
     doors_words::put_totals(totals, found);
     doors_words::put_answer(answer, &found);
 }
@@ -220,13 +347,7 @@ pub fn wuldazin_pass_set(pass: &mut [u64], offset: u32, size: u32, answer: &mut 
     ensures pass_after { pass.new ≡ with_tried pass.old (tried_in pass.old (SetRange offset size)) }
     ensures answer_after { answer.new ≡ with_answer answer.old (tried_in pass.old (SetRange offset size)).outcome }
 {
-    if pass.len() < 3 {
-        doors_words::put_answer(answer, &doors_words::short_pass());
-        return;
-    }
-    let tried = immediates_pass::set_range(doors_words::pass_of(pass), offset, size);
-    let outcome = tried.outcome;
-    doors_words::put_tried(pass, tried);
+    let outcome = set(pass, offset, size);
     doors_words::put_answer(answer, &outcome);
 }
 
@@ -245,23 +366,7 @@ pub fn wuldazin_pass_choose(
     ensures pass_after { pass.new ≡ with_tried pass.old (tried_in pass.old (Choose (capabilities_by rule capabilities) types.now members.now rows.old ty)) }
     ensures answer_after { answer.new ≡ with_answer answer.old (tried_in pass.old (Choose (capabilities_by rule capabilities) types.now members.now rows.old ty)).outcome }
 {
-    if pass.len() < 3 {
-        doors_words::put_answer(answer, &doors_words::short_pass());
-        return;
-    }
-    let known = valid_rule_word::capabilities_by(rule, capabilities);
-    let by = valid_rule_word::rule_of(rule);
-    let tried = immediates_pass::choose(
-        doors_words::pass_of(pass),
-        types,
-        members,
-        known,
-        by,
-        rows,
-        ty,
-    );
-    let outcome = tried.outcome;
-    doors_words::put_tried(pass, tried);
+    let outcome = choose(types, members, capabilities, rule, rows, ty, pass);
     doors_words::put_answer(answer, &outcome);
 }
 
@@ -270,14 +375,7 @@ pub fn wuldazin_pass_dispatch(pass: &[u64], missing: &mut [u64], answer: &mut [u
     ensures missing_after { missing.new ≡ with_one missing.old (tried_in pass.now Dispatch).missing }
     ensures answer_after { answer.new ≡ with_answer answer.old (tried_in pass.now Dispatch).outcome }
 {
-    if pass.len() < 3 {
-        doors_words::put_one(missing, 0);
-        doors_words::put_answer(answer, &doors_words::short_pass());
-        return;
-    }
-    let tried = immediates_pass::dispatch(doors_words::pass_of(pass));
-    let outcome = tried.outcome;
-    doors_words::put_one(missing, tried.missing);
+    let outcome = dispatch(pass, missing);
     doors_words::put_answer(answer, &outcome);
 }
 
@@ -309,7 +407,8 @@ fn part_start(types: &[u32], ty: u32, count: usize) -> u64
     (ir_records::type_word(types, ty, 1) as u64) * (ir_records::MEMBER_WORDS as u64)
 }
 
-// Kept: `wuldazin_read_spirv` and `wuldazin_read_wgsl` are exported calls over readers with definitions of their own.
+// Kept: `wuldazin_read_spirv` and `wuldazin_read_wgsl` are exported calls over readers with definitions of their own; what a reader leaves in both
+// tables is what each of its callers promises of them.
 // The type section of a SPIR-V module, into lent type and member records; how many of each.
 pub fn wuldazin_read_spirv(
     words: &[u32],
@@ -328,6 +427,7 @@ pub fn wuldazin_read_spirv(
     doors_words::put_read(answer, section);
 }
 
+// Kept: what a reader leaves in both tables is what each of its callers promises of them.
 // The records of a WGSL text, and how many there are of each.
 pub fn wuldazin_read_wgsl(
     text: &[u8],

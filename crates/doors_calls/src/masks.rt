@@ -9,14 +9,14 @@ fn ranges() {
     doors_lent::range(b"range 252 5", 252, 5);
 }
 
-fn one_if(holds: bool) -> u64 {
-    if holds { 1 } else { 0 }
-}
-
 // Each line has this mask, the other, and what is made of them.
 fn sets(this: u64, other: u64) {
     // "Returns true if `self` contains all bits in `other`."
-    let contains = [this, other, one_if(doors::wuldazin_contains(this, other))];
+    let contains = [
+        this,
+        other,
+        u64::from(doors::wuldazin_contains(this, other)),
+    ];
     doors_lent::words(b"contains", &contains);
     // "Returns the bits in `self` that are not set in `other`."
     let difference = [this, other, doors::wuldazin_difference(this, other)];

@@ -4,6 +4,8 @@
 
 ghost use Rattle.std.specs.Prelude.{◌≤◌};
 
+// Kept: `types`, `members`, `capabilities`, `name`: the arguments of a call that is tried, and how its lines begin.
+// Kept: the system's number of the stream, as in each crate that writes to it: a crate for one number would be no plainer.
 const STDOUT: i32 = 1;
 
 // A line begins with a name.

@@ -28,6 +28,7 @@ const HALF: [u32; 24] = [
     0, 2, 2, 0, 0, 0, 0, 2, 4, 0, 0, 0, 9, 9, 9, 9, 9, 9, 9, 9, 9, 9, 9, 9,
 ];
 
+// Kept: `rule`, `rows`, `wanted`, `span`: the arguments of the call that is tried.
 fn order(
     name: &[u8],
     types: &mut [u32],

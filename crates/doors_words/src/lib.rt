@@ -1,26 +1,25 @@
 // Answers of the calls as words in buffers that are lent: the outcome in four words, and what stands beside it.
 #![tactic(auto)]
 
-ghost use Rattle.std.specs.Prelude.{◌≡◌, ◌∷◌, ◌≤◌, length, drop};
-ghost use Rattle.ir_records.specs.Outcome.{Refused};
+ghost use Rattle.std.specs.Prelude.{◌≡◌};
 ghost use Rattle.ir_records.specs.Refusal.{outcome_of};
 ghost use Rattle.immediates_ranges.specs.Slots.{slots_answer_of};
-ghost use Rattle.immediates_pass.specs.Pass.{tried_of};
 ghost use Rattle.place_lookup.specs.Answer.{place_answer_of};
 ghost use Rattle.place_report.specs.Answer.{report_answer_of};
 ghost use Rattle.proc_plain_types.specs.PlainTypes.{plain_answer_of};
-ghost use Rattle.doors_words.specs.Words.{byte_of, leaf_of, carried_of, wasted_of, with_front, with_answer, with_two, with_numbers, with_masks, pass_of, chosen_word, with_pass, with_tried, with_one};
+ghost use Rattle.doors_words.specs.Words.{byte_of, leaf_of, carried_of, wasted_of, with_front, with_answer, with_two, with_numbers, with_masks, with_pass, with_one};
 ghost use Rattle.doors_words.specs.Read.{read_outcome, records_of};
+ghost use Rattle.doors_words.specs.Serving.{PassIn};
 
-use immediates_pass::{Pass, Tried};
+use immediates_pass::Pass;
 use immediates_ranges::Slots;
 use ir_records::{Fault, Records, Refusal};
 use place_descent::Place;
 use place_report::Totals;
 use proc_plain_types::PlainLayout;
 
-// The words stand at the front of a buffer; one of fewer words is left as it was.
-fn put_front<T: Copy, const N: usize>(words: &mut [T], front: [T; N])
+/// The words stand at the front of a buffer; one of fewer words is left as it was.
+pub fn put_front<T: Copy, const N: usize>(words: &mut [T], front: [T; N])
     ensures { words.new ≡ with_front words.old front }
 {
     if N <= words.len() {
@@ -63,14 +62,11 @@ pub fn put_masks(mask: &mut [u64], found: Result<Slots, Refusal>)
         touched: 0,
         partly: 0,
     });
-    if mask.len() < 1 {
-        return;
+    if mask.len() == 1 {
+        mask[0] = slots.touched;
+    } else {
+        put_front(mask, [slots.touched, slots.partly]);
     }
-    mask[0] = slots.touched;
-    if mask.len() < 2 {
-        return;
-    }
-    mask[1] = slots.partly;
 }
 
 /// A leaf's byte place and its type, zeros on a refusal.
@@ -98,31 +94,26 @@ pub fn put_totals(words: &mut [u64], found: Result<Totals, Refusal>)
 pub fn put_numbers(numbers: &mut [u32], found: Result<PlainLayout, Refusal>)
     ensures { numbers.new ≡ with_numbers numbers.old (plain_answer_of found) }
 {
-    match found {
-        Ok(plain) => put_front(numbers, [plain.size, plain.alignment, plain.step]),
-        Err(_) => put_front(numbers, [0; 3]),
-    }
+    let plain = found.unwrap_or(PlainLayout {
+        size: 0,
+        alignment: 0,
+        step: 0,
+    });
+    put_front(numbers, [plain.size, plain.alignment, plain.step]);
 }
 
-// A pass in three lent words.
-pub fn pass_of(words: &[u64]) -> Pass
-    requires { 3 ≤ length words.now }
-    ensures { result ≡ pass_of words.now }
+/// The pass in three lent words; number 1 on fewer.
+pub fn pass_of(words: &[u64]) -> Result<Pass, Refusal>
+    ensures { PassIn words.now result }
 {
-    Pass {
-        set: words[0],
-        needed: words[1],
-        chosen: words[2] != 0,
-    }
-}
-
-fn chosen_word(chosen: bool) -> u64
-    ensures { result ≡ chosen_word chosen }
-{
-    if chosen {
-        return 1;
-    }
-    0
+    let &[set, needed, chosen, ..] = words else {
+        return Err(Refusal::of(Fault::TableLength));
+    };
+    Ok(Pass {
+        set,
+        needed,
+        chosen: chosen != 0,
+    })
 }
 
 /// Fewer than three words are left as they were.
@@ -130,42 +121,23 @@ fn chosen_word(chosen: bool) -> u64
 pub fn put_pass(words: &mut [u64], pass: Pass)
     ensures { words.new ≡ with_pass words.old pass }
 {
-    put_front(words, [pass.set, pass.needed, chosen_word(pass.chosen)]);
+    put_front(words, [pass.set, pass.needed, u64::from(pass.chosen)]);
 }
 
-// The pass after an accepted step; a refused one leaves the words as they were.
-pub fn put_tried(words: &mut [u64], tried: Tried)
-    ensures { words.new ≡ with_tried words.old (tried_of tried) }
-{
-    if tried.outcome.is_ok() {
-        put_pass(words, tried.pass);
-    }
-}
-
+/// A buffer of no word is left.
 pub fn put_one(words: &mut [u64], a: u64)
     ensures { words.new ≡ with_one words.old a }
 {
-    if words.len() < 1 {
-        return;
+    if let Some(word) = words.first_mut() {
+        *word = a;
     }
-    words[0] = a;
-}
-
-// The answer to a step on fewer than three words.
-pub fn short_pass() -> Result<(), Refusal>
-    ensures { outcome_of result ≡ Refused 1 0 0 0 }
-{
-    Err(Refusal::of(Fault::TableLength))
 }
 
 // What a reader read as an answer of four words; a refusal names no type.
 pub fn put_read(answer: &mut [u32], read: Result<Records, Fault>)
     ensures { answer.new ≡ with_answer answer.old (read_outcome read) }
 {
-    match read {
-        Ok(records) => put_answer(answer, &Ok(records)),
-        Err(fault) => put_answer::<Records>(answer, &Err(Refusal::of(fault))),
-    }
+    put_answer(answer, &read.map_err(Refusal::of));
 }
 
 /// How many records were read, none on a refusal. Fewer than two words are left as they were.

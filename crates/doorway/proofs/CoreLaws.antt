@@ -1,6 +1,6 @@
 -- The word core refuses more than 16,384 member words with number 1, and leaves the rows as they were.
 -- Assumes nothing.
-use mathlib.Core.Path.{◌≡◌}
+use mathlib.Core.Path.{◌≡◌, refl}
 use mathlib.Core.Bool.{false, and-false}
 use mathlib.Core.List.{List}
 use Prim.Native.Nat.{ℕ, ◌<◌}
@@ -15,6 +15,8 @@ use Rattle.place_lookup.specs.Place.{lookup_answer}
 use Rattle.place_lookup.specs.Answer as place
 use Rattle.immediates_ranges.specs.Answer as slots
 use Rattle.immediates_slots.specs.Immediates.{slots_answer}
+use Rattle.valid_rule_word.specs.RuleWord.{capabilities_by}
+use Rattle.valid_rule_word.proofs.WordLaws.{unknown}
 
 module _ (c : ℕ) (ts rows ms : List ℕ) (long : 16384 < length ms) where
   unfits : arena_fits c ts ms rows ≡ false
@@ -38,3 +40,21 @@ module _ (c : ℕ) (ts rows ms : List ℕ) (long : 16384 < length ms) where
   pub slots_refuses : (ty offset : ℕ) → slots_answer c ts ms rows ty offset ≡ slots.Refused 1 0 0 0
   unfolding slots_answer
   slots_refuses ty offset = simp answer_refuses
+
+-- the same by a word of no rule
+module _ (word c : ℕ) (other : 1 < word) (ts rows ms : List ℕ) where
+  pub answer_unknown : arena_answer (capabilities_by word c) ts ms rows ≡ outcome.Refused 1 0 0 0
+  unfolding arena_answer
+  answer_unknown = rw (unknown word c other) refl
+
+  pub words_unknown : (rule : UniformRule) → arena_words rule (capabilities_by word c) ts ms rows ≡ rows
+  unfolding arena_words
+  words_unknown rule = rw (unknown word c other) refl
+
+  pub lookup_unknown : (start : ℕ) (steps : List ℕ) → lookup_answer (capabilities_by word c) ts ms rows start steps ≡ place.Refused 1 0 0 0
+  unfolding arena_answer lookup_answer
+  lookup_unknown start steps = rw (unknown word c other) refl
+
+  pub slots_unknown : (ty offset : ℕ) → slots_answer (capabilities_by word c) ts ms rows ty offset ≡ slots.Refused 1 0 0 0
+  unfolding arena_answer slots_answer
+  slots_unknown ty offset = rw (unknown word c other) refl

@@ -15,6 +15,7 @@ use immediates_ranges::Slots;
 use ir_member_words::{Member, MemberWords};
 use ir_records::Refusal;
 use place_descent::Place;
+use valid_type_info::UniformRule;
 
 // Kept: the three calls have one form and differ in the call and its definitions. One function would take the call as a closure, and a closure that
 // writes the rows has to say what they are after it.
@@ -30,9 +31,8 @@ pub fn check_members(
     ensures rows_after { rows.new ≡ arena_words (rule_of rule) (capabilities_by rule capabilities) types.now (flat members.now) rows.old }
 {
     let words = MemberWords::of(members);
-    let by = valid_rule_word::rule_of(rule);
-    let known = valid_rule_word::capabilities_by(rule, capabilities);
-    valid_arena::check(types, words.used(), known, by, rows)
+    let by = UniformRule::try_from(rule)?;
+    valid_arena::check(types, words.used(), capabilities, by, rows)
 }
 
 // Kept: as at `check_members`.
@@ -50,11 +50,11 @@ pub fn place_members(
     ensures rows_after { rows.new ≡ arena_words (rule_of rule) (capabilities_by rule capabilities) types.now (flat members.now) rows.old }
 {
     let words = MemberWords::of(members);
-    let by = valid_rule_word::rule_of(rule);
-    let known = valid_rule_word::capabilities_by(rule, capabilities);
-    place_lookup::lookup(types, words.used(), known, by, rows, start, steps)
+    let by = UniformRule::try_from(rule)?;
+    place_lookup::lookup(types, words.used(), capabilities, by, rows, start, steps)
 }
 
+// Kept: `rule`, `rows`, `ty`, `offset`: the parameters of this call are those of the exported call that it stands for.
 /// The slot walk.
 pub fn slots_members(
     types: &[u32],
@@ -69,7 +69,6 @@ pub fn slots_members(
     ensures rows_after { rows.new ≡ arena_words (rule_of rule) (capabilities_by rule capabilities) types.now (flat members.now) rows.old }
 {
     let words = MemberWords::of(members);
-    let by = valid_rule_word::rule_of(rule);
-    let known = valid_rule_word::capabilities_by(rule, capabilities);
-    immediates_slots::immediate_slots(types, words.used(), known, by, rows, ty, offset)
+    let by = UniformRule::try_from(rule)?;
+    immediates_slots::immediate_slots(types, words.used(), capabilities, by, rows, ty, offset)
 }

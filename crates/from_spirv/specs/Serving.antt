@@ -1,8 +1,7 @@
 -- Serves the contracts of functions inside the library: it adds nothing to what the other files say, and a reader may skip it.
 -- How many words are held: none fewer than before, and no more than there is room for.
 -- Assumes nothing.
-use Rattle.std.specs.Prelude.{ℕ, ◌≤◌}
-use Rattle.std.specs.Prelude.{Result, Ok, Err}
+use Rattle.std.specs.Prelude.{ℕ, ◌≤◌, Result, Ok, Err}
 use Rattle.from_spirv.specs.declared.InputError.{InputError}
 
 abbrev pub HeldWithin : (least most : ℕ) → Result ℕ InputError → Type 0

@@ -2,7 +2,7 @@
 // type and member that `inspect` takes, or the refusal.
 #![tactic(auto)]
 
-ghost use Rattle.std.specs.Prelude.{◌≡◌, ◌≤◌, length};
+ghost use Rattle.std.specs.Prelude.{◌≤◌, length};
 ghost use Rattle.io.specs.Counts.{IsPrefixLen};
 ghost use Rattle.program_output.specs.Bytes.{Adds};
 ghost use Rattle.from_spirv.specs.Serving.{HeldWithin};
@@ -13,6 +13,7 @@ use program_output::Output;
 use std::io::Read;
 use std::rt::{Env, Files};
 
+// Kept: the system's number of the stream, as in each crate that writes to it: a crate for one number would be no plainer.
 const STDOUT: i32 = 1;
 
 // Why an input is no module: it has no whole number of words, or more than are held.
@@ -64,8 +65,7 @@ fn with_bytes(words: &mut [u32], held: usize, bytes: &[u8]) -> Result<usize, Inp
     if free < more {
         return Err(InputError::Long);
     }
-    let now = spirv_input::append(words, held, bytes);
-    Ok(now)
+    Ok(spirv_input::append(words, held, bytes))
 }
 
 // Reads until the buffer is full, the input ends or a read fails, and says how many bytes stand at the start of the buffer.
@@ -74,11 +74,11 @@ fn read_full<S: Read>(source: &mut S, buffer: &mut [u8]) -> usize
 {
     let mut held: usize = 0;
     // Kept: a read gives as many bytes as it has, so no range counts it.
-    while held < buffer.len() {
-        match source.read(&mut buffer[held..]) {
-            Ok(0) | Err(_) => return held,
-            Ok(more) => held += more,
+    while let Ok(more) = program_input::read_after(source, buffer, held) {
+        if more == 0 {
+            return held;
         }
+        held += more;
     }
     held
 }
@@ -110,15 +110,8 @@ fn read_all<S: Read>(source: &mut S, words: &mut [u32]) -> Result<usize, InputEr
     }
 }
 
-// 1,048,576 zeros.
-fn no_words() -> [u32; 1048576]
-    ensures { 1048576 ≡ length result }
-{
-    [0; 1048576]
-}
-
 fn read_and_answer<S: Read>(source: &mut S) {
-    let mut words = no_words();
+    let mut words = program_files::filled::<u32, 1048576>(0);
     match read_all(source, &mut words) {
         Ok(held) => answer(&words[..held]),
         Err(error) => program_files::tell(error.message()),
@@ -128,9 +121,9 @@ fn read_and_answer<S: Read>(source: &mut S) {
 // The name of a file as a comment.
 fn put_name<R: Env>(rt: &R, i: usize) {
     let mut name = io::buffer();
-    let length = program_files::argument(rt, i, &mut name);
+    let name = program_files::argument(rt, i, &mut name).unwrap_or(&[]);
     io::write_all(STDOUT, b"# ");
-    io::write_all(STDOUT, &name[..length]);
+    io::write_all(STDOUT, name);
     io::write_all(STDOUT, b"\n");
 }
 

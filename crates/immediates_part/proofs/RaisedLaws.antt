@@ -1,5 +1,7 @@
 -- Laws of raised masks: their bits, their unions, and the masks of a part that stands further on.
 -- Assumes nothing.
+use Rattle.std.specs.Prelude.{Option, Some, None}
+use Rattle.std.specs.Option.{SomeIff, unwrap_or}
 use mathlib.Core.Path.{◌≡◌, refl, sym, ap, ◌∙◌}
 use mathlib.Core.Bool.{Bool, true, false, ◌&&◌, ◌||◌}
 use Prim.Native.Nat.{ℕ, suc, ◌+◌, ◌-◌, ◌*◌, ◌/◌, ◌%◌, ◌^◌, ◌≤◌, ◌<◌}
@@ -131,11 +133,16 @@ module _ (offset size n : ℕ) where
       raised_mask (mask_of (covers_partly offset size) slot_count) n (covers_partly (offset + 4 * n) size)
       (λ k h. ap (λ (b : Bool). leb n k && b) (bit_mask (covers_partly offset size) slot_count (k - n) (omega (arith, h))) ∙ moved_partly k)
 
--- ---- the shift that the code makes
-pub shifted_out : (m n : ℕ) → slot_count ≤ n → raised m n ≡ 0
+-- ---- the shift that the code makes, of fewer places than there are slots
+shifted_out : (m n : ℕ) → slot_count ≤ n → raised m n ≡ 0
 unfolding raised
 shifted_out m n h =
     let j = n - slot_count in
     let split : m * 2 ^ n ≡ m * 2 ^ j * 2 ^ slot_count =
     ap (λ (x : ℕ). m * 2 ^ x) (omega (arith, h)) ∙ ap (λ (x : ℕ). m * x) (pow-add 2 j slot_count) ∙ sym (mul_assoc m (2 ^ j) (2 ^ slot_count)) in
     rw split (mul-mod_left (m * 2 ^ j) (2 ^ slot_count))
+
+pub raised-shift : (m n : ℕ) (r : Option ℕ) → SomeIff r (n < 64) ((m * 2 ^ n) % 2 ^ 64) → unwrap_or r 0 ≡ raised m n
+unfolding raised
+raised-shift m n (Some x) e = e.1
+raised-shift m n None e = sym (shifted_out m n (omega (arith, e)))

@@ -12,8 +12,6 @@ pub struct Part {
     pub room: u64,
 }
 
-const SLOT_BYTES: u64 = 256;
-
 impl Part {
     /// No slot: only 32 bits end its room.
     #[tactic(auto, unfolding(crate::specs::Part::nothing_at))]
@@ -25,7 +23,7 @@ impl Part {
                 touched: 0,
                 partly: 0,
             },
-            room: proc_alignment::MOST - (offset as u64),
+            room: proc_alignment::MOST - u64::from(offset),
         }
     }
 
@@ -43,11 +41,8 @@ impl Part {
     pub fn moved(self, n: u32) -> Option<Part>
         ensures { part_found result ≡ moved n (part_in self) }
     {
-        let bytes = 4 * (n as u64);
-        if self.room < bytes {
-            return None;
-        }
-        let left = self.room - bytes;
+        let bytes = 4 * u64::from(n);
+        let left = self.room.checked_sub(bytes)?;
         Some(Part {
             slots: Slots {
                 touched: raise(self.slots.touched, n),
@@ -63,14 +58,9 @@ fn range_room(offset: u32, size: u32) -> u64
     ensures { result ≡ range_room offset size }
 {
     if size == 0 {
-        return proc_alignment::MOST - (offset as u64);
+        return proc_alignment::MOST - u64::from(offset);
     }
-    let end = (offset as u64) + (size as u64);
-    if SLOT_BYTES < end {
-        0
-    } else {
-        SLOT_BYTES - end
-    }
+    immediates_ranges::SLOT_BYTES.saturating_sub(u64::from(offset) + u64::from(size))
 }
 
 /// The part of the bytes from offset on; None as of `immediates_ranges::range_slots`.
@@ -85,14 +75,10 @@ pub fn range_part(offset: u32, size: u32) -> Option<Part>
     })
 }
 
-// A mask n slots further on; a shift by 64 or more is none of the machine's.
+// A mask n slots further on: 64 or more leave none.
 #[tactic(auto, unfolding(crate::specs::Part::raised))]
 fn raise(mask: u64, n: u32) -> u64
     ensures { result ≡ raised mask n }
 {
-    if n < 64 {
-        let by = n as u64;
-        return mask << by;
-    }
-    0
+    mask.checked_shl(n).unwrap_or(0)
 }

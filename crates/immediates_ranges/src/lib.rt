@@ -26,9 +26,8 @@ impl Slots {
     }
 }
 
-const ALL: u64 = 18446744073709551615;
-
-const SLOT_BYTES: u64 = 256;
+/// The bytes that the slots have.
+pub const SLOT_BYTES: u64 = 256;
 
 // The slot that the border of a part lies inside; none where a slot begins or ends there, so that nothing is shifted by 64.
 fn cut_slot(border: u64) -> u64
@@ -59,10 +58,10 @@ pub fn range_slots(offset: u32, size: u32) -> Option<Slots>
         return None;
     }
     let lo = (offset as u64) / 4;
-    let hi = (end + 3) / 4;
-    let from = ALL << lo;
+    let hi = end.div_ceil(4);
+    let from = u64::MAX << lo;
     let rest = 64 - hi;
-    let below = ALL >> rest;
+    let below = u64::MAX >> rest;
     let first = cut_slot(offset as u64);
     let last = cut_slot(end);
     Some(Slots {

@@ -11,6 +11,8 @@ use ir_records::{Fault, Refusal};
 use valid_type_info::UniformRule;
 
 /// The slots of a type of an arena from an offset on. The arena is judged first; nothing is asked of the caller.
+// Kept: `types`, `members`, `capabilities`, `rule`, `rows`, `ty`, `offset`, `rows.new ≡ arena_words rule capabilities types.now members.now rows.old`: what
+// the arena check takes and says of its rows, as every call does that judges first; the rows are lent with `&mut`.
 pub fn immediate_slots(
     types: &[u32],
     members: &[u32],
@@ -24,7 +26,7 @@ pub fn immediate_slots(
     ensures rows_after { rows.new ≡ arena_words rule capabilities types.now members.now rows.old }
 {
     valid_arena::check(types, members, capabilities, rule, rows)?;
-    if types.len() / ir_records::TYPE_WORDS <= ty as usize {
+    if ir_records::type_count(types) <= ty as usize {
         return Err(Refusal::of(Fault::NoSuchType));
     }
     immediates_ranges::part_answer(immediates_walk::type_slots(types, members, rows, ty, offset))

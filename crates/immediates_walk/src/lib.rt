@@ -16,8 +16,10 @@ ghost use Rattle.immediates_walk.specs.Walk.{slots_at};
 ghost use Rattle.immediates_walk.specs.Parts.{Sizes, part_at};
 ghost use Rattle.immediates_walk.specs.Serving.{members_at};
 
+use immediates_kept::Kept;
 use immediates_part::Part;
 use immediates_ranges::Slots;
+use ir_records::Kind;
 
 /// How many members of a struct have been taken, and their part.
 #[derive(Clone, Copy, Debug, PartialEq, Eq)]
@@ -27,7 +29,7 @@ pub struct Taken {
 }
 
 // A struct of an arena at an offset; rows: those of the arena check, where sizes stand.
-#[derive(Clone, Copy)]
+#[derive(Clone, Copy, Debug, PartialEq, Eq)]
 struct StructAt<'a> {
     types: &'a [u32],
     members: &'a [u32],
@@ -39,7 +41,7 @@ struct StructAt<'a> {
 }
 
 // A walk of its members, up to one of them.
-#[derive(Clone, Copy)]
+#[derive(Clone, Copy, Debug, PartialEq, Eq)]
 struct Walk<'a> {
     of: StructAt<'a>,
     from: Taken,
@@ -61,7 +63,7 @@ fn plain_from(walk: Walk) -> Option<Taken>
         if (proc_alignment::MOST < sum) | (walk.of.ty <= t) {
             return None;
         }
-        if ir_records::type_word(walk.of.types, t, 0) == ir_records::STRUCT_KIND {
+        if ir_records::is_of_kind(walk.of.types, t, Kind::Struct) {
             return Some(Taken { taken: j, part });
         }
         let at = sum as u32;
@@ -76,9 +78,11 @@ fn plain_from(walk: Walk) -> Option<Taken>
 }
 
 // All members from where a walk stands.
+// Kept: `part_found result ≡ members_at walk.entry.of.types.now walk.entry.of.members.now walk.entry.of.ty walk.entry.of.offset walk.entry.of.count`: three
+// functions hand this one result up, over words for parts that each makes or is lent.
 #[cycle(members_part_struct_part)]
-fn members_part(walk: Walk, kept: &mut [u64]) -> Option<Part>
-    requires ty_in_bounds { walk.of.ty * 16 ≤ length kept.old }
+fn members_part(walk: Walk, kept: &mut [Kept]) -> Option<Part>
+    requires ty_in_bounds { walk.of.ty * 4 ≤ length kept.old }
     requires keeps { Keeps (part_at (decoded walk.of.types.now walk.of.members.now)) kept.old }
     ensures value { part_found result ≡ members_at walk.entry.of.types.now walk.entry.of.members.now walk.entry.of.ty walk.entry.of.offset walk.entry.of.count }
     ensures keeps_2 { Keeps (part_at (decoded walk.entry.of.types.now walk.entry.of.members.now)) kept.new }
@@ -86,7 +90,7 @@ fn members_part(walk: Walk, kept: &mut [u64]) -> Option<Part>
     let own = ir_records::struct_members(walk.of.types, walk.of.members, walk.of.ty);
     let mut part = walk.from.part;
     let mut j = walk.from.taken;
-    // Kept: each step goes past all the members that plain_from took, which no range counts.
+    // Kept: `j` goes on past all the members that plain_from took, which no range does.
     while j < walk.of.count {
         let plain = plain_from(Walk {
             of: walk.of,
@@ -111,12 +115,12 @@ fn struct_part(
     types: &[u32],
     members: &[u32],
     rows: &[u32],
-    kept: &mut [u64],
+    kept: &mut [Kept],
     ty: u32,
     offset: u32,
 ) -> Option<Part>
     requires sizes { Sizes types.now rows.now ty }
-    requires ty_in_bounds { ty * 16 + 16 ≤ length kept.old }
+    requires ty_in_bounds { ty * 4 + 4 ≤ length kept.old }
     requires keeps { Keeps (part_at (decoded types.now members.now)) kept.old }
     requires ty_value { type_word types.now ty 0 ≡ struct_kind }
     ensures value { part_found result ≡ part_at (decoded types.now members.now) ty offset }
@@ -124,8 +128,8 @@ fn struct_part(
 {
     let low = offset % 4;
     let further = offset / 4;
-    if immediates_kept::is_kept(kept, ty, low) {
-        return immediates_kept::kept_part(kept, ty, low)?.moved(further);
+    if let Some(part) = immediates_kept::kept_part(kept, ty, low) {
+        return part?.moved(further);
     }
     let own = StructAt {
         types,
@@ -147,31 +151,27 @@ fn struct_part(
     walked?.moved(further)
 }
 
-// The members of a struct that has a struct among them, with N words to keep parts in.
+// The members of a struct that has a struct among them, with room to keep N parts.
 fn nested_in<const N: usize>(walk: Walk) -> Option<Part>
-    requires words_fit { walk.of.ty * 16 ≤ N }
-    requires words_bound { N ≤ 16384 }
+    requires parts_fit { walk.of.ty * 4 ≤ N }
+    requires parts_bound { N ≤ 4096 }
     ensures { part_found result ≡ members_at walk.entry.of.types.now walk.entry.of.members.now walk.entry.of.ty walk.entry.of.offset walk.entry.of.count }
 {
-    let mut kept = [0u64; N];
+    let mut kept: [Kept; N] = [None; N];
     members_part(walk, &mut kept)
 }
 
-// The same with sixteen words for each type before it. Zeroing them takes time, so there are no more than needed, within four times.
+// The same with room for four parts of each type before it. Emptying it takes time, so there is no more than needed, within four times.
 fn nested_part(walk: Walk) -> Option<Part>
     requires { walk.of.ty ≤ 1024 }
     ensures { part_found result ≡ members_at walk.entry.of.types.now walk.entry.of.members.now walk.entry.of.ty walk.entry.of.offset walk.entry.of.count }
 {
-    if walk.of.ty <= 8 {
-        nested_in::<128>(walk)
-    } else if walk.of.ty <= 32 {
-        nested_in::<512>(walk)
-    } else if walk.of.ty <= 128 {
-        nested_in::<2048>(walk)
-    } else if walk.of.ty <= 512 {
-        nested_in::<8192>(walk)
-    } else {
-        nested_in::<16384>(walk)
+    match walk.of.ty {
+        0..=8 => nested_in::<32>(walk),
+        9..=32 => nested_in::<128>(walk),
+        33..=128 => nested_in::<512>(walk),
+        129..=512 => nested_in::<2048>(walk),
+        _ => nested_in::<4096>(walk),
     }
 }
 
@@ -181,7 +181,7 @@ fn type_part(types: &[u32], members: &[u32], rows: &[u32], ty: u32, offset: u32)
     requires ty_bound { ty ≤ 1024 }
     ensures { part_found result ≡ part_at (decoded types.now members.now) ty offset }
 {
-    if ir_records::type_word(types, ty, 0) != ir_records::STRUCT_KIND {
+    if !ir_records::is_of_kind(types, ty, Kind::Struct) {
         let size = ir_rows::row_word(rows, ty, ir_rows::SIZE as u32);
         return immediates_part::range_part(offset, size);
     }

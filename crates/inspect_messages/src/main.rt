@@ -2,6 +2,7 @@
 #![tactic(auto)]
 
 use program_commands::Session;
+use program_lines::Line;
 use program_output::Output;
 
 fn stop_at(mut s: Session, line: &[u8]) {
@@ -9,14 +10,15 @@ fn stop_at(mut s: Session, line: &[u8]) {
     let mut numbers = [0u32; 1025];
     let mut out = Output::new();
     match program_lines::read_line(line, &mut numbers) {
-        Ok(read) => s = program_commands::change(read, s, &mut arena),
-        Err(reason) => s = program_commands::stop(s, reason),
+        Ok(Some(Line::Change(change))) => s.change(change, &mut arena),
+        Ok(_) => {}
+        Err(reason) => s.stop(reason),
     }
-    program_commands::flushed(s, &mut out);
+    s.flush(&mut out);
 }
 
 fn stop(line: &[u8]) {
-    stop_at(program_commands::start(), line);
+    stop_at(Session::new(), line);
 }
 
 fn stop_each(lines: &[&[u8]]) {
@@ -68,7 +70,7 @@ fn usage() {
 
 // Tables that are full: 1,024 types, 4,096 members.
 fn full() {
-    let mut s = program_commands::start();
+    let mut s = Session::new();
     s.types = program_commands::MEMBERS_AT;
     s.members = program_commands::ARENA_WORDS;
     stop_at(s, b"type 0 2 4");

@@ -1,7 +1,7 @@
 // Member records, and the words that they stand for.
 #![tactic(auto)]
 
-ghost use Rattle.std.specs.Prelude.{◌≡◌, ◌*◌, ◌≤◌, leb, length, take};
+ghost use Rattle.std.specs.Prelude.{◌≡◌, [], ◌∷◌, ◌*◌, ◌≤◌, leb, length, take};
 ghost use Rattle.ir_records.specs.Result.{pick};
 ghost use Rattle.ir_records.specs.Record.{member_words};
 ghost use Rattle.ir_member_words.specs.Flat.{flat};
@@ -15,10 +15,20 @@ pub struct Member {
     pub source: u32,
 }
 
+impl Member {
+    /// The words of the record.
+    pub fn words(self) -> [u32; 4]
+        ensures { result ≡ self.ty ∷ self.offset ∷ self.location ∷ self.source ∷ [] }
+    {
+        [self.ty, self.offset, self.location, self.source]
+    }
+}
+
 // How many records are taken apart at most: one more than the core takes, so that the core refuses what is too long.
 const MOST_RECORDS: usize = 4097;
 
 /// The words of member records, one record after the other.
+// Kept: an array and how much of it is used: there is no heap for a vector.
 #[derive(Drop)]
 pub struct MemberWords {
     pub words: [u32; 16388],
@@ -33,12 +43,9 @@ impl MemberWords {
     {
         let n = ms.len().min(MOST_RECORDS);
         let mut words = [0u32; 16388];
-        for i in 0..n {
-            let m = ms[i];
-            words[i * 4] = m.ty;
-            words[i * 4 + 1] = m.offset;
-            words[i * 4 + 2] = m.location;
-            words[i * 4 + 3] = m.source;
+        for (i, m) in ms[..n].iter().enumerate() {
+            let at = i * ir_records::MEMBER_WORDS;
+            words[at..at + ir_records::MEMBER_WORDS].copy_from_slice(&m.words());
         }
         MemberWords {
             words,

@@ -1,17 +1,17 @@
 -- The member rows of a struct by cases; what number 2 leaves of a record: the bounds of its fields.
 -- Assumes nothing.
+use Rattle.std.specs.List.{list_any, range_with_len}
 use mathlib.Core.Path.{◌≡◌, refl, ap, ◌∙◌}
-use mathlib.Core.Bool.{Bool, true, false, ◌&&◌}
+use mathlib.Core.Bool.{Bool, true, false, not, ◌&&◌, ◌||◌}
 use mathlib.Core.List.{List, []}
-use Prim.Native.Nat.{ℕ, zero, suc, ◌+◌, ◌-◌, ◌*◌, ◌/◌, ◌%◌, ◌≤◌, ◌<◌}
-use native.Mathlib.Nat.{not-suc-le-zero}
+use Prim.Native.Nat.{ℕ, zero, suc, ◌+◌, ◌*◌, ◌/◌, ◌%◌, ◌≤◌, ◌<◌}
 use native.Mathlib.Omega.{arith}
-use lib.Dec.{T, leb, ltb, eqb, leb→le, eqb→eq}
+use lib.Dec.{T, leb, eqb, leb→le, eqb→eq}
 use lib.ListN.{take, drop}
 use borrow.Author.Tests.{lt-ltb, le-leb, ne_eqb}
 use Rattle.ir_records.specs.Result.{ok, pick, require}
-use Rattle.ir_records.specs.Record.{type_words, type_word, type_count, member_count, member_words, member_location, member_source, Sourceless, struct_kind, struct_members, inner_of, type_inner}
-use Rattle.ir_records.specs.Fields.{most_types, most_members, row_words, tables_fit, scalar_ok, vector_size_ok, cooperative_size_ok, fields_ok, base_within, located_to, sources_located, fields_at, record_at}
+use Rattle.ir_records.specs.Record.{type_words, type_word, type_count, member_count, member_words, Sourceless, struct_kind, struct_members, inner_of, type_inner}
+use Rattle.ir_records.specs.Fields.{most_types, most_members, row_words, tables_fit, scalar_ok, vector_size_ok, cooperative_size_ok, fields_ok, base_within, is_unlocated, located_to, sources_located, fields_at, record_at}
 use Rattle.ir_records.specs.Serving.{InnerBounds}
 use Rattle.ir_records.specs.declared.TypeInner.{TypeInner}
 use Rattle.ir_records.proofs.ResultLaws.{required, true_T, and_left, and_right}
@@ -82,28 +82,38 @@ fields_bounds n k a b c d e h =
         (λ t. record { bounds = tt })))))))))))))
 
 -- ---- number 2 of a struct's own rows
-one_less : (j : ℕ) → 0 < j → j ≡ suc (j - 1)
-one_less j h = omega arith
+-- one number more at the end of those that are asked
+pub any_last : (f : ℕ → Bool) (k n : ℕ) → list_any f (range_with_len k (suc n)) ≡ (list_any f (range_with_len k n) || f (k + n))
+any_last f k zero = let z : k + 0 ≡ k = omega arith in rw z (or_none (f k))
+  where
+    or_none : (b : Bool) → (b || false) ≡ b
+    or_none true = refl
+    or_none false = refl
+any_last f k (suc n) =
+    let z : k + 1 + n ≡ k + suc n = omega arith in
+    ap (λ (b : Bool). f k || b) (any_last f (k + 1) n ∙ ap (λ (i : ℕ). list_any f (range_with_len (k + 1) n) || f i) z)
+    ∙ grouped (f k) (list_any f (range_with_len (k + 1) n)) (f (k + suc n))
+  where
+    grouped : (a b c : Bool) → (a || (b || c)) ≡ ((a || b) || c)
+    grouped true b c = refl
+    grouped false b c = refl
+
+-- the library's search among the first n rows
+pub any_unlocated : (part : List ℕ) (n : ℕ) → not (list_any (is_unlocated part) (range_with_len 0 n)) ≡ located_to part n
+unfolding located_to
+any_unlocated part zero = refl
+any_unlocated part (suc n) =
+    let z : 0 + n ≡ n = omega arith in
+    ap not (any_last (is_unlocated part) 0 n ∙ ap (λ (i : ℕ). list_any (is_unlocated part) (range_with_len 0 n) || is_unlocated part i) z)
+    ∙ turned (list_any (is_unlocated part) (range_with_len 0 n)) (is_unlocated part n) (any_unlocated part n)
+  where
+    turned : (a b : Bool) {c : Bool} → not a ≡ c → not (a || b) ≡ pick b false c
+    turned true true e = refl
+    turned true false e = e
+    turned false true e = refl
+    turned false false e = e
 
 module _ (part : List ℕ) where
-  abbrev unlocated : ℕ → Bool
-  unlocated k = ltb 0 (member_source part k) && eqb (member_location part k) 0
-
-  located_at : (k : ℕ) (t : Bool) → unlocated k ≡ t → located_to part (suc k) ≡ pick t false (located_to part k)
-  unfolding located_to
-  located_at k t e = ap (λ (x : Bool). pick x false (located_to part k)) e
-
-  pub unlocated_found : (j : ℕ) → 0 < j → unlocated (j - 1) ≡ true → located_to part j ≡ false
-  unlocated_found j h e = ap (located_to part) (one_less j h) ∙ located_at (j - 1) true e
-
-  pub located_before : (j : ℕ) → 0 < j → unlocated (j - 1) ≡ false → located_to part j ≡ located_to part (j - 1)
-  located_before j h e = ap (located_to part) (one_less j h) ∙ located_at (j - 1) false e
-
-  pub located_none : (j : ℕ) → j ≤ 0 → located_to part j ≡ true
-  unfolding located_to
-  located_none zero h = refl
-  located_none (suc j) h = absurd (not-suc-le-zero h)
-
   -- rows without blend sources
   pub sourceless_located : (n : ℕ) → Sourceless part n → located_to part n ≡ true
   unfolding located_to

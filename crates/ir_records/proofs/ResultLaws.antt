@@ -52,6 +52,19 @@ pub require_then {ℓ κ} : {A : Type ℓ} {B : Type κ} (b : Bool) (n m d : ℕ
 require_then true n m d o f = refl
 require_then false n m d o f = refl
 
+-- a test alone that let through
+pub passed : (t : Bool) (n m d : ℕ) → ok tt ≡ require {A = Unit {0}} t n m d (ok tt) → t ≡ true
+passed true n m d e = refl
+passed false n m d e = let z : ◌≡◌ {A = ℕ} 0 1 = cc in absurd (omega arith)
+
+-- one that refused does so in front of anything
+pub refused_first {κ} : {B : Type κ} (t : Bool) (n m d x y z : ℕ) (o : Result B) → err x y z ≡ require {A = Unit {0}} t n m d (ok tt) → err x y z ≡ require t n m d o
+refused_first true n m d x y z o e = let f : ◌≡◌ {A = ℕ} 0 1 = cc in absurd (omega arith)
+refused_first {B = B} false n m d x y z o e = alike e
+  where
+    alike : ◌≡◌ {A = Result (Unit {0})} (err x y z) (err n m d) → ◌≡◌ {A = Result B} (err x y z) (err n m d)
+    alike e = cc
+
 -- ---- tests
 pub true_T : {b : Bool} → b ≡ true → T b
 true_T e = rw e tt

@@ -94,10 +94,14 @@ abbrev pub base_within : (types kind base : ℕ) → Bool
 base_within types kind base = not (eqb kind pointer_kind || eqb kind binding_array_kind) || ltb base types
 
 -- ---- number 2 of a struct's own rows: a blend source requires a location
--- among the first j rows of a part
+-- row j of a part lacks the location
+abbrev pub is_unlocated : (part : List ℕ) → ℕ → Bool
+is_unlocated part j = ltb 0 (member_source part j) && eqb (member_location part j) 0
+
+-- none of the first j rows does
 unfoldable pub located_to : (part : List ℕ) → ℕ → Bool
 located_to part zero = true
-located_to part (suc j) = pick (ltb 0 (member_source part j) && eqb (member_location part j) 0) false (located_to part j)
+located_to part (suc j) = pick (is_unlocated part j) false (located_to part j)
 
 abbrev pub sources_located : (part : List ℕ) → Bool
 sources_located part = located_to part (member_count part)

@@ -1,4 +1,4 @@
--- The numbers of the kinds of types and of scalars, as records have them.
+-- The numbers of the kinds of types and of scalars, as records have them. They serve contracts: no definition of the papers reads them.
 -- Assumes nothing.
 use Rattle.std.specs.Prelude.{◌≡◌, ◌<◌, ℕ, Result, MatchResult}
 use Rattle.ir_records.specs.declared.Kind.{Kind}

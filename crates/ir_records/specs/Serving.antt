@@ -1,7 +1,8 @@
 -- Serves the contracts of functions inside the library: it adds nothing to what the other files say, and a reader may skip it.
 -- Assumes nothing.
-use Rattle.std.specs.Prelude.{List, ℕ, ◌≤◌, T}
+use Rattle.std.specs.Prelude.{List, Option, None, Some, ℕ, ◌≤◌, eqb, T}
 use Rattle.ir_records.specs.declared.Words.{Words}
+use Rattle.ir_records.specs.Result.{pick}
 use Rattle.ir_records.specs.Record.{type_word}
 use Rattle.ir_records.specs.declared.Leaf.{Leaf}
 use Rattle.ir_records.specs.declared.Leaf.TheVariants.{Scalar, Vector, Matrix, CooperativeMatrix, Atomic, RayQuery}
@@ -20,6 +21,10 @@ record_words ts i =
       d = type_word ts i 4;
       e = type_word ts i 5;
     }
+
+-- how many elements an array's record says, by its form and its count; none for a runtime array
+abbrev pub size_of : (form count : ℕ) → Option ℕ
+size_of form count = pick (eqb form 0) (Some count) None
 
 -- ---- what number 2 leaves: the bounds by which sizes fit 32 bits
 abbrev pub LeafBounds : Leaf → Type 0

@@ -3,12 +3,12 @@
 // `arena.entry.types.now` for `types.now`, and most functions below the calls read one of the tables.
 #![tactic(auto)]
 
-ghost use Rattle.std.specs.Prelude.{◌≡◌, ◌&&◌, ℕ, ◌+◌, ◌*◌, ◌/◌, ◌≤◌, ◌<◌, length, get_or, take, drop};
+ghost use Rattle.std.specs.Prelude.{◌≡◌, ◌&&◌, ℕ, ◌+◌, ◌*◌, ◌/◌, ◌≤◌, ◌<◌, eqb, length, get_or, take, drop};
 ghost use Rattle.ir_records.specs.Record.{type_word, type_count, member_words, member_count, member_type, member_offset, member_location, member_source, array_kind, inner_in, type_inner, struct_members};
-ghost use Rattle.ir_records.specs.Serving.{record_words};
-ghost use Rattle.ir_records.specs.Kinds.{NamesKind, NamesScalarKind};
+ghost use Rattle.ir_records.specs.Serving.{record_words, size_of};
+ghost use Rattle.ir_records.specs.Kinds.{kind_number, NamesKind, NamesScalarKind};
 ghost use Rattle.ir_records.specs.Refusal.{number_of, type_refusal, refusal, at_type};
-ghost use Rattle.ir_records.specs.Fields.{tables_fit, capabilities_known, sources_located};
+ghost use Rattle.ir_records.specs.Fields.{tables_fit, capabilities_known, is_unlocated, sources_located};
 
 // Data that is neither array nor struct: 01's leaves.
 #[derive(Clone, Copy, Debug, PartialEq, Eq)]
@@ -195,13 +195,11 @@ impl TypeRefusal {
 }
 
 /// The judgement of one type as an answer about type `ty`.
+// Kept: it takes a Result, since what it does is `map_err`: without it each caller would write the closure, with a contract of its own.
 pub fn at_type<T>(judged: Result<T, TypeRefusal>, ty: u32) -> Result<T, Refusal>
     ensures { result ≡ at_type judged ty }
 {
-    match judged {
-        Ok(value) => Ok(value),
-        Err(refusal) => Err(refusal.at(ty)),
-    }
+    judged.map_err(|refusal| refusal.at(ty))
 }
 
 impl Refusal {
@@ -278,22 +276,28 @@ pub const MEMBER_WORDS: usize = 4;
 
 pub const ROW_WORDS: usize = 14;
 
-const MOST_TYPES: usize = 1024;
+/// How many types and how many member rows an arena has at most.
+pub const MOST_TYPES: usize = 1024;
 
-const MOST_MEMBERS: usize = 4096;
+pub const MOST_MEMBERS: usize = 4096;
 // Bits 0 to 13.
 const ALL_CAPABILITIES: u32 = 16383;
 
-// The kinds that code tests for one at a time.
-pub const POINTER_KIND: u32 = Kind::Pointer as u32;
+impl Words {
+    /// Whether the record is of this kind.
+    pub fn is(self, kind: Kind) -> bool
+        ensures { result ≡ eqb self.kind (kind_number kind) }
+    {
+        self.kind == kind as u32
+    }
 
-pub const ARRAY_KIND: u32 = Kind::Array as u32;
-
-pub const STRUCT_KIND: u32 = Kind::Struct as u32;
-
-pub const IMAGE_KIND: u32 = Kind::Image as u32;
-
-pub const BINDING_ARRAY_KIND: u32 = Kind::BindingArray as u32;
+    /// How many elements an array has; none for a runtime array.
+    pub fn array_size(self) -> Option<u32>
+        ensures { result ≡ size_of self.b self.c }
+    {
+        if self.b == 0 { Some(self.c) } else { None }
+    }
+}
 
 /// An item of a table; `otherwise` past it.
 pub fn item_or<T: Copy>(items: &[T], at: usize, otherwise: T) -> T
@@ -313,21 +317,45 @@ pub fn word_at(words: &[u32], at: usize) -> u32
     item_or(words, at, 0)
 }
 
+/// Word k of row i of a table with so many words a row; 0 past the table.
+pub fn table_word(words: &[u32], width: u32, i: u32, k: u32) -> u32
+    ensures { result ≡ get_or words.now (i * width + k) 0 }
+{
+    word_at(words, (i as usize) * (width as usize) + (k as usize))
+}
+
+/// The same of a row that the table has, with no test of its length.
+pub fn own_table_word(words: &[u32], width: usize, i: u32, k: usize) -> u32
+    requires { i * width + k < length words.now }
+    ensures { result ≡ get_or words.now (i * width + k) 0 }
+{
+    words[(i as usize) * width + k]
+}
+
 // Word k of record i; 0 past the table.
+// Kept: an instance of table_word, as member_type and those after it.
 pub fn type_word(types: &[u32], i: u32, k: u32) -> u32
     ensures { result ≡ type_word types.now i k }
 {
-    word_at(types, (i as usize) * TYPE_WORDS + (k as usize))
+    table_word(types, TYPE_WORDS as u32, i, k)
 }
 
-// The same of a record that the table has, with no test of its length.
+// The same of a record that the table has.
 pub fn own_word(types: &[u32], i: u32, k: usize) -> u32
     requires { i * 6 + k < length types.now }
     ensures { result ≡ type_word types.now i k }
 {
-    types[(i as usize) * TYPE_WORDS + k]
+    own_table_word(types, TYPE_WORDS, i, k)
 }
 
+/// Whether type i is of this kind; past the table every word is 0.
+pub fn is_of_kind(types: &[u32], i: u32, kind: Kind) -> bool
+    ensures { result ≡ eqb (type_word types.now i 0) (kind_number kind) }
+{
+    type_word(types, i, 0) == kind as u32
+}
+
+// Kept: as member_count, by the width of its own table, which has a name in the definitions.
 pub fn type_count(types: &[u32]) -> usize
     ensures { result ≡ type_count types.now }
 {
@@ -335,68 +363,65 @@ pub fn type_count(types: &[u32]) -> usize
 }
 
 /// How many rows a member table has, or a struct's part of it.
+// Kept: as type_count.
 pub fn member_count(members: &[u32]) -> usize
     ensures { result ≡ member_count members.now }
 {
     members.len() / MEMBER_WORDS
 }
 
-// Of member j in a part of the member table; 0 past the part.
+// The words of a member record: the type, the offset, and the location and the blend source, each plus one, 0 for none.
+const TYPE: u32 = 0;
+
+const OFFSET: u32 = 1;
+
+const LOCATION: u32 = 2;
+
+const SOURCE: u32 = 3;
+
+// Kept: these four differ by the word alone, and name it: a caller that said its position could say another.
 pub fn member_type(part: &[u32], j: u32) -> u32
     ensures { result ≡ member_type part.now j }
 {
-    word_at(part, (j as usize) * MEMBER_WORDS)
+    table_word(part, MEMBER_WORDS as u32, j, TYPE)
 }
 
+// Kept: as member_type.
 pub fn member_offset(part: &[u32], j: u32) -> u32
     ensures { result ≡ member_offset part.now j }
 {
-    word_at(part, (j as usize) * MEMBER_WORDS + 1)
+    table_word(part, MEMBER_WORDS as u32, j, OFFSET)
 }
 
-// The same of a member that the part has.
-// Kept: `j * member_words + member_words ≤ length part.now`: for parts of which the first rows are looked at; where all are, Members says it.
-pub fn own_type(part: &[u32], j: usize) -> u32
-    requires { j * member_words + member_words ≤ length part.now }
-    ensures { result ≡ member_type part.now j }
-{
-    part[j * MEMBER_WORDS]
-}
-
-pub fn own_offset(part: &[u32], j: usize) -> u32
-    requires { j * member_words + member_words ≤ length part.now }
-    ensures { result ≡ member_offset part.now j }
-{
-    part[j * MEMBER_WORDS + 1]
-}
-
-// The same of its location and its blend source, each plus one, 0 for none.
-pub fn own_location(part: &[u32], j: usize) -> u32
-    requires { j * member_words + member_words ≤ length part.now }
+// Kept: as member_type.
+pub fn member_location(part: &[u32], j: u32) -> u32
     ensures { result ≡ member_location part.now j }
 {
-    part[j * MEMBER_WORDS + 2]
+    table_word(part, MEMBER_WORDS as u32, j, LOCATION)
 }
 
-pub fn own_source(part: &[u32], j: usize) -> u32
-    requires { j * member_words + member_words ≤ length part.now }
+// Kept: as member_type.
+pub fn member_source(part: &[u32], j: u32) -> u32
     ensures { result ≡ member_source part.now j }
 {
-    part[j * MEMBER_WORDS + 3]
+    table_word(part, MEMBER_WORDS as u32, j, SOURCE)
+}
+
+// Whether row j has a blend source and no location.
+fn is_unlocated(part: &[u32], j: usize) -> bool
+    requires { j < member_count part.now }
+    ensures { result ≡ is_unlocated part.now j }
+{
+    let source = word_at(part, j * MEMBER_WORDS + SOURCE as usize);
+    let location = word_at(part, j * MEMBER_WORDS + LOCATION as usize);
+    (0 < source) & (location == 0)
 }
 
 // Number 2 of a struct's own rows: a blend source requires a location.
 pub fn sources_located(part: &[u32]) -> bool
     ensures { result ≡ sources_located part.now }
 {
-    for j in (0..member_count(part)).rev() {
-        let source = own_source(part, j);
-        let location = own_location(part, j);
-        if (0 < source) & (location == 0) {
-            return false;
-        }
-    }
-    true
+    !(0..member_count(part)).any(|j| is_unlocated(part, j))
 }
 
 // An array of a count, or a runtime array.
@@ -404,17 +429,16 @@ pub fn sources_located(part: &[u32]) -> bool
 fn array_of(w: Words) -> TypeInner
     ensures { w.kind ≡ array_kind → result ≡ inner_in w }
 {
-    if w.b == 0 {
-        TypeInner::Array {
+    match w.array_size() {
+        Some(count) => TypeInner::Array {
             base: w.a,
-            count: w.c,
+            count,
             stride: w.d,
-        }
-    } else {
-        TypeInner::RuntimeArray {
+        },
+        None => TypeInner::RuntimeArray {
             base: w.a,
             stride: w.d,
-        }
+        },
     }
 }
 
@@ -466,19 +490,13 @@ pub fn own_record(types: &[u32], i: u32) -> Words
 fn cut_record(types: &[u32], i: u32) -> Words
     ensures { result ≡ record_words types.now i }
 {
-    let kind = type_word(types, i, 0);
-    let a = type_word(types, i, 1);
-    let b = type_word(types, i, 2);
-    let c = type_word(types, i, 3);
-    let d = type_word(types, i, 4);
-    let e = type_word(types, i, 5);
     Words {
-        kind,
-        a,
-        b,
-        c,
-        d,
-        e,
+        kind: type_word(types, i, 0),
+        a: type_word(types, i, 1),
+        b: type_word(types, i, 2),
+        c: type_word(types, i, 3),
+        d: type_word(types, i, 4),
+        e: type_word(types, i, 5),
     }
 }
 
@@ -501,7 +519,7 @@ pub fn type_inner(types: &[u32], i: u32) -> TypeInner
 }
 
 /// The member rows of a struct: so many of the member table, which stand there whole.
-#[derive(Clone, Copy)]
+#[derive(Clone, Copy, Debug, PartialEq, Eq)]
 pub struct Members<'a> {
     pub words: &'a [u32],
     pub count: u32,
@@ -511,34 +529,38 @@ pub struct Members<'a> {
 impl<'a> Members<'a> {
     /// The type of member j.
     // Kept: `j < self.count`: what each of these methods asks of its own j.
+    // Kept: these four differ by the word alone, and name it, as member_type and those after it do.
     pub fn type_of(self, j: u32) -> u32
         requires { j < self.count }
         ensures { result ≡ member_type self.entry.words.now j }
     {
-        own_type(self.words, j as usize)
+        own_table_word(self.words, MEMBER_WORDS, j, TYPE as usize)
     }
 
+    // Kept: as type_of.
     pub fn offset_of(self, j: u32) -> u32
         requires { j < self.count }
         ensures { result ≡ member_offset self.entry.words.now j }
     {
-        own_offset(self.words, j as usize)
+        own_table_word(self.words, MEMBER_WORDS, j, OFFSET as usize)
     }
 
     /// The location plus one, 0 for none.
+    // Kept: as type_of.
     pub fn location_of(self, j: u32) -> u32
         requires { j < self.count }
         ensures { result ≡ member_location self.entry.words.now j }
     {
-        own_location(self.words, j as usize)
+        own_table_word(self.words, MEMBER_WORDS, j, LOCATION as usize)
     }
 
     /// The blend source plus one, 0 for none.
+    // Kept: as type_of.
     pub fn source_of(self, j: u32) -> u32
         requires { j < self.count }
         ensures { result ≡ member_source self.entry.words.now j }
     {
-        own_source(self.words, j as usize)
+        own_table_word(self.words, MEMBER_WORDS, j, SOURCE as usize)
     }
 }
 
@@ -560,13 +582,12 @@ pub fn member_part(members: &[u32], first: u32, count: u32) -> Members
 pub fn struct_members<'a>(types: &[u32], members: &'a [u32], i: u32) -> &'a [u32]
     ensures { result.now ≡ struct_members types.now members.now i }
 {
-    let kind = type_word(types, i, 0);
     let first = type_word(types, i, 1);
     let count = type_word(types, i, 2);
     let last = first as usize + count as usize;
-    if ((i as usize) < types.len() / TYPE_WORDS)
-        & (kind == STRUCT_KIND)
-        & (last <= members.len() / MEMBER_WORDS)
+    if ((i as usize) < type_count(types))
+        & is_of_kind(types, i, Kind::Struct)
+        & (last <= member_count(members))
     {
         return member_part(members, first, count).words;
     }

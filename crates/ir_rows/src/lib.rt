@@ -25,22 +25,24 @@ pub const STORAGE_ALIGNMENT: usize = 9;
 pub const IMMEDIATES: usize = 13;
 
 // Word j of row k; 0 past the rows.
+// Kept: an instance of `ir_records::table_word`, by the definition of this name.
 pub fn row_word(rows: &[u32], k: u32, j: u32) -> u32
     ensures { result ≡ row_word rows.now k j }
 {
-    ir_records::word_at(rows, (k as usize) * ROW_WORDS + (j as usize))
+    ir_records::table_word(rows, ROW_WORDS as u32, k, j)
 }
 
-// The same of a row that stands there, with no test.
+// The same of a row that stands there.
+// Kept: as row_word.
 pub fn own_word(rows: &[u32], k: u32, j: usize) -> u32
     requires { k * 14 + j < length rows.now }
     ensures { result ≡ row_word rows.now k j }
 {
-    rows[(k as usize) * ROW_WORDS + j]
+    ir_records::own_table_word(rows, ROW_WORDS, k, j)
 }
 
 /// The rows of the types before type i.
-#[derive(Clone, Copy)]
+#[derive(Clone, Copy, Debug, PartialEq, Eq)]
 pub struct Earlier<'a> {
     pub rows: &'a [u32],
     pub i: u32,

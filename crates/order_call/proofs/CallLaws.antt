@@ -6,16 +6,13 @@ use mathlib.Core.List.{List}
 use Prim.Native.Nat.{ℕ, ◌+◌, ◌*◌, ◌≤◌, ◌<◌}
 use native.Mathlib.Nat.{le_trans}
 use native.Mathlib.Omega.{arith}
-use lib.Dec.{leb}
+use lib.Dec.{eqb, leb}
 use lib.ListN.{length, get_or, take}
 use lib.Seq.{length-take-le}
-use borrow.Author.Tests.{leb-true, eq-eqb, ne_eqb}
+use borrow.Author.Tests.{leb-true, eq-eqb, eqb-true, eqb-false, ne_eqb}
 use Rattle.ir_records.specs.Record.{type_count, type_words}
 use Rattle.ir_records.specs.Fields.{most_types, most_members, row_words}
-use Rattle.ir_records.specs.Outcome.{Accepted}
-use Rattle.ir_records.specs.Refusal as refusal
-use Rattle.ir_records.specs.declared.Fault.{Fault}
-use Rattle.ir_records.specs.declared.Fault.TheVariants.{TableLength}
+use Rattle.ir_records.specs.Outcome.{Accepted, Refused}
 use Rattle.ir_rows.specs.Rows.{row_word}
 use Rattle.proc_alignment.specs.Alignment.{most}
 use Rattle.proc_alignment.proofs.PowerLaws.{power_positive}
@@ -26,13 +23,16 @@ use Rattle.valid_arena.proofs.ArenaLaws.{arena_alignment_power}
 use Rattle.valid_type_info.specs.TypeInfo.{rows_in}
 use Rattle.valid_type_info.specs.declared.Row.{Row}
 use Rattle.place_lookup.proofs.LookupLaws.{answer_accepted}
-use Rattle.std.specs.Prelude.{Option, Some}
+use Rattle.std.specs.Prelude.{Option, Some, None, Result, Ok, Err}
+use Rattle.std.specs.Option.{ok_or}
+use Rattle.ir_records.specs.declared.Refusal.{Refusal}
 use Rattle.order_numbers.specs.Order.{member_at}
 use Rattle.order_placement.specs.Placement.{offset_of, span_of}
 use Rattle.order_placement.proofs.PlacementLaws.{offset-within}
 use Rattle.order_search.specs.Fitting.{first_order}
 use Rattle.order_search.proofs.FirstOrderProof.{first-order}
 use Rattle.order_types.specs.Given.{number_of, last_of}
+use Rattle.order_types.specs.Serving.{outcome_by}
 use Rattle.order_types.proofs.GivenLaws.{none_outside}
 use Rattle.order_call.specs.Call.{room, refused, with_order, chosen, after_check, ordered}
 
@@ -95,10 +95,20 @@ module _ (types rows : List ℕ) (n : ℕ) (wanted : List ℕ) (span order : ℕ
       j l)
       span_small
 
--- ---- a refusal has a number
-pub some_number : (fault : Fault) → refusal.number_of fault ≡ 0 → ⊥
-some_number TableLength e = absurd (omega (arith, e))
-some_number fault e = absurd (omega (arith, e))
+-- ---- what is refused of the given types
+pub given_passed : (number : ℕ) → Accepted ≡ outcome_by number → number ≡ 0
+given_passed number e = by (eqb number 0) refl
+  where
+    by : (b : Bool) → eqb number 0 ≡ b → number ≡ 0
+    by true q = eqb-true number 0 q
+    by false q = let told : Accepted ≡ Refused number 0 0 0 = rw q at e in let z : ◌≡◌ {A = ℕ} 0 1 = cc in absurd (omega arith)
+
+pub given_refused : (number n t m d : ℕ) → Refused n t m d ≡ outcome_by number → (number ≡ 0 → ⊥) × (outcome_by number ≡ Refused number 0 0 0)
+given_refused number n t m d e = by (eqb number 0) refl
+  where
+    by : (b : Bool) → eqb number 0 ≡ b → (number ≡ 0 → ⊥) × (outcome_by number ≡ Refused number 0 0 0)
+    by true q = let told : Refused n t m d ≡ Accepted = rw q at e in let z : ◌≡◌ {A = ℕ} 0 1 = cc in absurd (omega arith)
+    by false q = (eqb-false number 0 q, rw q refl)
 
 -- ---- what the definition says, by the way that the code takes
 module _ (rule : UniformRule) (c : ℕ) (types : List ℕ) (n : ℕ) (members : List ℕ) (m : ℕ) (rows wanted : List ℕ) (span : ℕ) where
@@ -127,3 +137,12 @@ module _ (rule : UniformRule) (c : ℕ) (types : List ℕ) (n : ℕ) (members : 
       ≡ after_check rule c types n members m (arena_words rule c (take (n * 6) types) (take (m * 4) members) rows) wanted span (arena_answer c (take (n * 6) types) (take (m * 4) members) rows)
   unfolding ordered
   ordered_after e = rw e refl
+
+-- ---- the order that was searched for
+pub found_number : (found : Option ℕ) (refusal : Refusal) (number : ℕ) → ok_or found refusal ≡ Ok number → found ≡ Some number
+found_number (Some n) refusal number e = cc
+found_number None refusal number e = let z : ◌≡◌ {A = ℕ} 0 1 = cc in absurd (omega arith)
+
+pub none_number : (found : Option ℕ) (refusal own : Refusal) → ok_or found refusal ≡ Err own → (found ≡ None) × (own ≡ refusal)
+none_number (Some n) refusal own e = let z : ◌≡◌ {A = ℕ} 0 1 = cc in absurd (omega arith)
+none_number None refusal own e = (refl, cc)

@@ -11,5 +11,5 @@ pub data OrderAnswer : Type 0 where
 
 -- what the code's answers say
 abbrev pub order_answer_of : Result OrderedStruct Refusal → OrderAnswer
-order_answer_of (Ok o) = Found o.ty o.span o.order
+order_answer_of (Ok o) = Found o.ty o.span o.order.number
 order_answer_of (Err r) = Refused (number_of r.fault) r.ty r.member r.detail

@@ -2,7 +2,7 @@
 // behind the types and member rows in use.
 #![tactic(auto)]
 
-ghost use Rattle.std.specs.Prelude.{◌≡◌, ℕ, ◌+◌, ◌*◌, ◌≤◌, ◌<◌, length, Some};
+ghost use Rattle.std.specs.Prelude.{◌≡◌, ℕ, ◌+◌, ◌*◌, ◌≤◌, ◌<◌, length, Some, IfOk};
 ghost use Rattle.ir_rows.specs.Rows.{row_word};
 ghost use Rattle.proc_alignment.specs.Alignment.{most};
 ghost use Rattle.order_numbers.specs.Order.{member_at};
@@ -16,19 +16,16 @@ use order_placement::Given;
 use order_types::GivenTypes;
 use valid_type_info::UniformRule;
 
-/// The struct's type number, its span and the order, whose places order_numbers::Order tells.
+/// The struct's type number, its span and its order.
 #[derive(Clone, Copy, Debug, PartialEq, Eq)]
 pub struct OrderedStruct {
     pub ty: u32,
     pub span: u32,
-    pub order: u32,
+    pub order: Order,
 }
 
-const MOST_TYPES: usize = 1024;
-
-const MOST_MEMBERS: usize = 4096;
-
 // Number 1.
+// Kept: `types`, `members`, `rows`: three lengths that the call has as they are, and no tables, as in `ir_records::tables_fit`.
 fn has_room(types: usize, members: usize, rows: usize, n: u32, m: u32, k: usize) -> bool
     ensures { result ≡ room types members rows n m k }
 {
@@ -37,15 +34,15 @@ fn has_room(types: usize, members: usize, rows: usize, n: u32, m: u32, k: usize)
     }
     let type_count = (n as usize) + 1;
     let member_count = (m as usize) + k;
-    (type_count <= MOST_TYPES)
+    (type_count <= ir_records::MOST_TYPES)
         & (type_count * ir_records::TYPE_WORDS <= types)
-        & (member_count <= MOST_MEMBERS)
+        & (member_count <= ir_records::MOST_MEMBERS)
         & (member_count * ir_records::MEMBER_WORDS <= members)
         & (type_count * ir_records::ROW_WORDS <= rows)
 }
 
 // The struct of the order that was found, with its own span.
-// Kept: n says how many records are in use; the table is longer, since a record is written behind them.
+// Kept: tables with their counts, and all parameters of the call, as in `order_check::tried`.
 fn with_order(
     types: &mut [u32],
     n: u32,
@@ -64,6 +61,7 @@ fn with_order(
     requires rows_in_bounds { (m + order.n) * 4 ≤ length members.old }
     requires by_index { (j : ℕ) → j < order.n → offset_of rows.old wanted.now (member_at order.n order.number) j ≤ most }
     requires span_value { span ≡ span_of rows.old wanted.now order.n (member_at order.n order.number) }
+    ensures places { IfOk result (λ o. o.order.n ≡ length wanted.now) }
     ensures value { order_answer_of result ≡ (with_order rule capabilities types.old n members.old m rows.old wanted.now (Some order.number)).answer }
     ensures types_after { types.new ≡ (with_order rule capabilities types.old n members.old m rows.old wanted.now (Some order.number)).types }
     ensures members_after { members.new ≡ (with_order rule capabilities types.old n members.old m rows.old wanted.now (Some order.number)).members }
@@ -81,15 +79,11 @@ fn with_order(
         order,
         span,
     )?;
-    Ok(OrderedStruct {
-        ty: n,
-        span,
-        order: order.number,
-    })
+    Ok(OrderedStruct { ty: n, span, order })
 }
 
 // Over an accepted arena and its rows: 16, then 6, 17 and 20, then 35, then the struct.
-// Kept: n says how many records are in use; the table is longer, since a record is written behind them.
+// Kept: tables with their counts, and all parameters of the call, as in `order_check::tried`.
 fn choose(
     types: &mut [u32],
     n: u32,
@@ -106,49 +100,41 @@ fn choose(
     requires wanted_bound { m + length wanted.now ≤ 4096 }
     requires wanted_in_bounds { (m + length wanted.now) * 4 ≤ length members.old }
     requires by_index { (t : ℕ) → t < n → 1 ≤ row_word rows.old t 1 }
+    ensures places { IfOk result (λ o. o.order.n ≡ length wanted.now) }
     ensures value { order_answer_of result ≡ (chosen rule capabilities types.old n members.old m rows.old wanted.now span).answer }
     ensures types_after { types.new ≡ (chosen rule capabilities types.old n members.old m rows.old wanted.now span).types }
     ensures members_after { members.new ≡ (chosen rule capabilities types.old n members.old m rows.old wanted.now span).members }
     ensures rows_after { rows.new ≡ (chosen rule capabilities types.old n members.old m rows.old wanted.now span).rows }
 {
-    if wanted.len() == 0 {
+    if wanted.is_empty() {
         return Err(Refusal::of(Fault::EmptyStruct));
     }
-    let given = GivenTypes {
-        types,
-        rows,
-        n,
-        wanted,
-    };
-    if let Err(fault) = given.check() {
-        return Err(Refusal::of(fault));
-    }
-    let k = wanted.len() as u32;
-    let last = given.last_of();
     let given = Given { rows, wanted };
-    match order_search::first_order(given, k, last, span) {
-        Some(number) => {
-            let order = Order { number, n: k };
-            let own = given.span_of(order) as u32;
-            with_order(
-                types,
-                n,
-                members,
-                m,
-                capabilities,
-                rule,
-                rows,
-                wanted,
-                order,
-                own,
-            )
-        }
-        None => Err(Refusal::of(Fault::NoOrder)),
-    }
+    let typed = GivenTypes { types, n, given };
+    typed.check()?;
+    let last = typed.last_of();
+    let k = wanted.len() as u32;
+    let number = order_search::first_order(given, k, last, span).ok_or(Refusal::of(
+        Fault::NoOrder,
+    ))?;
+    let order = Order { number, n: k };
+    let own = given.span_of(order) as u32;
+    with_order(
+        types,
+        n,
+        members,
+        m,
+        capabilities,
+        rule,
+        rows,
+        wanted,
+        order,
+        own,
+    )
 }
 
 /// The call: room, the arena check of the records in use, then the order. Nothing is asked of the caller.
-// Kept: tables with their counts, as in `order_check::tried`.
+// Kept: tables with their counts, and parameters one by one, as in `order_check::tried`: this is the call.
 pub fn order(
     types: &mut [u32],
     n: u32,
@@ -160,6 +146,7 @@ pub fn order(
     wanted: &[u32],
     span: u32,
 ) -> Result<OrderedStruct, Refusal>
+    ensures places { IfOk result (λ o. o.order.n ≡ length wanted.now) }
     ensures value { order_answer_of result ≡ (ordered rule capabilities types.old n members.old m rows.old wanted.now span).answer }
     ensures types_after { types.new ≡ (ordered rule capabilities types.old n members.old m rows.old wanted.now span).types }
     ensures members_after { members.new ≡ (ordered rule capabilities types.old n members.old m rows.old wanted.now span).members }
@@ -170,6 +157,6 @@ pub fn order(
     }
     let t = (n as usize) * ir_records::TYPE_WORDS;
     let u = (m as usize) * ir_records::MEMBER_WORDS;
-    order_check::check_first(types, t, members, u, capabilities, rule, rows)?;
+    valid_arena::check(&types[..t], &members[..u], capabilities, rule, rows)?;
     choose(types, n, members, m, capabilities, rule, rows, wanted, span)
 }

@@ -1,7 +1,7 @@
 // The arena with the struct of an order behind it, checked: on a refusal the words of both tables are put back.
 #![tactic(auto)]
 
-ghost use Rattle.std.specs.Prelude.{◌≡◌, ℕ, ◌+◌, ◌*◌, ◌≤◌, ◌<◌, length, take};
+ghost use Rattle.std.specs.Prelude.{◌≡◌, ℕ, ◌+◌, ◌*◌, ◌≤◌, ◌<◌, length};
 ghost use Rattle.ir_records.specs.Refusal.{outcome_of};
 ghost use Rattle.ir_rows.specs.Rows.{with_part};
 ghost use Rattle.proc_alignment.specs.Alignment.{most};
@@ -17,26 +17,13 @@ use order_placement::Given;
 use order_struct::Placed;
 use valid_type_info::UniformRule;
 
-/// The arena check of the first words of both tables.
-// Kept: counts beside the tables, since both go on past what is in use, and each caller would prove its own slices in bounds.
-pub fn check_first(
-    types: &[u32],
-    t: usize,
-    members: &[u32],
-    u: usize,
-    capabilities: u32,
-    rule: UniformRule,
-    rows: &mut [u32],
-) -> Result<(), Refusal>
-    requires t_in_bounds { t ≤ length types.now }
-    requires u_in_bounds { u ≤ length members.now }
-    ensures value { outcome_of result ≡ arena_answer capabilities (take t types.now) (take u members.now) rows.old }
-    ensures rows_after { rows.new ≡ arena_words rule capabilities (take t types.now) (take u members.now) rows.old }
-{
-    valid_arena::check(&types[..t], &members[..u], capabilities, rule, rows)
-}
+// The member records of an order are no more.
+const MOST_WORDS: usize = order_numbers::MOST_MEMBERS * ir_records::MEMBER_WORDS;
 
 /// Writes the struct of an order behind n types and m member rows, and has the arena with it checked; a refusal puts the words back.
+// Kept: counts beside the tables, which go on past what is in use, since the struct is written there. And parameters one by one, here and in
+// `order_call`: types, members and rows are lent with `&mut`, so a struct of them is none that is copied; each call would lend the three anew, and
+// clauses say `arena.old.types` for `types.old`.
 pub fn tried(
     types: &mut [u32],
     n: u32,
@@ -60,32 +47,29 @@ pub fn tried(
 {
     let t = (n as usize) * ir_records::TYPE_WORDS;
     let u = (m as usize) * ir_records::MEMBER_WORDS;
-    let w = (order.n as usize) * ir_records::MEMBER_WORDS;
-    let mut kept: [u32; 6] = [0; 6];
-    let mut kept_rows: [u32; 28] = [0; 28];
-    order_struct::put(&mut kept, 0, &types[t..], ir_records::TYPE_WORDS);
-    order_struct::put(&mut kept_rows, 0, &members[u..], w);
+    let count = (order.n as usize) * ir_records::MEMBER_WORDS;
+    let types_end = t + ir_records::TYPE_WORDS;
+    let members_end = u + count;
+    let mut kept = [0u32; ir_records::TYPE_WORDS];
+    let mut kept_rows = [0u32; MOST_WORDS];
+    kept.copy_from_slice(&types[t..types_end]);
+    kept_rows[..count].copy_from_slice(&members[u..members_end]);
     let placed = Placed {
         given: Given { rows, wanted },
         order,
         m,
     };
     order_struct::put_struct(types, n, members, placed, span);
-    let checked = check_first(
-        types,
-        t + ir_records::TYPE_WORDS,
-        members,
-        u + w,
+    let checked = valid_arena::check(
+        &types[..types_end],
+        &members[..members_end],
         capabilities,
         rule,
         rows,
     );
-    match checked {
-        Ok(()) => checked,
-        Err(_) => {
-            order_struct::put(types, t, &kept, ir_records::TYPE_WORDS);
-            order_struct::put(members, u, &kept_rows, w);
-            checked
-        }
+    if checked.is_err() {
+        types[t..types_end].copy_from_slice(&kept);
+        members[u..members_end].copy_from_slice(&kept_rows[..count]);
     }
+    checked
 }

@@ -1,15 +1,10 @@
 -- The number of an order: each order has one, and the lesser number is the first order by member numbers.
 -- Assumes nothing.
-use mathlib.Core.Path.{◌≡◌, refl, sym, ap, ◌∙◌}
-use mathlib.Core.Bool.{Bool, true, false, ◌&&◌}
+use mathlib.Core.Path.{◌≡◌, sym, ap, ◌∙◌}
 use Prim.Native.Nat.{ℕ, zero, suc, ◌+◌, ◌-◌, ◌*◌, ◌/◌, ◌%◌, ◌^◌, ◌≤◌, ◌<◌}
 use native.Mathlib.Nat.{div-one, div-div-eq-div-mul, pow-suc, pow-succ'}
 use native.Mathlib.Decide.{ℕ_discrete, dec_le}
 use native.Mathlib.Omega.{arith}
-use lib.Dec.{T, eqb, leb, eqb→eq}
-use borrow.Author.Tests.{leb-true}
-use lib.ListN.{get_or}
-use Rattle.proc_alignment.proofs.Finite.{all, holds}
 use Rattle.order_numbers.specs.Order.{Before, member_at}
 
 -- ---- digits: the last, and those before it

@@ -5,7 +5,7 @@ use mathlib.Core.Bool.{Bool, true, false, ◌||◌}
 use Prim.Native.Nat.{ℕ, ◌-◌, ◌≤◌, ◌<◌}
 use native.Mathlib.Decide.{dec_le}
 use native.Mathlib.Omega.{arith}
-use lib.Dec.{leb}
+use lib.Dec.{eqb, leb}
 use borrow.Author.Tests.{leb-false, lt-leb, le-leb, eqb-true, eqb-false, eq-eqb, ne_eqb}
 use Rattle.std.specs.Prelude.{Option, Some, None}
 use Rattle.order_numbers.specs.Search.{first_from, is_found, is_nothing}
@@ -66,12 +66,17 @@ module _ (n : ℕ) (member : ℕ → ℕ) where
   is-order o = rw (none_found (bad_place n member) n 0 (λ j a b. place_good j (o.within j (omega arith)) (λ h l. o.apart h j l (omega arith)))) refl
 
   -- the runtime array
-  pub last_stays : (last : ℕ) → stays_last n last member ≡ true → StaysLast n last member
-  last_stays last e l = eqb-true (member (n - 1)) last (rw (lt-leb n last l) at e)
+  pub last_stays : (last : Option ℕ) → stays_last n last member ≡ true → StaysLast n last member
+  last_stays (Some k) e j q l =
+      let same : k ≡ j = cc in
+      let below : k < n = rw same l in
+      eqb-true (member (n - 1)) k (rw (lt-leb n k below) at e) ∙ same
+  last_stays None e j q l = let z : ◌≡◌ {A = ℕ} 0 1 = cc in absurd (omega arith)
 
-  pub stays-last : (last : ℕ) → StaysLast n last member → stays_last n last member ≡ true
-  stays-last last s = go (dec_le n last)
+  pub stays-last : (last : Option ℕ) → StaysLast n last member → stays_last n last member ≡ true
+  stays-last (Some k) s = go (dec_le n k)
     where
-      go : Dec (n ≤ last) → stays_last n last member ≡ true
-      go (yes h) = rw (le-leb n last h) refl
-      go (no h) = rw (lt-leb n last (omega arith)) (eq-eqb (member (n - 1)) last (s (omega arith)))
+      go : Dec (n ≤ k) → (leb n k || eqb (member (n - 1)) k) ≡ true
+      go (yes h) = rw (le-leb n k h) refl
+      go (no h) = rw (lt-leb n k (omega arith)) (eq-eqb (member (n - 1)) k (s k refl (omega arith)))
+  stays-last None s = refl

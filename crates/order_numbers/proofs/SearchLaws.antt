@@ -1,14 +1,15 @@
 -- Laws of a search: one step of it, what it finds, and numbers that may be left out.
 -- Assumes nothing.
 use mathlib.Core.Path.{◌≡◌, refl, sym, ap, ◌∙◌}
-use mathlib.Core.Bool.{Bool, true, false}
+use mathlib.Core.Bool.{Bool, true, false, ◌||◌}
 use Prim.Native.Nat.{ℕ, zero, suc, ◌+◌, ◌-◌, ◌≤◌, ◌<◌}
 use native.Mathlib.Decide.{ℕ_discrete, dec_le}
 use native.Mathlib.Omega.{arith}
 use native.Mathlib.Numerals.{add-one}
 use Rattle.ir_records.specs.Result.{pick}
-use Rattle.std.specs.Prelude.{Some, None}
-use Rattle.order_numbers.specs.Search.{first_from}
+use Rattle.std.specs.Prelude.{Option, Some, None}
+use Rattle.std.specs.List.{find, list_any, range_with_len}
+use Rattle.order_numbers.specs.Search.{first_from, is_found}
 
 one_more : (n k : ℕ) → k < n → n - k ≡ suc (n - (k + 1))
 one_more n k h = omega arith
@@ -81,3 +82,22 @@ module _ (f : ℕ → Bool) (n : ℕ) where
   first_skip k m h none =
       let z : k + (m - k) ≡ m = omega arith in
       skip_by (m - k) k (λ i a b. none i a (omega arith)) ∙ ap (λ (x : ℕ). first_from f (n - x) x) z
+
+-- ---- the same as searches of the library over a range
+pub range_find : (f : ℕ → Bool) (left k : ℕ) → find f (range_with_len k left) ≡ first_from f left k
+unfolding first_from
+range_find f zero k = refl
+range_find f (suc left) k = by (f k) (ap (λ (i : ℕ). find f (range_with_len i left)) (add-one k) ∙ range_find f left (suc k))
+  where
+    by : (b : Bool) {x y : Option ℕ} → x ≡ y → pick b (Some k) x ≡ pick b (Some k) y
+    by true e = refl
+    by false e = e
+
+pub range_any : (f : ℕ → Bool) (left k : ℕ) → list_any f (range_with_len k left) ≡ is_found (first_from f left k)
+unfolding first_from
+range_any f zero k = refl
+range_any f (suc left) k = by (f k) (first_from f left (suc k)) (ap (λ (i : ℕ). list_any f (range_with_len i left)) (add-one k) ∙ range_any f left (suc k))
+  where
+    by : (b : Bool) {x : Bool} (r : Option ℕ) → x ≡ is_found r → (b || x) ≡ is_found (pick b (Some k) r)
+    by true r e = refl
+    by false r e = e

@@ -1,7 +1,7 @@
 -- 02, E11: orders of up to seven members. An order is told by the member at each place; the code carries it as a number to base 7 whose digits are
 -- the member numbers, the first place's the highest.
 -- Assumes nothing.
-use Rattle.std.specs.Prelude.{◌≡◌, Bool, ◌||◌, List, [], ◌∷◌, ◌⊎◌, ℕ, ◌+◌, ◌-◌, ◌*◌, ◌/◌, ◌%◌, ◌^◌, ◌<◌, eqb, leb}
+use Rattle.std.specs.Prelude.{◌≡◌, Bool, true, ◌||◌, ◌⊎◌, ℕ, ◌+◌, ◌-◌, ◌*◌, ◌/◌, ◌%◌, ◌^◌, ◌<◌, eqb, leb}
 use Rattle.std.specs.Prelude.{Option, Some, None}
 use Rattle.order_numbers.specs.Search.{first_from, is_found, is_nothing}
 
@@ -11,9 +11,9 @@ pub record Order (n : ℕ) (member : ℕ → ℕ) : Type 0 where
   pub within : (j : ℕ) → j < n → member j < n
   pub apart : (h j : ℕ) → h < j → j < n → ¬ (member h ≡ member j)
 
--- a runtime array, member `last`, stays last; `last` is n where there is none
-abbrev pub StaysLast : (n last : ℕ) (member : ℕ → ℕ) → Type 0
-StaysLast n last member = last < n → member (n - 1) ≡ last
+-- the runtime array, member `last` where there is one, stays last
+abbrev pub StaysLast : (n : ℕ) (last : Option ℕ) (member : ℕ → ℕ) → Type 0
+StaysLast n last member = (k : ℕ) → last ≡ Some k → k < n → member (n - 1) ≡ k
 
 -- the first place at which two orders differ, where the first has the lesser member number
 pub record Before (n : ℕ) (a b : ℕ → ℕ) : Type 0 where
@@ -47,8 +47,9 @@ bad_place n member j = is_found (first_from (alike member j) j 0) || leb n (memb
 unfoldable pub is_order : (n : ℕ) (member : ℕ → ℕ) → Bool
 is_order n member = is_nothing (first_from (bad_place n member) n 0)
 
-abbrev pub stays_last : (n last : ℕ) (member : ℕ → ℕ) → Bool
-stays_last n last member = leb n last || eqb (member (n - 1)) last
+abbrev pub stays_last : (n : ℕ) (last : Option ℕ) (member : ℕ → ℕ) → Bool
+stays_last n (Some k) member = leb n k || eqb (member (n - 1)) k
+stays_last n None member = true
 
 -- ---- numbers that need no test
 -- the least number above all that hold the same members up to place j

@@ -26,7 +26,7 @@ pub struct Order {
     pub ghost few: { n ≤ 7 },
 }
 
-// Kept: three methods ask that the order has place j; a struct for a place would be made at each call, and only carry this one test.
+// Kept: `j < self.n`: three methods ask that the order has place j; a struct for a place would be made at each call, and only carry this one test.
 impl Order {
     /// The member at place j.
     #[tactic(auto, unfolding(crate::specs::Order::member_at))]
@@ -44,34 +44,24 @@ impl Order {
         ensures { result ≡ bad_place self.n (member_at self.n self.number) j }
     {
         let m = self.member_at(j);
-        for h in 0..j {
-            let earlier = self.member_at(h);
-            if earlier == m {
-                return true;
-            }
-        }
-        self.n <= m
+        let earlier = (0..j).any(|h| self.member_at(h) == m);
+        earlier | (self.n <= m)
     }
 
     // The first such place; none in an order.
     fn first_bad(self) -> Option<u32>
         ensures { result ≡ first_from (bad_place self.n (member_at self.n self.number)) self.n 0 }
     {
-        for j in 0..self.n {
-            if self.bad_place(j) {
-                return Some(j);
-            }
-        }
-        None
+        (0..self.n).find(|j| self.bad_place(*j))
     }
 
-    /// A runtime array, member `last`, stays last; n for none.
-    pub fn stays_last(self, last: u32) -> bool
+    /// The runtime array, member `last` where there is one, stays last.
+    pub fn stays_last(self, last: Option<u32>) -> bool
         requires { 1 ≤ self.n }
         ensures { result ≡ stays_last self.n last (member_at self.n self.number) }
     {
         let at_end = self.member_at(self.n - 1);
-        (self.n <= last) | (at_end == last)
+        last.is_none_or(|last| (self.n <= last) | (at_end == last))
     }
 
     /// The next number to try from this one on: itself where it is an order, else the least that holds other members up to its first bad place.

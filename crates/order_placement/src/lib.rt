@@ -13,22 +13,25 @@ const SIZE: u32 = ir_rows::SIZE as u32;
 const ALIGNMENT: u32 = ir_rows::ALIGNMENT as u32;
 
 /// The types given for an order, beside the rows of the arena check.
-#[derive(Clone, Copy)]
+#[derive(Clone, Copy, Debug, PartialEq, Eq)]
 pub struct Given<'a> {
     pub rows: &'a [u32],
     pub wanted: &'a [u32],
 }
 
 impl<'a> Given<'a> {
+    /// The given type m; type 0 past them.
+    pub fn type_of(self, m: u32) -> u32
+        ensures { result ≡ get_or self.entry.wanted.now m 0 }
+    {
+        ir_records::word_at(self.wanted, m as usize)
+    }
+
     // A word of the row of the given type m.
     fn word_of(self, m: u32, word: u32) -> u32
         ensures { result ≡ row_word self.entry.rows.now (get_or self.entry.wanted.now m 0) word }
     {
-        ir_rows::row_word(
-            self.rows,
-            ir_records::word_at(self.wanted, m as usize),
-            word,
-        )
+        ir_rows::row_word(self.rows, self.type_of(m), word)
     }
 
     // Where the members of the first places end.

@@ -4,9 +4,10 @@ use mathlib.Core.Path.{◌≡◌, sym, ap, ◌∙◌}
 use mathlib.Core.Bool.{true, false}
 use mathlib.Core.List.{List}
 use mathlib.Core.Logic.{inl, inr}
-use Prim.Native.Nat.{ℕ, ◌^◌, ◌≤◌, ◌<◌}
+use Prim.Native.Nat.{ℕ, ◌-◌, ◌^◌, ◌≤◌, ◌<◌}
 use native.Mathlib.Decide.{ℕ_discrete, dec_le}
 use native.Mathlib.Omega.{arith}
+use Rattle.std.specs.Prelude.{Option}
 use Rattle.order_numbers.specs.Order.{Same, AtOrBefore, member_at}
 use Rattle.order_numbers.proofs.SearchLaws.{first_least, first_none}
 use Rattle.order_numbers.proofs.NumberLaws.{number_of, number_below, number_digit, number_before}
@@ -15,7 +16,7 @@ use Rattle.order_search.specs.Fitting.{number_fits, first_order}
 use Rattle.order_search.specs.FirstOrder.{Fits, FirstOrder}
 use Rattle.order_search.proofs.FittingLaws.{fits_is, is_fits}
 
-module _ (rows wanted : List ℕ) (n last span : ℕ) (seven : n ≤ 7) where
+module _ (rows wanted : List ℕ) (n : ℕ) (last : Option ℕ) (span : ℕ) (seven : n ≤ 7) where
   -- an order by its number
   module _ (member : ℕ → ℕ) (f : Fits rows wanted n last span member) where
     digits : (j : ℕ) → j < n → member j < 7
@@ -33,7 +34,7 @@ module _ (rows wanted : List ℕ) (n last span : ℕ) (seven : n ≤ 7) where
             within = λ j l. rw (same j l) (f.order.within j l);
             apart = λ h j below l e. f.order.apart h j below l (sym (same h (omega arith)) ∙ e ∙ same j l);
           };
-          stays = λ l. same _ (omega arith) ∙ f.stays l;
+          stays = λ k q l. same (n - 1) (omega (arith, l)) ∙ f.stays k q l;
           within = rw (span_same rows wanted (member_at n (number_of member n)) member n same) f.within;
         })
 
@@ -72,7 +73,7 @@ first-order =
           ∙ first_none (number_fits rows wanted n last span) (7 ^ n) 0 e o (omega arith) (omega (arith, number_below member n (λ j l. omega (arith, seven, f.order.within j l)))));
     }
   where
-    least : (rows wanted : List ℕ) (n last span order : ℕ) → n ≤ 7 → (member : ℕ → ℕ) → Fits rows wanted n last span member
+    least : (rows wanted : List ℕ) (n : ℕ) (last : Option ℕ) (span order : ℕ) → n ≤ 7 → (member : ℕ → ℕ) → Fits rows wanted n last span member
         → ((i : ℕ) → 0 ≤ i → i < order → number_fits rows wanted n last span i ≡ false) → order ≤ number_of member n
     least rows wanted n last span order seven member f none = go (dec_le order (number_of member n))
       where

@@ -8,6 +8,7 @@ use native.Mathlib.Decide.{ℕ_discrete}
 use native.Mathlib.Omega.{arith}
 use lib.Dec.{eqb, leb}
 use borrow.Author.Tests.{leb-true, le-leb, eq-eqb, eqb-true}
+use Rattle.std.specs.Prelude.{Option}
 use Rattle.order_numbers.specs.Search.{first_from}
 use Rattle.order_numbers.specs.Order.{member_at, bad_place, is_order, stays_last, next_try}
 use Rattle.order_numbers.proofs.SearchLaws.{first_skip}
@@ -22,7 +23,7 @@ three true true c e = (refl, refl, e)
 three true false c e = let z : ◌≡◌ {A = ℕ} 0 1 = cc in absurd (omega arith)
 three false b c e = let z : ◌≡◌ {A = ℕ} 0 1 = cc in absurd (omega arith)
 
-module _ (rows wanted : List ℕ) (n last span : ℕ) where
+module _ (rows wanted : List ℕ) (n : ℕ) (last : Option ℕ) (span : ℕ) where
   -- ---- the test
   pub fits_is : (member : ℕ → ℕ) → fits rows wanted n last span member ≡ true → Fits rows wanted n last span member
   unfolding fits

@@ -6,8 +6,8 @@ use Rattle.order_numbers.specs.Search.{first_from}
 use Rattle.order_numbers.specs.Order.{member_at, is_order, stays_last}
 use Rattle.order_placement.specs.Placement.{span_of}
 
--- n of the wanted types, of which `last` is the runtime array; n for none
-module _ (rows wanted : List ℕ) (n last span : ℕ) where
+-- n of the wanted types, of which `last` is the runtime array, if one is
+module _ (rows wanted : List ℕ) (n : ℕ) (last : Option ℕ) (span : ℕ) where
   -- an allowed order whose placement has at most the span
   unfoldable pub fits : (member : ℕ → ℕ) → Bool
   fits member = is_order n member && stays_last n last member && leb (span_of rows wanted n member) span

@@ -10,21 +10,15 @@ use order_numbers::Order;
 use order_placement::Given;
 
 // Whether a number is an order that is allowed and has at most the span; `next` is the number itself where it is an order.
-fn order_fits(given: Given, order: Order, last: u32, span: u32, next: u32) -> bool
+fn order_fits(given: Given, order: Order, last: Option<u32>, span: u32, next: u32) -> bool
     requires { 1 ≤ order.n }
     ensures { result ≡ (eqb next order.number && stays_last order.n last (member_at order.n order.number) && leb (span_of given.entry.rows.now given.entry.wanted.now order.n (member_at order.n order.number)) span) }
 {
-    if next != order.number {
-        return false;
-    }
-    if !order.stays_last(last) {
-        return false;
-    }
-    given.span_of(order) <= (span as u64)
+    next == order.number && order.stays_last(last) && given.span_of(order) <= u64::from(span)
 }
 
 /// The first such number of n members.
-pub fn first_order(given: Given, n: u32, last: u32, span: u32) -> Option<u32>
+pub fn first_order(given: Given, n: u32, last: Option<u32>, span: u32) -> Option<u32>
     requires le_n { 1 ≤ n }
     requires n_bound { n ≤ 7 }
     ensures { result ≡ first_order given.entry.rows.now given.entry.wanted.now n last span }

@@ -1,7 +1,7 @@
 -- 02, E11: what is asked of the given types, number by number over all of them: of the arena (6), data (17), no unsized struct and no second
 -- runtime array (20).
 -- Assumes nothing.
-use Rattle.std.specs.Prelude.{Bool, false, not, ◌||◌, List, ℕ, ◌+◌, ◌-◌, eqb, leb, length, get_or, Option, Some, None, unwrap_or}
+use Rattle.std.specs.Prelude.{Bool, false, not, ◌||◌, List, ℕ, ◌+◌, ◌-◌, eqb, leb, length, get_or, Option, Some, None}
 use Rattle.ir_records.specs.Result.{pick}
 use Rattle.ir_records.specs.Record.{struct_kind, type_word}
 use Rattle.ir_rows.specs.Rows.{row_word}
@@ -55,9 +55,6 @@ module _ (types rows : List ℕ) (n : ℕ) (wanted : List ℕ) where
       (pick (is_found (first_of unsized_struct 0) || is_second (first_of runtime_array 0)) 20
       0))
 
-  abbrev pub place_or : ℕ → Option ℕ → ℕ
-  place_or none found = unwrap_or found none
-
-  -- the runtime array; as many as are given for none
-  unfoldable pub last_of : ℕ
-  last_of = place_or (length wanted) (first_of runtime_array 0)
+  -- the runtime array
+  unfoldable pub last_of : Option ℕ
+  last_of = first_of runtime_array 0

@@ -2,12 +2,15 @@
 #![tactic(auto)]
 
 ghost use Rattle.std.specs.Prelude.{◌≡◌, ◌≤◌, length};
-ghost use Rattle.order_types.specs.Given.{sort_of, first_of, is_second, number_of, last_of};
-ghost use Rattle.order_types.specs.Serving.{sort_number, refusal_number};
+ghost use Rattle.ir_records.specs.Refusal.{outcome_of};
+ghost use Rattle.order_types.specs.Given.{sort_of, is_sort, first_of, is_second, number_of, last_of};
+ghost use Rattle.order_types.specs.Serving.{sort_number, outcome_by};
 
-use ir_records::Fault;
+use ir_records::{Fault, Kind, Refusal};
+use order_placement::Given;
 
 // The sorts of types.
+// Kept: `NoData` and `Outside` are sorts that are searched for as the others are, by `==`; as the errors of a Result each search would compare that.
 #[derive(Clone, Copy, Debug, PartialEq, Eq)]
 enum Sort {
     Sized,
@@ -17,89 +20,85 @@ enum Sort {
     Outside,
 }
 
-/// The types given for an order, up to seven, beside an arena of n types and its rows.
-#[derive(Clone, Copy)]
+/// The types given for an order, up to seven, beside an arena of n types.
+#[derive(Clone, Copy, Debug, PartialEq, Eq)]
 pub struct GivenTypes<'a> {
     pub types: &'a [u32],
-    pub rows: &'a [u32],
     pub n: u32,
-    pub wanted: &'a [u32],
-    pub ghost few: { length wanted.now ≤ 7 },
+    pub given: Given<'a>,
+    pub ghost few: { length given.wanted.now ≤ 7 },
 }
 
 impl<'a> GivenTypes<'a> {
     // The sort of a type.
     #[tactic(auto, unfolding(crate::specs::Given::sort_of))]
     fn sort_of(self, ty: u32) -> Sort
-        ensures { sort_number result ≡ sort_of self.entry.types.now self.entry.rows.now self.entry.n ty }
+        ensures { sort_number result ≡ sort_of self.entry.types.now self.entry.given.rows.now self.entry.n ty }
     {
         if self.n <= ty {
             return Sort::Outside;
         }
-        let flags = ir_rows::row_word(self.rows, ty, ir_rows::FLAGS as u32);
+        let flags = ir_rows::row_word(self.given.rows, ty, ir_rows::FLAGS as u32);
         if !valid_flags::is_data(flags) {
             return Sort::NoData;
         }
         if valid_flags::is_sized(flags) {
             return Sort::Sized;
         }
-        let kind = ir_records::type_word(self.types, ty, 0);
-        if kind == ir_records::STRUCT_KIND {
+        if ir_records::is_of_kind(self.types, ty, Kind::Struct) {
             return Sort::UnsizedStruct;
         }
         Sort::RuntimeArray
     }
 
+    // Whether the given type j is of a sort.
+    fn is_sort(self, sort: Sort, j: u32) -> bool
+        ensures { result ≡ is_sort self.entry.types.now self.entry.given.rows.now self.entry.n self.entry.given.wanted.now (sort_number sort) j }
+    {
+        self.sort_of(self.given.type_of(j)) == sort
+    }
+
     // The first of the given types that is of a sort, from one of them on.
     fn first_of(self, sort: Sort, from: u32) -> Option<u32>
-        requires { from ≤ length self.wanted.now }
-        ensures { result ≡ first_of self.entry.types.now self.entry.rows.now self.entry.n self.entry.wanted.now (sort_number sort) from }
+        ensures { result ≡ first_of self.entry.types.now self.entry.given.rows.now self.entry.n self.entry.given.wanted.now (sort_number sort) from }
     {
-        let count = self.wanted.len() as u32;
-        for j in from..count {
-            let own = self.sort_of(ir_records::word_at(self.wanted, j as usize));
-            if own == sort {
-                return Some(j);
-            }
-        }
-        None
+        (from..self.given.wanted.len() as u32).find(|j| self.is_sort(sort, *j))
     }
 
     // Another runtime array after the first.
     fn is_second(self) -> bool
-        ensures { result ≡ is_second self.entry.types.now self.entry.rows.now self.entry.n self.entry.wanted.now (first_of self.entry.types.now self.entry.rows.now self.entry.n self.entry.wanted.now 1 0) }
+        ensures { result ≡ is_second self.entry.types.now self.entry.given.rows.now self.entry.n self.entry.given.wanted.now (first_of self.entry.types.now self.entry.given.rows.now self.entry.n self.entry.given.wanted.now 1 0) }
     {
-        match self.first_of(Sort::RuntimeArray, 0) {
-            Some(j) => self.first_of(Sort::RuntimeArray, j + 1).is_some(),
-            None => false,
-        }
+        let Some(first) = self.first_of(Sort::RuntimeArray, 0) else {
+            return false;
+        };
+        self.first_of(Sort::RuntimeArray, first + 1).is_some()
     }
 
     /// What is refused of the given types, if anything is.
     #[tactic(auto, unfolding(crate::specs::Given::number_of))]
-    pub fn check(self) -> Result<(), Fault>
-        ensures { refusal_number result ≡ number_of self.entry.types.now self.entry.rows.now self.entry.n self.entry.wanted.now }
+    pub fn check(self) -> Result<(), Refusal>
+        ensures { outcome_of result ≡ outcome_by (number_of self.entry.types.now self.entry.given.rows.now self.entry.n self.entry.given.wanted.now) }
     {
         if self.first_of(Sort::Outside, 0).is_some() {
-            return Err(Fault::InvalidStructMemberType);
+            return Err(Refusal::of(Fault::InvalidStructMemberType));
         }
         if self.first_of(Sort::NoData, 0).is_some() {
-            return Err(Fault::InvalidData);
+            return Err(Refusal::of(Fault::InvalidData));
         }
         let unsized_struct = self.first_of(Sort::UnsizedStruct, 0).is_some();
         let second = self.is_second();
         if unsized_struct | second {
-            return Err(Fault::InvalidDynamicArray);
+            return Err(Refusal::of(Fault::InvalidDynamicArray));
         }
         Ok(())
     }
 
-    /// The runtime array; as many as are given for none.
+    /// The runtime array among them.
     #[tactic(auto, unfolding(crate::specs::Given::last_of))]
-    pub fn last_of(self) -> u32
-        ensures { result ≡ last_of self.entry.types.now self.entry.rows.now self.entry.n self.entry.wanted.now }
+    pub fn last_of(self) -> Option<u32>
+        ensures { result ≡ last_of self.entry.types.now self.entry.given.rows.now self.entry.n self.entry.given.wanted.now }
     {
         self.first_of(Sort::RuntimeArray, 0)
-            .unwrap_or(self.wanted.len() as u32)
     }
 }

@@ -1,6 +1,7 @@
 -- Laws of the loop: where it stands after some of the steps.
 -- Assumes nothing.
 use mathlib.Core.Path.{◌≡◌, refl, sym, ◌∙◌}
+use mathlib.Core.Bool.{Bool, true, false}
 use mathlib.Core.List.{List}
 use Prim.Native.Nat.{ℕ, ◌+◌, ◌^◌, ◌≤◌, ◌<◌}
 use native.Mathlib.Numerals.{add-one}
@@ -13,9 +14,16 @@ use Rattle.ir_records.specs.Record.{type_count, type_inner, decoded}
 use Rattle.ir_records.specs.Serving.{InnerBounds}
 use Rattle.place_steps.specs.Step.{To, Column, NoStep}
 use Rattle.place_descent.specs.Place.{At, NoPlace}
-use Rattle.place_descent.specs.Place.{ended, follow, step_in, leaf_in, place_in, place_of}
+use Rattle.std.specs.Bool.{then_some}
+use Rattle.place_descent.specs.declared.Place as code
+use Rattle.place_descent.specs.Place.{found_place, ended, follow, step_in, leaf_in, place_in, place_of}
 use Rattle.place_descent.specs.Serving.{Descends}
 use Rattle.place_descent.proofs.WalkLaws.{place_from}
+
+-- a place where the type is a leaf
+pub leaf_place : (b : Bool) (p : code.Place) → found_place (then_some b p) ≡ pick b (At p.byte p.leaf) NoPlace
+leaf_place true p = refl
+leaf_place false p = refl
 
 -- where the loop stands after i steps: the rest of the steps from here lead where all of them lead from the start
 pub record Looking (ts ms : List ℕ) (start : ℕ) (steps : List ℕ) (i ty byte : ℕ) : Type 0 where

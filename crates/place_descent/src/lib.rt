@@ -44,8 +44,8 @@ pub fn place_of(types: &[u32], members: &[u32], start: u32, steps: &[u32]) -> Op
     }
     let mut ty = start;
     let mut byte: u64 = 0;
-    for i in 0..steps.len() {
-        match step_at(types, members, ty, steps[i])? {
+    for (i, step) in steps.iter().enumerate() {
+        match step_at(types, members, ty, *step)? {
             Step::To { ty: next, bytes } => {
                 ty = next;
                 byte += bytes;
@@ -55,17 +55,12 @@ pub fn place_of(types: &[u32], members: &[u32], start: u32, steps: &[u32]) -> Op
                 if i + 1 < steps.len() {
                     return None;
                 }
-                let column = byte + bytes;
                 return Some(Place {
-                    byte: column,
+                    byte: byte + bytes,
                     leaf: ty,
                 });
             }
         }
     }
-    if is_leaf_at(types, ty) {
-        Some(Place { byte, leaf: ty })
-    } else {
-        None
-    }
+    is_leaf_at(types, ty).then_some(Place { byte, leaf: ty })
 }

@@ -19,6 +19,8 @@ pub fn place_answer(place: Option<Place>) -> Result<Place, Refusal>
 }
 
 /// The byte place and type of the leaf that steps lead to from a type of an arena. The arena is judged first; nothing is asked of the caller.
+// Kept: `types`, `members`, `capabilities`, `rule`, `rows`, `start`, `steps`, `rows.new ≡ arena_words rule capabilities types.now members.now rows.old`: what
+// the arena check takes and says of its rows, as every call does that judges first; the rows are lent with `&mut`.
 pub fn lookup(
     types: &[u32],
     members: &[u32],

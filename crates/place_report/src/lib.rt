@@ -10,7 +10,7 @@ ghost use Rattle.ir_records.specs.Serving.{LeafBounds, InnerBounds};
 ghost use Rattle.ir_rows.specs.Rows.{row_word, with_part, cleared};
 ghost use Rattle.place_carried.specs.Serving.{leaf_carried};
 ghost use Rattle.place_report.specs.Report.{report_width};
-ghost use Rattle.place_report.specs.Serving.{entry_in, entry_words, array_bytes, members_bytes, leaf_bytes_of, leaf_bytes_at, SmallBytes};
+ghost use Rattle.place_report.specs.Serving.{entry_in, entry_words, array_bytes, members_bytes, leaf_bytes_of, leaf_bytes_at};
 ghost use Rattle.place_report.specs.Serving.{RowsOf, narrow_struct, first_pass_words, Carries, counts_of, counts_pair, AllCarry, totals_in, second_pass_words, fill_answer, fill_words};
 ghost use Rattle.place_report.specs.Answer.{report_answer_of};
 ghost use Rattle.place_report.specs.Report.{lengths_fit, report_answer, report_rows, report_words};
@@ -28,7 +28,12 @@ pub struct Totals {
 // Words of the report a type.
 const REPORT_WIDTH: usize = 2;
 
+const SIZE: u32 = ir_rows::SIZE as u32;
+
+const FLAGS: u32 = ir_rows::FLAGS as u32;
+
 // What the first pass left in the report for type k.
+// Kept: a word that says whether the one before it counts: there is no heap, so what the first pass finds stands in the lent report.
 fn entry(report: &[u64], k: u32) -> Option<u64>
     ensures { result ≡ entry_in report.now k }
 {
@@ -61,48 +66,20 @@ fn put_counts(report: &mut [u64], at: usize, counts: Totals)
     report[at..at + REPORT_WIDTH].copy_from_slice(&[counts.carried, counts.wasted]);
 }
 
-// Zeroes the first n words.
-// Kept: one line over the library's `fill`, as `ir_rows::clear` has it for words of 32 bits; a type parameter would be asked for its zero.
-fn clear(report: &mut [u64], n: usize)
-    requires { n ≤ length report.old }
-    ensures { report.new ≡ cleared report.old n }
-{
-    report[..n].fill(0);
-}
-
 // The bytes that leaves carry of data that is neither array nor struct, by what it measures.
+// Kept: `LeafBounds leaf`, `InnerBounds inner`: they hold only of a record that number 2 has passed, as in `place_short_layout`.
 fn leaf_carried(leaf: Leaf, size: u32) -> u32
     requires { LeafBounds leaf }
     ensures { result ≡ leaf_carried leaf size }
 {
     match leaf {
-        Leaf::Scalar(_, _) => size,
-        Leaf::Vector(_, _, _) => size,
-        Leaf::Matrix(columns, rows, _, width) => {
-            let column = rows * width;
-            let all = columns * column;
-            all
-        }
-        Leaf::CooperativeMatrix(_, _, _, _, _) => size,
-        Leaf::Atomic(_, _) => size,
-        Leaf::RayQuery(_) => size,
+        Leaf::Matrix(columns, rows, _, width) => columns * (rows * width),
+        _ => size,
     }
-}
-
-// Those of an array whose element measures `size`, from its base's.
-fn array_bytes(count: u32, stride: u32, size: u32, base: Option<u64>) -> Option<u64>
-    requires { SmallBytes base }
-    ensures { result ≡ array_bytes count stride size base }
-{
-    if stride < size {
-        return None;
-    }
-    let bytes = base?;
-    Some((count as u64) * bytes)
 }
 
 // The rows and the report of the types before one: sizes, and what the first pass left.
-#[derive(Clone, Copy)]
+#[derive(Clone, Copy, Debug, PartialEq, Eq)]
 struct Before<'a> {
     rows: &'a [u32],
     report: &'a [u64],
@@ -110,8 +87,19 @@ struct Before<'a> {
 }
 
 impl<'a> Before<'a> {
+    // The bytes of so many elements; none where the next begins before one ends.
+    fn array_bytes(self, base: u32, count: u32, stride: u32) -> Option<u64>
+        ensures { result ≡ array_bytes count stride (row_word self.entry.rows.now base 0) (entry_in self.entry.report.now base) }
+    {
+        if stride < ir_rows::row_word(self.rows, base, SIZE) {
+            return None;
+        }
+        Some(u64::from(count) * entry(self.report, base)?)
+    }
+
     // The bytes of a struct, from its members'.
-    // Kept: a count beside the rows, which nothing here says are so many: a row that they lack reads as zeros.
+    // Kept: a count beside the rows: `leaf_bytes_of` is given what any record says, and a row that the part lacks reads as zeros; `Members` would ask
+    // of each caller that the part has as many rows as the record says.
     #[tactic(auto, unfolding(crate::specs::Serving::members_bytes))]
     fn members_bytes(self, part: &[u32], count: u32) -> Option<u64>
         ensures { result ≡ members_bytes (entry_in self.entry.report.now) part.now count }
@@ -131,38 +119,26 @@ impl<'a> Before<'a> {
         ensures { result ≡ leaf_bytes_of (λ k. row_word self.entry.rows.now k 0) (entry_in self.entry.report.now) inner part.now size }
     {
         match inner {
-            TypeInner::Plain(leaf) => {
-                let bytes = leaf_carried(leaf, size) as u64;
-                Some(bytes)
-            }
+            TypeInner::Plain(leaf) => Some(u64::from(leaf_carried(leaf, size))),
             TypeInner::Array {
                 base,
                 count,
                 stride,
-            } => array_bytes(
-                count,
-                stride,
-                ir_rows::row_word(self.rows, base, 0),
-                entry(self.report, base),
-            ),
-            TypeInner::RuntimeArray { base, stride } => array_bytes(
-                1,
-                stride,
-                ir_rows::row_word(self.rows, base, 0),
-                entry(self.report, base),
-            ),
+            } => self.array_bytes(base, count, stride),
+            TypeInner::RuntimeArray { base, stride } => self.array_bytes(base, 1, stride),
             TypeInner::Struct { count, span: _ } => self.members_bytes(part, count),
             TypeInner::Other(_) => Some(0),
         }
     }
 
     // Those of type i, which measures `size`, where it is host-shareable; for another 0 is kept.
+    // Kept: `types`, `members`, `i`: the first pass reads one type after the other; a struct of the three would be made anew for each.
     #[tactic(auto, unfolding(crate::specs::Serving::leaf_bytes_at))]
     fn leaf_bytes_at(self, types: &[u32], members: &[u32], i: u32, size: u32) -> Option<u64>
         requires { InnerBounds (type_inner types.now i) }
         ensures { result ≡ leaf_bytes_at types.now members.now self.entry.rows.now self.entry.report.now i size }
     {
-        let flags = ir_rows::row_word(self.rows, i, 2);
+        let flags = ir_rows::row_word(self.rows, i, FLAGS);
         if valid_flags::is_host_shareable(flags) {
             let inner = ir_records::type_inner(types, i);
             let part = ir_records::struct_members(types, members, i);
@@ -173,7 +149,8 @@ impl<'a> Before<'a> {
 }
 
 // The first pass: the bytes that leaves carry of each of the n types, in the report; or number 27, and zeros.
-// Kept: a count beside the report, here and below: the caller may lend more, and what stands behind the words of n types stays.
+// Kept: a count beside the report: it also says how many types there are, whose numbers the loop takes; a slice of n pairs would be handed on with
+// the same n beside it.
 fn leaf_bytes_all(
     types: &[u32],
     members: &[u32],
@@ -189,7 +166,7 @@ fn leaf_bytes_all(
 {
     for i in 0..n {
         let at = (i as usize) * REPORT_WIDTH;
-        let size = ir_rows::row_word(rows, i, 0);
+        let size = ir_rows::row_word(rows, i, SIZE);
         let before = Before {
             rows,
             report: &report[..at],
@@ -199,7 +176,7 @@ fn leaf_bytes_all(
         let narrow = own.is_none();
         if structured & narrow {
             let words = (n as usize) * REPORT_WIDTH;
-            clear(report, words);
+            report[..words].fill(0);
             return Err(TypeRefusal::of(Fault::NarrowStride).at(i));
         }
         put_leaf_bytes(report, at, own);
@@ -213,15 +190,12 @@ fn counts_at(types: &[u32], rows: &[u32], i: u32, bytes: u64) -> Totals
     ensures value { result ≡ counts_of types.now rows.now i bytes }
     ensures wasted_bound { result.carried + result.wasted ≤ 4294967295 }
 {
-    let structured = valid_type_flags::is_struct(types, i);
-    let flags = ir_rows::row_word(rows, i, 2);
-    let shareable = valid_flags::is_host_shareable(flags);
-    if structured & shareable {
-        let size = ir_rows::row_word(rows, i, 0) as u64;
-        let wasted = size - bytes;
+    let shareable = valid_flags::is_host_shareable(ir_rows::row_word(rows, i, FLAGS));
+    if valid_type_flags::is_struct(types, i) & shareable {
+        let size = u64::from(ir_rows::row_word(rows, i, SIZE));
         return Totals {
             carried: bytes,
-            wasted,
+            wasted: size - bytes,
         };
     }
     Totals {
@@ -231,7 +205,7 @@ fn counts_at(types: &[u32], rows: &[u32], i: u32, bytes: u64) -> Totals
 }
 
 // The second pass: the counts of n types in place of what was kept, and their totals.
-// Kept: n is how many types there are, and the report may be longer.
+// Kept: a count beside the report, as in `leaf_bytes_all`.
 fn counts_all(types: &[u32], rows: &[u32], report: &mut [u64], n: u32) -> Totals
     requires n_in_bounds { n * 2 ≤ length report.old }
     requires all_carry { AllCarry types.now rows.now report.old n }
@@ -252,7 +226,7 @@ fn counts_all(types: &[u32], rows: &[u32], report: &mut [u64], n: u32) -> Totals
 }
 
 // The report of accepted types: number 27, or both counts of each and the totals.
-// Kept: n is how many types there are, and the report may be longer.
+// Kept: a count beside the report, as in `leaf_bytes_all`.
 fn fill(
     types: &[u32],
     members: &[u32],
@@ -271,6 +245,7 @@ fn fill(
 }
 
 // Number 1: the lengths and the capability word.
+// Kept: `types`, `members`, `rows`: three lengths that the call has as they are, and no tables, as in `ir_records::tables_fit`.
 fn lengths_fit(capabilities: u32, types: usize, members: usize, rows: usize, report: usize) -> bool
     ensures { result ≡ lengths_fit capabilities types members rows report }
 {
@@ -282,6 +257,7 @@ fn lengths_fit(capabilities: u32, types: usize, members: usize, rows: usize, rep
 
 // The report over an arena: for each host-shareable struct the bytes carried and the bytes wasted in the lent report, two words a type, and the
 // totals. The arena is judged first; nothing is asked of the caller.
+// Kept: `types`, `members`, `capabilities`, `rule`, `rows`: what the arena check takes; rows and report are lent with `&mut`.
 pub fn report(
     types: &[u32],
     members: &[u32],
@@ -303,13 +279,11 @@ pub fn report(
     ) {
         return Err(Refusal::of(Fault::TableLength));
     }
-    let n = (types.len() / ir_records::TYPE_WORDS) as u32;
-    match valid_arena::check(types, members, capabilities, rule, rows) {
-        Ok(()) => fill(types, members, rows, report, n),
-        Err(refusal) => {
-            let words = (n as usize) * REPORT_WIDTH;
-            clear(report, words);
-            Err(refusal)
-        }
+    let n = ir_records::type_count(types) as u32;
+    if let Err(refusal) = valid_arena::check(types, members, capabilities, rule, rows) {
+        let words = (n as usize) * REPORT_WIDTH;
+        report[..words].fill(0);
+        return Err(refusal);
     }
+    fill(types, members, rows, report, n)
 }

@@ -2,14 +2,16 @@
 -- Assumes nothing.
 use Rattle.std.specs.Prelude as std
 use Rattle.std.specs.Result.{is_ok}
+use Rattle.std.specs.Option.{ok_or}
 use Rattle.ir_records.specs.Refusal.{outcome_of}
 use Rattle.ir_records.specs.declared.Refusal.{Refusal}
-use mathlib.Core.Path.{◌≡◌, refl, ap, fun_ext, ◌∙◌}
+use mathlib.Core.Path.{◌≡◌, refl, sym, ap, fun_ext, ◌∙◌}
+use Rattle.std.proofs.lemmas.List.{replicate-append-replicate}
 use mathlib.Core.Bool.{Bool, true, false, ◌&&◌}
-use mathlib.Core.List.{List, ◌++◌}
-use Prim.Native.Nat.{ℕ, ◌+◌, ◌*◌, ◌≤◌, ◌<◌}
+use mathlib.Core.List.{List, [], ◌∷◌, ◌++◌}
+use Prim.Native.Nat.{ℕ, zero, suc, ◌+◌, ◌*◌, ◌≤◌, ◌<◌}
 use native.Mathlib.Omega.{arith}
-use lib.ListN.{length, get_or, take, drop, get_or-append}
+use lib.ListN.{length, get_or, take, drop, replicate, get_or-append}
 use borrow.Author.Tests.{le-leb, lt-leb, eqb-true}
 use Rattle.ir_records.specs.Result.{pick}
 use Rattle.ir_records.specs.Record.{type_count, decoded}
@@ -35,8 +37,9 @@ use Rattle.place_short.proofs.SamePlacesProof.{same_places}
 use Rattle.std.proofs.Common.{Some, None}
 use Rattle.place_runs.specs.Runs.{run_start, run_steps, run_at, run_count, runs_whole}
 use Rattle.place_runs.specs.Serving.{runs_of}
-use Rattle.place_runs.specs.Places.{pair_width, answer_pair, answer_at, queries_fit, places_answer, places_scratch, places_words}
-use Rattle.place_runs.specs.Serving.{is_accepted, place_pair, place_where, pair_at}
+use Rattle.place_runs.specs.Places.{pair_width, none_word, answer_pair, answer_at, queries_fit, places_answer, places_scratch, places_words}
+use Rattle.place_runs.specs.Serving.{place_pair, pair_at}
+use Rattle.ir_records.proofs.RefusalLaws.{IsRefused}
 
 -- ---- the two words of an answer
 pub pair_wide : (p : Place) → length (place_pair p) ≡ pair_width
@@ -48,35 +51,39 @@ pair_answer (At byte leaf) = refl
 pair_answer NoPlace = refl
 
 -- one more answer, written behind those before it
-module _ (accepted : Bool) (ts ms q : List ℕ) (j : ℕ) (answers answers' : List ℕ) (p : Place)
-    (so_far : take (j * pair_width) answers ≡ flat (pair_at accepted ts ms q) j) (after : answers' ≡ with_part pair_width answers (j * pair_width) (place_pair p))
-    (is : p ≡ place_where accepted ts ms (run_start q j) (run_steps q j)) (room : j * pair_width + pair_width ≤ length answers) where
-  written : answers' ≡ with_part pair_width answers (j * pair_width) (pair_at accepted ts ms q j)
+module _ (ts ms q : List ℕ) (j : ℕ) (answers answers' : List ℕ) (p : Place)
+    (so_far : take (j * pair_width) answers ≡ flat (pair_at ts ms q) j) (after : answers' ≡ with_part pair_width answers (j * pair_width) (place_pair p))
+    (is : p ≡ place_of ts ms (run_start q j) (run_steps q j)) (room : j * pair_width + pair_width ≤ length answers) where
+  written : answers' ≡ with_part pair_width answers (j * pair_width) (pair_at ts ms q j)
   written = after ∙ ap (λ (x : Place). with_part pair_width answers (j * pair_width) (place_pair x)) is
 
-  pub pair_written : take ((j + 1) * pair_width) answers' ≡ flat (pair_at accepted ts ms q) (j + 1)
-  pair_written = rw written (flat_more pair_width answers (pair_at accepted ts ms q) j so_far (pair_wide (place_where accepted ts ms (run_start q j) (run_steps q j))) room)
+  pub pair_written : take ((j + 1) * pair_width) answers' ≡ flat (pair_at ts ms q) (j + 1)
+  pair_written = rw written (flat_more pair_width answers (pair_at ts ms q) j so_far (pair_wide (place_of ts ms (run_start q j) (run_steps q j))) room)
 
   pub pair_rest : (m : ℕ) → j < m → drop (m * pair_width) answers' ≡ drop (m * pair_width) answers
   pair_rest m h = rw after (drop_part pair_width answers (place_pair p) (j * pair_width) (pair_wide p) room (m * pair_width) (omega arith))
 
 module _ (c : ℕ) (ts ms scratch q : List ℕ) where
   -- what the code makes of run j is the lookup's answer
-  pub pairs_answers : pair_at (is_accepted (short_answer c ts ms scratch)) ts ms q ≡ answer_at c ts ms scratch q
+  pub pairs_answers : short_answer c ts ms scratch ≡ Accepted → pair_at ts ms q ≡ answer_at c ts ms scratch q
   unfolding short_lookup
-  pairs_answers = fun_ext (λ j. go (short_answer c ts ms scratch) (run_start q j) (run_steps q j))
+  pairs_answers e = fun_ext (λ j. rw e (pair_answer (place_of ts ms (run_start q j) (run_steps q j))))
+
+  -- in a refused arena each is none
+  pub pairs_refused : IsRefused (short_answer c ts ms scratch) → (n : ℕ) → replicate (n * pair_width) none_word ≡ flat (answer_at c ts ms scratch q) n
+  unfolding short_lookup
+  pairs_refused h zero = refl
+  pairs_refused h (suc n) =
+      let more : suc n * pair_width ≡ n * pair_width + 2 = omega arith in
+      ap (λ (k : ℕ). replicate k none_word) more ∙ sym (replicate-append-replicate (n * pair_width) 2 none_word) ∙ rw (pairs_refused h n, none_at (short_answer c ts ms scratch) h (run_start q n) (run_steps q n)) refl
     where
-      go : (o : Outcome) (start : ℕ) (steps : List ℕ) → place_pair (place_where (is_accepted o) ts ms start steps) ≡ answer_pair (start_answer ts ms start steps o)
-      go Accepted start steps = pair_answer (place_of ts ms start steps)
-      go (Refused number ty member detail) start steps = refl
+      none_at : (o : Outcome) → IsRefused o → (start : ℕ) (steps : List ℕ) → answer_pair (start_answer ts ms start steps o) ≡ none_word ∷ none_word ∷ []
+      none_at Accepted k start steps = absurd k
+      none_at (Refused number ty member detail) k start steps = refl
 
   -- an accepted arena descends
-  pub descends_where : is_accepted (short_answer c ts ms scratch) ≡ true → Descends (decoded ts ms) (type_count ts)
-  descends_where e = arena_descends c ts ms (short_accepted c ts ms scratch (go (short_answer c ts ms scratch) e))
-    where
-      go : (o : Outcome) → is_accepted o ≡ true → o ≡ Accepted
-      go Accepted e = refl
-      go (Refused number ty member detail) e = let z : ◌≡◌ {A = ℕ} 0 1 = cc in absurd (omega arith)
+  pub descends_where : short_answer c ts ms scratch ≡ Accepted → Descends (decoded ts ms) (type_count ts)
+  descends_where e = arena_descends c ts ms (short_accepted c ts ms scratch e)
 
 -- ---- the runs that the code finds
 pub whole_runs : (q : List ℕ) (n : ℕ) → Some n ≡ runs_of q → (runs_whole q ≡ true) × (n ≡ run_count q)
@@ -152,6 +159,15 @@ module _ (c : ℕ) (ts ms scratch q answers : List ℕ) where
       ∙ ap (λ (x : PlaceAnswer). get_or (answer_pair x) k 0) (same_places.answer c ts ms scratch rows (run_start q j) (run_steps q j) long enough))
 
 -- what is no error is accepted
-pub is_ok_accepted : {A : Type 0} (r : std.Result A Refusal) → is_ok r ≡ is_accepted (outcome_of r)
-is_ok_accepted (std.Ok a) = refl
-is_ok_accepted (std.Err e) = refl
+pub ok_accepted : {A : Type 0} (r : std.Result A Refusal) → is_ok r ≡ true → outcome_of r ≡ Accepted
+ok_accepted (std.Ok a) e = refl
+ok_accepted (std.Err f) e = cc
+
+pub else_refused : {A : Type 0} (r : std.Result A Refusal) → is_ok r ≡ false → IsRefused (outcome_of r)
+else_refused (std.Ok a) e = cc
+else_refused (std.Err f) e = tt
+
+-- the refusal of what is not there is the one that was given
+pub refusal_own : {A : Type 0} (found : std.Option A) (given own : Refusal) → ok_or found given ≡ std.Err own → own ≡ given
+refusal_own (std.Some a) given own e = let z : ◌≡◌ {A = ℕ} 0 1 = cc in absurd (omega arith)
+refusal_own std.None given own e = cc

@@ -8,9 +8,10 @@ use native.Mathlib.Numerals.{add-one}
 use native.Mathlib.Omega.{arith}
 use lib.ListN.{length}
 use borrow.Author.Tests.{lt-ltb, le-ltb, eq-eqb, ne_eqb}
-use Rattle.std.proofs.Common.{Some, None}
+use Rattle.std.proofs.Common.{Option, Some, None, MatchOption, IsSome, rules}
+use Rattle.place_runs.specs.declared.Run.{Run}
 use Rattle.place_runs.specs.Runs.{run_end, run_at, count_from, run_count, runs_whole}
-use Rattle.place_runs.specs.Serving.{runs_of}
+use Rattle.place_runs.specs.Serving.{IsRun, runs_of}
 
 module _ (q : List ℕ) where
   pub run_next : (n : ℕ) → run_at q (n + 1) ≡ run_end q (run_at q n)
@@ -26,6 +27,14 @@ module _ (q : List ℕ) where
   -- the run that begins at `at`, one of n that end where the words end
   pub run_room : (j n at : ℕ) → at ≡ run_at q j → j < n → run_at q n ≡ length q → run_end q at ≤ length q
   run_room j n at e h end = rw (e, ← end) (run_within j n h)
+
+  -- a run that stands whole is found
+  pub whole_run : (at : ℕ) (found : Option Run) → MatchOption found (length q < run_end q at) (λ r. IsRun q at r) → run_end q at ≤ length q → IsSome found
+  whole_run at (Some r) e h = search rules
+  whole_run at None e h = absurd (omega (arith, e, h))
+
+  pub found_run : (at : ℕ) (found : Option Run) (r : Run) → MatchOption found (length q < run_end q at) (λ r. IsRun q at r) → found ≡ Some r → IsRun q at r
+  found_run at found r e is = rw is at e
 
   count_more : (n : ℕ) → n < length q → run_at q n < length q → count_from q (length q - n) n ≡ count_from q (length q - (n + 1)) (n + 1)
   unfolding count_from

@@ -1,8 +1,9 @@
 -- Serves the contracts of functions inside the library: it adds nothing to what the other files say, and a reader may skip it.
 -- Assumes nothing.
-use Rattle.std.specs.Prelude.{List, [], ◌∷◌, ℕ, Bool, true, false, Option, Some, None}
+use Rattle.std.specs.Prelude.{◌≡◌, ◌≤◌, ◌+◌, List, [], ◌∷◌, ℕ, Bool, true, false, Option, Some, None, length, get_or, take, drop}
 use Rattle.ir_records.specs.Result.{pick}
-use Rattle.place_runs.specs.Runs.{run_count, runs_whole, run_start, run_steps}
+use Rattle.place_runs.specs.Runs.{step_count, run_end, run_count, runs_whole, run_start, run_steps}
+use Rattle.place_runs.specs.declared.Run.{Run}
 use Rattle.ir_records.specs.Outcome.{Outcome}
 use Rattle.ir_records.specs.Outcome as outcome
 use Rattle.place_descent.specs.Place.{Place}
@@ -10,20 +11,20 @@ use Rattle.place_descent.specs.Place.{At, NoPlace}
 use Rattle.place_descent.specs.Place.{place_of}
 use Rattle.place_runs.specs.Places.{none_word}
 
+-- the run that begins at `at`, as the code has it
+pub record IsRun (queries : List ℕ) (at : ℕ) (run : Run) : Type 0 where
+  pub start : run.start ≡ get_or queries at 0
+  pub steps : run.steps.now ≡ take (step_count queries at) (drop (at + 2) queries)
+  pub end : run.end ≡ run_end queries at
+  pub within : run.end ≤ length queries
+
 abbrev pub runs_of : (queries : List ℕ) → Option ℕ
 runs_of queries = pick (runs_whole queries) (Some (run_count queries)) None
-
-abbrev pub is_accepted : Outcome → Bool
-is_accepted outcome.Accepted = true
-is_accepted (outcome.Refused number ty member detail) = false
 
 abbrev pub place_pair : Place → List ℕ
 place_pair (At byte leaf) = byte ∷ leaf ∷ []
 place_pair NoPlace = none_word ∷ none_word ∷ []
 
--- the place where the arena is accepted
-abbrev pub place_where : (accepted : Bool) (ts ms : List ℕ) (start : ℕ) (steps : List ℕ) → Place
-place_where accepted ts ms start steps = pick accepted (place_of ts ms start steps) NoPlace
-
-abbrev pub pair_at : (accepted : Bool) (ts ms queries : List ℕ) → ℕ → List ℕ
-pair_at accepted ts ms queries j = place_pair (place_where accepted ts ms (run_start queries j) (run_steps queries j))
+-- the two words of run j in an accepted arena
+abbrev pub pair_at : (ts ms queries : List ℕ) → ℕ → List ℕ
+pair_at ts ms queries j = place_pair (place_of ts ms (run_start queries j) (run_steps queries j))

@@ -17,7 +17,9 @@ use Rattle.ir_records.proofs.RefusalLaws.{IsRefused}
 use Rattle.valid_arena.specs.Arena.{arena_outcome}
 use Rattle.place_short_layout.specs.ShortRows.{short_width}
 use Rattle.place_short.specs.Short.{scratch_after}
-use Rattle.place_short.specs.Serving.{written_after}
+use Rattle.std.specs.Option.{unwrap_or}
+use Rattle.std.specs.Result.{result_err}
+use Rattle.place_short.specs.Serving.{written_after, refused_outcome}
 use Rattle.place_short.proofs.OutcomeLaws.{arena_records}
 
 -- a refused type is the answer, whatever would have followed
@@ -47,3 +49,8 @@ pub refused_scratch : (first second : Outcome) (c : ℕ) (ts ms : List ℕ) (n :
     → scratch_after (also first second) c ts ms n words ≡ replicate (n * short_width) 0 ++ drop (n * short_width) words
 refused_scratch Accepted second c ts ms n words h = zero_scratch second h c ts ms n words
 refused_scratch (Refused number ty member detail) second c ts ms n words h = refl
+
+-- a refusal that comes first, or the one that was found
+pub earlier : {A : Type 0} (r : std.Result A Refusal) (found : Refusal) → refused_outcome (unwrap_or (result_err r) found) ≡ also (outcome_of r) (refused_outcome found)
+earlier (std.Ok a) found = refl
+earlier (std.Err e) found = refl

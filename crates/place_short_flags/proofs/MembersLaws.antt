@@ -1,18 +1,25 @@
--- Laws of the loop over a struct's members.
+-- Laws of the loop over a struct's members, and of the size of an array.
 -- Assumes nothing.
 use mathlib.Core.Path.{◌≡◌, refl}
-use mathlib.Core.Bool.{true, false}
+use mathlib.Core.Bool.{Bool, true, false}
 use mathlib.Core.List.{List}
 use Prim.Native.Nat.{ℕ, ◌+◌, ◌<◌}
 use native.Mathlib.Decide.{le_ind}
 use native.Mathlib.Numerals.{add-one}
 use native.Mathlib.Omega.{arith}
-use Rattle.ir_records.specs.Result.{Result, err, ok}
+use Rattle.std.specs.Prelude.{Some, None}
+use Rattle.std.specs.Bool.{then_some}
+use Rattle.ir_records.specs.Result.{Result, err, ok, pick}
 use Rattle.ir_records.specs.Record.{member_type, member_offset}
 use Rattle.ir_records.specs.declared.TypeInner.{TypeInner}
 use Rattle.valid_type_info.specs.Verdict.{struct_at, previous_of}
 use Rattle.valid_member_bounds.specs.declared.Bounds.{Bounds}
 use Rattle.valid_member_bounds.specs.MemberBounds.{member_bounds, bounds_after}
+
+-- the size of an array by its record's form
+pub size_told : (b : Bool) (count : ℕ) → then_some b count ≡ pick b (Some count) None
+size_told true count = refl
+size_told false count = refl
 
 -- nothing is asked where the sources are looked at in any case
 pub not_false_too : true ≡ false → ⊥

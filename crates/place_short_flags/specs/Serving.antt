@@ -3,10 +3,12 @@
 use Rattle.std.specs.Prelude as std
 use Rattle.ir_records.specs.Refusal.{number_of}
 use Rattle.ir_records.specs.declared.TypeRefusal.{TypeRefusal}
-use Rattle.std.specs.Prelude.{Bool, false, List, ◌≡◌, ℕ}
-use Rattle.ir_records.specs.Result.{Result, err, ok, pick, require}
+use Rattle.std.specs.Prelude.{false, List, ◌≡◌, ℕ, Option}
+use Rattle.ir_records.specs.Result.{Result, err, ok, require}
 use Rattle.ir_records.specs.Record.{member_count, Sourceless}
-use Rattle.valid_flags.specs.Flags.{is_sized_data, array_flags, runtime_array_flags}
+use Rattle.ir_records.specs.Record.{array_kind}
+use Rattle.valid_flags.specs.Flags.{is_sized_data, array_flags}
+use Rattle.valid_flags.specs.Serving.{flags_over_base}
 use Rattle.place_short_flags.specs.declared.Taken.{Taken}
 use Rattle.valid_member_bounds.specs.declared.Bounds.{Bounds}
 
@@ -21,5 +23,5 @@ SourcesKnown members (std.Ok t) = t.sourced ≡ false → Sourceless members (me
 SourcesKnown members (std.Err r) = Unit {0}
 
 -- the flags of an array over a base with these, or number 15
-abbrev pub array_by : (runtime : Bool) (base : ℕ) → Result ℕ
-array_by runtime base = require (is_sized_data base) 15 0 0 (ok (pick runtime (runtime_array_flags base) (array_flags base)))
+abbrev pub array_by : (size : Option ℕ) (base : ℕ) → Result ℕ
+array_by size base = require (is_sized_data base) 15 0 0 (ok (flags_over_base array_kind size base))

@@ -15,16 +15,23 @@ use proc_type_alignment::TypeLayout;
 
 pub const SHORT_WORDS: usize = 3;
 
+// The three words: the first of a row.
+pub const SIZE: u32 = ir_rows::SIZE as u32;
+
+pub const ALIGNMENT: u32 = ir_rows::ALIGNMENT as u32;
+
+pub const FLAGS: u32 = ir_rows::FLAGS as u32;
+
 /// Word j of the three of type k; 0 past the words.
-// Kept: one line as `ir_rows::row_word` has it for fourteen words. With the width as a const parameter both would ask for a bound of it, so that
-// no product wraps, and the definitions of both rows for one more number.
+// Kept: `short_word` and `ir_rows::row_word` are one line each over `table_word`; what differs is the definition that each names.
 pub fn short_word(words: &[u32], k: u32, j: u32) -> u32
     ensures { result ≡ short_word words.now k j }
 {
-    ir_records::word_at(words, (k as usize) * SHORT_WORDS + (j as usize))
+    ir_records::table_word(words, SHORT_WORDS as u32, k, j)
 }
 
 // Writes the three words of type i.
+// Kept: `i * 3 + 3 ≤ length words.old`: the words are lent with `&mut`, so no struct that is copied holds them beside their length.
 pub fn put_three(words: &mut [u32], i: u32, size: u32, alignment: u32, flags: u32)
     requires { i * 3 + 3 ≤ length words.old }
     ensures { words.new ≡ with_part short_width words.old (i * 3) (three_words size alignment flags) }
@@ -36,6 +43,8 @@ pub fn put_three(words: &mut [u32], i: u32, size: u32, alignment: u32, flags: u3
 }
 
 // Number 7 for a width that is no power of two.
+// Kept: `LeafBounds leaf`, `InnerBounds inner`: a record may say any numbers, and these hold only of one that number 2 has passed; a struct around the
+// enum that says so would be taken apart at each match.
 fn leaf_alignment(leaf: Leaf) -> Result<u32, TypeRefusal>
     requires { LeafBounds leaf }
     ensures { judged result ≡ leaf_alignment leaf }
@@ -57,7 +66,7 @@ fn leaf_alignment(leaf: Leaf) -> Result<u32, TypeRefusal>
 }
 
 /// The three words of each type before type i.
-#[derive(Clone, Copy)]
+#[derive(Clone, Copy, Debug, PartialEq, Eq)]
 pub struct Before<'a> {
     pub words: &'a [u32],
     pub i: u32,
@@ -65,12 +74,12 @@ pub struct Before<'a> {
 
 impl<'a> Before<'a> {
     // Number 5 for an element that is no earlier type.
-    // Kept: as `proc_type_alignment::base_alignment` has it for fourteen words a type; what differs is the width of a row, as at `short_word`.
+    // Kept: a test and a read, as `proc_type_alignment::base_alignment` has them for rows of fourteen words. What both could call is the test alone.
     fn base_alignment(self, base: u32) -> Result<u32, TypeRefusal>
         ensures { judged result ≡ base_alignment (short_layouts self.entry.words.now) self.entry.i base }
     {
         if base < self.i {
-            return Ok(short_word(self.words, base, 1));
+            return Ok(short_word(self.words, base, ALIGNMENT));
         }
         Err(TypeRefusal::of(Fault::InvalidArrayElementType))
     }
@@ -88,7 +97,7 @@ impl<'a> Before<'a> {
             if self.i <= ty {
                 return Err(TypeRefusal::of_member(Fault::InvalidStructMemberType, j));
             }
-            a = a.max(short_word(self.words, ty, 1));
+            a = a.max(short_word(self.words, ty, ALIGNMENT));
         }
         Ok(a)
     }
@@ -117,12 +126,8 @@ impl<'a> Before<'a> {
         requires { InnerBounds inner }
         ensures { judged result ≡ layout_of (short_layouts self.entry.words.now) self.entry.i inner part.now }
     {
-        match proc_type_methods::try_size(inner) {
-            Some(size) => {
-                let alignment = self.alignment_of(inner, part)?;
-                Ok(TypeLayout { size, alignment })
-            }
-            None => Err(TypeRefusal::of(Fault::TooLarge)),
-        }
+        let size = proc_type_methods::try_size(inner).ok_or(TypeRefusal::of(Fault::TooLarge))?;
+        let alignment = self.alignment_of(inner, part)?;
+        Ok(TypeLayout { size, alignment })
     }
 }

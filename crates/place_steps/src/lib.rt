@@ -2,10 +2,10 @@
 #![tactic(auto)]
 
 ghost use Rattle.std.specs.Prelude.{◌≡◌, ◌*◌};
+ghost use Rattle.ir_records.specs.Record.{member_type, member_offset};
 ghost use Rattle.ir_records.specs.Serving.{LeafBounds, InnerBounds};
 ghost use Rattle.place_steps.specs.Step.{To, step_made, step_found};
-ghost use Rattle.proc_type_methods.specs.TypeMethods.{leaf_column_step};
-ghost use Rattle.place_steps.specs.Columns.{is_whole, column_count, column_of};
+ghost use Rattle.place_steps.specs.Columns.{is_whole, column_of};
 ghost use Rattle.place_steps.specs.Steps.{is_leaf, step_of};
 
 use ir_records::{Leaf, TypeInner};
@@ -21,46 +21,7 @@ pub enum Step {
 fn is_whole(leaf: Leaf) -> bool
     ensures { result ≡ is_whole leaf }
 {
-    match leaf {
-        Leaf::Scalar(_, _) => true,
-        Leaf::Vector(_, _, _) => true,
-        Leaf::Matrix(_, _, _, _) => false,
-        Leaf::CooperativeMatrix(_, _, _, _, _) => true,
-        Leaf::Atomic(_, _) => true,
-        Leaf::RayQuery(_) => true,
-    }
-}
-
-fn column_count(leaf: Leaf) -> u32
-    ensures { result ≡ column_count leaf }
-{
-    match leaf {
-        Leaf::Scalar(_, _) => 0,
-        Leaf::Vector(_, _, _) => 0,
-        Leaf::Matrix(columns, _, _, _) => columns,
-        Leaf::CooperativeMatrix(_, _, _, _, _) => 0,
-        Leaf::Atomic(_, _) => 0,
-        Leaf::RayQuery(_) => 0,
-    }
-}
-
-// From a column of a matrix to the next.
-// Kept: the bounds of a leaf are asked here and of two more; a struct around the enum that carries them would be taken apart at each match.
-fn column_step(leaf: Leaf) -> u32
-    requires { LeafBounds leaf }
-    ensures { result ≡ leaf_column_step leaf }
-{
-    match leaf {
-        Leaf::Scalar(_, _) => 0,
-        Leaf::Vector(_, _, _) => 0,
-        Leaf::Matrix(_, rows, _, width) => {
-            let step = proc_alignment::vector_alignment(rows) * width;
-            step
-        }
-        Leaf::CooperativeMatrix(_, _, _, _, _) => 0,
-        Leaf::Atomic(_, _) => 0,
-        Leaf::RayQuery(_) => 0,
-    }
+    !matches!(leaf, Leaf::Matrix(_, _, _, _))
 }
 
 pub fn is_leaf(inner: TypeInner) -> bool
@@ -68,14 +29,7 @@ pub fn is_leaf(inner: TypeInner) -> bool
 {
     match inner {
         TypeInner::Plain(leaf) => is_whole(leaf),
-        TypeInner::Array {
-            base: _,
-            count: _,
-            stride: _,
-        } => false,
-        TypeInner::RuntimeArray { base: _, stride: _ } => false,
-        TypeInner::Struct { count: _, span: _ } => false,
-        TypeInner::Other(_) => false,
+        _ => false,
     }
 }
 
@@ -83,20 +37,31 @@ pub fn is_leaf(inner: TypeInner) -> bool
 fn element(base: u32, stride: u32, step: u32) -> Step
     ensures { step_made result ≡ To base (step * stride) }
 {
-    let bytes = (step as u64) * (stride as u64);
+    let bytes = u64::from(step) * u64::from(stride);
     Step::To { ty: base, bytes }
 }
 
-// Column `step` of a matrix.
+// Column `step` of a matrix; what is none has no columns.
+// Kept: `LeafBounds leaf`, `InnerBounds inner`: they hold only of a record that number 2 has passed, as in `place_short_layout`.
 fn column(leaf: Leaf, step: u32) -> Option<Step>
     requires { LeafBounds leaf }
     ensures { step_found result ≡ column_of leaf step }
 {
-    if step < column_count(leaf) {
-        let bytes = (step as u64) * (column_step(leaf) as u64);
-        Some(Step::Column { bytes })
-    } else {
-        None
+    let Leaf::Matrix(columns, rows, _, width) = leaf else {
+        return None;
+    };
+    let apart = proc_type_methods::column_step(rows, width);
+    let bytes = u64::from(step) * u64::from(apart);
+    (step < columns).then_some(Step::Column { bytes })
+}
+
+// The member at place `step` of a struct whose member rows are in part.
+fn member(part: &[u32], step: u32) -> Step
+    ensures { step_made result ≡ To (member_type part.now step) (member_offset part.now step) }
+{
+    Step::To {
+        ty: ir_records::member_type(part, step),
+        bytes: u64::from(ir_records::member_offset(part, step)),
     }
 }
 
@@ -112,28 +77,9 @@ pub fn step_of(inner: TypeInner, part: &[u32], step: u32) -> Option<Step>
             base,
             count,
             stride,
-        } => {
-            if step < count {
-                Some(element(base, stride, step))
-            } else {
-                None
-            }
-        }
+        } => (step < count).then_some(element(base, stride, step)),
         TypeInner::RuntimeArray { base, stride } => Some(element(base, stride, step)),
-        TypeInner::Struct {
-            count: members,
-            span: _,
-        } => {
-            if step < members {
-                let bytes = ir_records::member_offset(part, step) as u64;
-                Some(Step::To {
-                    ty: ir_records::member_type(part, step),
-                    bytes,
-                })
-            } else {
-                None
-            }
-        }
+        TypeInner::Struct { count, span: _ } => (step < count).then_some(member(part, step)),
         TypeInner::Other(_) => None,
     }
 }

@@ -128,7 +128,3 @@ module _ (ts ms : List ℕ) where
 pub refused_zeros : (o : Outcome) → IsRefused o → (rows : List ℕ) (n : ℕ) (words : List ℕ) → rows_after o rows n words ≡ cleared words (n * row_words)
 refused_zeros Accepted e rows n words = absurd e
 refused_zeros (Refused number ty member detail) e rows n words = refl
-
-pub also_zeros : (first second : Outcome) → IsRefused second → (rows : List ℕ) (n : ℕ) (words : List ℕ) → rows_after (also first second) rows n words ≡ cleared words (n * row_words)
-also_zeros Accepted second e rows n words = refused_zeros second e rows n words
-also_zeros (Refused number ty member detail) second e rows n words = refl

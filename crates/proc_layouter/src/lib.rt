@@ -1,6 +1,9 @@
 // Layouts: Layouter::update of naga's proc/layouter.rs, over lent rows.
-// Kept: `rows`, `n`: n is how many types there are, and the rows may be longer.
+// Kept: `rows`, `n`: the caller may lend rows for more types than there are, and gets the rest back as it was.
 // Kept: `n ≡ type_count types.now`: worked out once a call and handed on; without n each function below would have the same division by six.
+// Kept: `types`, `members`, `rows`, `i`: the tables that a caller lends, and the type whose row is made; as in ir_records.
+// Kept: `i * 6 + 6 ≤ length types.now`, `n * 14 ≤ length rows.old`: that there is a record and a row for each type, which tables_fit tells once a call;
+// the rows are lent with `&mut`, so that no struct that says so can outlive the write of one row.
 // Kept: `i * 14 + 14 ≤ length rows.old`: of rows that each type writes in turn; a part of them made for each type would be one more slice a type.
 #![tactic(auto)]
 
@@ -74,6 +77,6 @@ pub fn layout(types: &[u32], members: &[u32], rows: &mut [u32]) -> Result<(), Re
     if !ir_records::tables_fit(types.len(), members.len(), rows.len()) {
         return Err(Refusal::of(Fault::TableLength));
     }
-    let n = (types.len() / ir_records::TYPE_WORDS) as u32;
+    let n = ir_records::type_count(types) as u32;
     layout_tables(types, members, rows, n)
 }

@@ -1,7 +1,7 @@
 // The alignment of one type, from the rows of the types before it, as in Layouter::update of naga's proc/layouter.rs; numbers 5 to 7.
 #![tactic(auto)]
 
-ghost use Rattle.std.specs.Prelude.{◌≡◌, ◌*◌, ◌≤◌, length};
+ghost use Rattle.std.specs.Prelude.{Err, ◌≡◌, ◌*◌, ◌≤◌, length};
 ghost use Rattle.ir_records.specs.Result.{err, ok, require};
 ghost use Rattle.ir_records.specs.Record.{member_words, member_count, Sourceless};
 ghost use Rattle.ir_records.specs.Fields.{sources_located};
@@ -27,6 +27,7 @@ pub struct Located {
 }
 
 // Number 7 for a width that is no power of two.
+// Kept: `width ≤ 255`: what number 2 has left of one word of a record; as a type it would be made for this product alone.
 pub fn leaf_alignment(factor: u32, width: u32) -> Result<u32, TypeRefusal>
     requires factor_bound { factor ≤ 16 }
     requires width_bound { width ≤ 255 }
@@ -40,25 +41,26 @@ pub fn leaf_alignment(factor: u32, width: u32) -> Result<u32, TypeRefusal>
 }
 
 // Number 5 for an element that is no earlier type.
+// Kept: `rows`, `i`: of any rows, where Earlier would ask that they end before type i.
 pub fn base_alignment(rows: &[u32], i: u32, base: u32) -> Result<u32, TypeRefusal>
     ensures { judged result ≡ base_alignment (layouts_in rows.now) i base }
 {
     if base < i {
-        Ok(ir_rows::row_word(rows, base, 1))
+        Ok(ir_rows::row_word(rows, base, ir_rows::ALIGNMENT as u32))
     } else {
         Err(TypeRefusal::of(Fault::InvalidArrayElementType))
     }
 }
 
 // Number 6 of member j, or number 2 of the rows, which comes first.
-fn late_member(part: &[u32], j: u32) -> Result<Located, TypeRefusal>
-    ensures result_value { located_result result ≡ require (sources_located part.now) 2 0 0 (err 6 j 0) }
-    ensures sources_told { SourcesTold part.now result }
+fn late_member(part: &[u32], j: u32) -> TypeRefusal
+    ensures { located_result (Err result) ≡ require (sources_located part.now) 2 0 0 (err 6 j 0) }
 {
     if ir_records::sources_located(part) {
-        return Err(TypeRefusal::of_member(Fault::InvalidStructMemberType, j));
+        TypeRefusal::of_member(Fault::InvalidStructMemberType, j)
+    } else {
+        TypeRefusal::of(Fault::FieldOutside)
     }
-    Err(TypeRefusal::of(Fault::FieldOutside))
 }
 
 // The alignment, or number 2 of the rows. sources: the words of all blend sources in one.
@@ -93,7 +95,7 @@ pub fn members_alignment(before: Earlier, part: Members) -> Result<Located, Type
     for j in 0..part.count {
         let ty = part.type_of(j);
         if before.i <= ty {
-            return late_member(part.words, j);
+            return Err(late_member(part.words, j));
         }
         a = a.max(before.word(ty, ir_rows::ALIGNMENT));
         sources |= part.source_of(j);

@@ -6,35 +6,50 @@ use mathlib.Core.List.{List}
 use Prim.Native.Nat.{ℕ, ◌+◌, ◌*◌, ◌≤◌}
 use native.Mathlib.Omega.{arith}
 use lib.Dec.{eqb, leb, leb→le}
-use lib.ListN.{length, take, drop, length-drop}
-use lib.Seq.{length-take-le}
+use lib.ListN.{length, take, drop}
 use Rattle.ir_records.specs.Result.{err, pick, require, and_then}
 use Rattle.ir_records.specs.Record.{member_words, member_count, type_count, type_word, struct_kind, struct_members, inner_of}
-use Rattle.ir_records.specs.Serving.{record_words}
+use Rattle.std.specs.Prelude.{Option, Some, None, Ok, Err}
+use Rattle.std.specs.Option.{ok_or}
+use Rattle.ir_records.specs.Serving.{record_words, size_of}
 use Rattle.ir_records.specs.Fields.{fields_ok, sources_located}
 use Rattle.ir_records.specs.Serving.{InnerBounds}
 use Rattle.ir_records.specs.declared.Words.{Words}
 use Rattle.ir_records.specs.declared.TypeInner.TheVariants.{Array, RuntimeArray}
 use Rattle.ir_records.proofs.ResultLaws.{true_T, and_left, refused_twice}
 use Rattle.ir_records.proofs.RecordLaws.{members_no_struct, members-part, no_rows_located, fields_bounds}
-use Rattle.proc_type_methods.specs.TypeMethods.{array_size, runtime_array_size, try_size}
+use Rattle.proc_type_methods.specs.TypeMethods.{try_size}
+use Rattle.proc_type_methods.specs.Serving.{size_by_count}
 use Rattle.proc_type_alignment.specs.declared.TypeLayout.{TypeLayout}
 use Rattle.proc_type_alignment.specs.TypeAlignment.{base_alignment, alignment_of}
 use Rattle.proc_type_layout.specs.TypeLayout.{sized_layout, layout_of}
 use Rattle.proc_type_layout.specs.Serving.{words_layout, record_layout}
 
 -- ---- one type
--- the bounds of the fields behind a test that was taken
-pub taken_bounds : (kind a b c d e : ℕ) (test : Bool) → ((m : ℕ) → test ≡ fields_ok m kind a b c d e) → test ≡ true → InnerBounds (inner_of kind a b c d e)
-taken_bounds kind a b c d e test is taken = fields_bounds 0 kind a b c d e (true_T (sym (is 0) ∙ taken))
+-- the bounds of fields that are in order
+pub taken_bounds : (kind a b c d e : ℕ) → ((m : ℕ) → fields_ok m kind a b c d e ≡ true) → InnerBounds (inner_of kind a b c d e)
+taken_bounds kind a b c d e taken = fields_bounds 0 kind a b c d e (true_T (taken 0))
 
 -- an array, by its form
-pub array_laid : (layouts : ℕ → TypeLayout) (i base count stride : ℕ) (part : List ℕ) (t : Bool)
-    → and_then (pick t (array_size count stride) (runtime_array_size stride)) (sized_layout (base_alignment layouts i base))
-    ≡ layout_of layouts i (pick t (Array base count stride) (RuntimeArray base stride)) part
+pub array_laid : (layouts : ℕ → TypeLayout) (i base form count stride : ℕ) (part : List ℕ)
+    → and_then (size_by_count (size_of form count) stride) (sized_layout (base_alignment layouts i base))
+    ≡ layout_of layouts i (pick (eqb form 0) (Array base count stride) (RuntimeArray base stride)) part
 unfolding layout_of try_size alignment_of
-array_laid layouts i base count stride part true = refl
-array_laid layouts i base count stride part false = refl
+array_laid layouts i base form count stride part = go (eqb form 0)
+  where
+    go : (t : Bool) → and_then (size_by_count (pick t (Some count) None) stride) (sized_layout (base_alignment layouts i base))
+        ≡ layout_of layouts i (pick t (Array base count stride) (RuntimeArray base stride)) part
+    go true = refl
+    go false = refl
+
+-- a size that is there, or is not
+pub some_size : {E : Type 0} (size : Option ℕ) (e : E) (n : ℕ) → ok_or size e ≡ Ok n → size ≡ Some n
+some_size (Some k) e n same = cc
+some_size None e n same = cc
+
+pub no_size : {E : Type 0} (size : Option ℕ) (e f : E) → ok_or size e ≡ Err f → (size ≡ None) × (f ≡ e)
+no_size (Some k) e f same = cc
+no_size None e f same = (refl, cc)
 
 -- ---- one record, by the words that were read of it
 module _ (ts ms : List ℕ) (layouts : ℕ → TypeLayout) (i : ℕ) (w : Words) (read : w ≡ record_words ts i) where

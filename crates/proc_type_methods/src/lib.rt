@@ -4,12 +4,12 @@
 ghost use Rattle.std.specs.Prelude.{◌≡◌, ◌*◌, ◌≤◌};
 ghost use Rattle.ir_records.specs.Serving.{LeafBounds, InnerBounds};
 ghost use Rattle.proc_type_methods.specs.TypeMethods.{column_step, leaf_size, non_data_size, array_size, runtime_array_size, try_size};
-ghost use Rattle.proc_type_methods.specs.Serving.{size_by_form, size_result};
+ghost use Rattle.proc_type_methods.specs.Serving.{size_by_count, size_result};
 
 use ir_records::{Leaf, NonData, TypeInner};
 
 // MAX_TYPE_SIZE of naga's valid/mod.rs.
-const MOST_SIZE: u64 = 2147483647;
+const MOST_SIZE: u32 = 2147483647;
 
 // Kept: `width ≤ 255`: of one word of such a record.
 pub fn vector_size(size: u32, width: u32) -> u32
@@ -17,8 +17,15 @@ pub fn vector_size(size: u32, width: u32) -> u32
     requires width_bound { width ≤ 255 }
     ensures { result ≡ size * width }
 {
-    let vector = size * width;
-    vector
+    size * width
+}
+
+/// From one column of a matrix to the next; its width is at most 255.
+pub fn column_step(rows: u32, width: u32) -> u32
+    requires { width ≤ 255 }
+    ensures { result ≡ column_step rows width }
+{
+    proc_alignment::vector_alignment(rows) * width
 }
 
 // A column step for each.
@@ -27,9 +34,7 @@ pub fn matrix_size(columns: u32, rows: u32, width: u32) -> u32
     requires width_bound { width ≤ 255 }
     ensures { result ≡ column_step rows width * columns }
 {
-    let step = proc_alignment::vector_alignment(rows) * width;
-    let matrix = step * columns;
-    matrix
+    column_step(rows, width) * columns
 }
 
 pub fn cooperative_size(columns: u32, rows: u32, width: u32) -> u32
@@ -38,9 +43,7 @@ pub fn cooperative_size(columns: u32, rows: u32, width: u32) -> u32
     requires width_bound { width ≤ 255 }
     ensures { result ≡ columns * rows * width }
 {
-    let cells = columns * rows;
-    let tile = cells * width;
-    tile
+    columns * rows * width
 }
 
 // Kept: `LeafBounds leaf`, `InnerBounds inner`: a record may say any numbers, and these hold only of one that number 2 has passed.
@@ -76,36 +79,32 @@ fn non_data_size(o: NonData) -> u32
 fn array_size(count: u32, stride: u32) -> Option<u32>
     ensures { size_result result ≡ array_size count stride }
 {
-    let n = count as u64;
-    let total = n * (stride as u64);
-    if MOST_SIZE < n {
+    let most = u64::from(MOST_SIZE);
+    let total = u64::from(count) * u64::from(stride);
+    if (MOST_SIZE < count) | (most < total) {
         return None;
     }
-    if MOST_SIZE < total {
-        return None;
-    }
-    let size = total as u32;
-    Some(size)
+    Some(total as u32)
 }
 
 fn runtime_array_size(stride: u32) -> Option<u32>
     ensures { size_result result ≡ runtime_array_size stride }
 {
-    if stride <= 2147483647 {
+    if stride <= MOST_SIZE {
         Some(stride)
     } else {
         None
     }
 }
 
-// Of an array by its form: 0 for one of a count, else a runtime array.
-pub fn size_by_form(form: u32, count: u32, stride: u32) -> Option<u32>
-    ensures { size_result result ≡ size_by_form form count stride }
+// Of an array of so many elements; none: a runtime array.
+pub fn size_by_count(count: Option<u32>, stride: u32) -> Option<u32>
+    ensures { size_result result ≡ size_by_count count stride }
 {
-    if form == 0 {
-        return array_size(count, stride);
+    match count {
+        Some(count) => array_size(count, stride),
+        None => runtime_array_size(stride),
     }
-    runtime_array_size(stride)
 }
 
 // What a type measures; none is number 4.

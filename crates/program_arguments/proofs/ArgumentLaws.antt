@@ -5,9 +5,17 @@ use mathlib.Core.List.{List, [], ◌∷◌, ◌++◌, append-nil}
 use Prim.Native.Nat.{ℕ, suc, ◌+◌, ◌-◌, ◌≤◌, ◌<◌}
 use native.Mathlib.Numerals.{add-one}
 use native.Mathlib.Omega.{arith}
-use lib.ListN.{length, take, set}
+use lib.ListN.{length, take, drop, set}
 use lib.Seq.{append_snoc, take-suc-set}
-use Rattle.program_arguments.specs.Arguments.{Arguments, read, wrong, before, numbers_of}
+use mathlib.Core.Bool.{true, false}
+use Rattle.std.specs.Prelude.{Result, Ok, Err, Option, None, Some}
+use Rattle.std.specs.Option.{is_some}
+use Rattle.program_words.specs.Words.{words, part, WordAt}
+use Rattle.program_words.specs.declared.Span.{Span}
+use Rattle.program_words.specs.Number.{number_of}
+use Rattle.program_words.specs.declared.NumberError.{NumberError}
+use Rattle.program_arguments.specs.Arguments.{Arguments, read, wrong, before, with_number, numbers_of}
+use Rattle.program_arguments.specs.Serving.{told_at}
 use Rattle.program_arguments.specs.declared.Command.{Command}
 use Rattle.program_arguments.specs.declared.Reason.{Reason}
 use Rattle.program_arguments.specs.declared.Reason.TheVariants.{Usage}
@@ -19,6 +27,24 @@ prepend ns (wrong r) = wrong r
 prepend_one : (ns : List ℕ) (n : ℕ) (a : Arguments) → prepend ns (before n a) ≡ prepend (ns ++ n ∷ []) a
 prepend_one ns n (read ms) = rw (append_snoc ns n ms)
 prepend_one ns n (wrong r) = refl
+
+-- a word of the line, by what is told of it
+ok_is : (x : Result ℕ NumberError) (place n : ℕ) → told_at x place ≡ Ok n → x ≡ Ok n
+ok_is (Ok m) place n e = let same : m ≡ n = cc in rw same refl
+ok_is (Err e') place n e = cc
+
+wrong_is : (x : Result ℕ NumberError) (place : ℕ) (r : Reason) (rest : Arguments) → told_at x place ≡ Err r → with_number x place rest ≡ wrong r
+wrong_is (Ok m) place r rest e = cc
+wrong_is (Err e') place r rest e = cc
+
+module _ (w : List ℕ) (ws : List (List ℕ)) (place : ℕ) (c : Command) (left : ℕ) where
+  pub number_next : (n at : ℕ) → told_at (number_of w) place ≡ Ok n → numbers_of c (suc left) at (w ∷ ws) ≡ before n (numbers_of c left (suc at) ws)
+  unfolding numbers_of
+  number_next n at e = rw (ok_is (number_of w) place n e) refl
+
+  pub number_none : (r : Reason) → told_at (number_of w) place ≡ Err r → numbers_of c (suc left) place (w ∷ ws) ≡ wrong r
+  unfolding numbers_of
+  number_none r e = wrong_is (number_of w) place r (numbers_of c left (suc place) ws) e
 
 one_more : (n k : ℕ) → k < n → n - k ≡ suc (n - (k + 1))
 one_more n k h = omega arith
@@ -36,8 +62,8 @@ module _ (c : Command) (most k : ℕ) (xs : List ℕ) (u : List (List ℕ)) wher
       (one_more most k h, step c (most - (k + 1)) (k + 2), j, prepend_one (take k xs) n (numbers_of c (most - (k + 1)) (k + 1 + 2) w), add-one k, take-suc-set xs k n l)
       refl
 
-  pub numbers_wrong : (r : ℕ → Reason) → k < most → ((d : Command) (m j : ℕ) → numbers_of d (suc m) j u ≡ wrong (r j)) → left ≡ wrong (r (k + 2))
-  numbers_wrong r h step = rw (one_more most k h, step c (most - (k + 1)) (k + 2)) refl
+  pub numbers_wrong : (r : Reason) → k < most → ((d : Command) (m : ℕ) → numbers_of d (suc m) (k + 2) u ≡ wrong r) → left ≡ wrong r
+  numbers_wrong r h step = rw (one_more most k h, step c (most - (k + 1))) refl
 
   pub numbers_end : u ≡ [] → left ≡ read (take k xs)
   unfolding numbers_of
@@ -46,3 +72,13 @@ module _ (c : Command) (most k : ℕ) (xs : List ℕ) (u : List (List ℕ)) wher
   pub numbers_many : (w : List ℕ) (ws : List (List ℕ)) → most ≤ k → u ≡ w ∷ ws → left ≡ wrong (Usage c)
   unfolding numbers_of
   numbers_many w ws h e = let z : most - k ≡ 0 = omega arith in rw (e, z)
+
+-- a word that is looked for from `at` on
+module _ (s : List ℕ) (at : ℕ) where
+  pub some_word : (r : Option Span) → WordAt s at r → is_some r ≡ true → (w : List ℕ) × (ws : List (List ℕ)) × (words (drop at s) ≡ w ∷ ws)
+  some_word None h e = cc
+  some_word (Some word) h e = (part s word.start word.end, words (drop word.end s), h.2)
+
+  pub no_word : (r : Option Span) → WordAt s at r → is_some r ≡ false → words (drop at s) ≡ []
+  no_word None h e = h
+  no_word (Some word) h e = cc

@@ -1,6 +1,8 @@
 -- Serves the contracts of functions inside the library: it adds nothing to what the other files say, and a reader may skip it.
 -- Assumes nothing.
-use Rattle.std.specs.Prelude.{◌≡◌, List, [], ℕ, suc, ◌≤◌, length, take, drop, Option, Some, None, Result, Ok, Err}
+use denote.Ref.{Bor}
+use Rattle.std.specs.Prelude.{◌≡◌, List, [], ℕ, suc, ◌≤◌, length, drop, Option, Some, None, Result, Ok, Err}
+use Rattle.std.specs.Result.{result_map_both}
 use Rattle.program_words.specs.Words.{words}
 use Rattle.program_words.specs.declared.NumberError.{NumberError}
 use Rattle.program_arguments.specs.declared.Command.{Command}
@@ -8,16 +10,16 @@ use Rattle.program_arguments.specs.declared.Reason.{Reason}
 use Rattle.program_arguments.specs.declared.NumberRead.{NumberRead}
 use Rattle.program_arguments.specs.Arguments.{Arguments, read, wrong, before, reason_of, numbers_of}
 
-abbrev pub numbers_in : Result ℕ Reason → List ℕ → Arguments
-numbers_in (Ok k) xs = read (take k xs)
-numbers_in (Err r) xs = wrong r
+-- the number that a word is, with the reason where it is none
+abbrev pub told_at : Result ℕ NumberError → (place : ℕ) → Result ℕ Reason
+told_at r place = result_map_both (λ n. n) (λ e. reason_of e place) r
 
-abbrev pub count_of : Result ℕ Reason → ℕ
-count_of (Ok k) = k
-count_of (Err r) = 0
+abbrev pub numbers_in : Result (Bor (List ℕ)) Reason → Arguments
+numbers_in (Ok ns) = read ns.now
+numbers_in (Err r) = wrong r
 
--- the answer is the next number from `at` on, and the other words follow it
-abbrev pub NumberAt : List ℕ → ℕ → Result (Option NumberRead) NumberError → Type 0
-NumberAt s at (Ok None) = words (drop at s) ≡ []
-NumberAt s at (Ok (Some n)) = (n.end ≤ length s) × ((c : Command) (left k : ℕ) → numbers_of c (suc left) k (words (drop at s)) ≡ before n.value (numbers_of c left (suc k) (words (drop n.end s))))
-NumberAt s at (Err e) = (c : Command) (left k : ℕ) → numbers_of c (suc left) k (words (drop at s)) ≡ wrong (reason_of e k)
+-- the answer is the next number from `at` on, word `place` of the line, and the other words follow it
+abbrev pub NumberAt : List ℕ → (at place : ℕ) → Result (Option NumberRead) Reason → Type 0
+NumberAt s at place (Ok None) = words (drop at s) ≡ []
+NumberAt s at place (Ok (Some n)) = (n.end ≤ length s) × ((c : Command) (left k : ℕ) → numbers_of c (suc left) k (words (drop at s)) ≡ before n.value (numbers_of c left (suc k) (words (drop n.end s))))
+NumberAt s at place (Err r) = (c : Command) (left : ℕ) → numbers_of c (suc left) place (words (drop at s)) ≡ wrong r

@@ -1,10 +1,12 @@
 // The numbers after a command, read one by one.
+// Kept: `at ≤ length s.now`: of a place in the text that is lent whole, as in program_words; a rest of the text would lose which word it is.
 #![tactic(auto)]
 
 ghost use Rattle.std.specs.Prelude.{◌≡◌, ◌≤◌, length, drop};
 ghost use Rattle.program_words.specs.Words.{words};
+ghost use Rattle.program_words.specs.Number.{number_of};
 ghost use Rattle.program_arguments.specs.Arguments.{numbers_of, reason_of, reason_of_stray};
-ghost use Rattle.program_arguments.specs.Serving.{numbers_in, count_of, NumberAt};
+ghost use Rattle.program_arguments.specs.Serving.{told_at, numbers_in, NumberAt};
 
 use program_words::{NumberError, Stray};
 
@@ -30,7 +32,6 @@ pub enum Command {
     Run,
     Clear,
     Order,
-    Unknown,
 }
 
 /// Why a line cannot be read. A word is named by its number in the line, from 1.
@@ -38,7 +39,9 @@ pub enum Command {
 pub enum Reason {
     NotANumber(u32),
     TooLarge(u32),
-    /// The word is no command, or has too few or too many numbers after it.
+    /// The first word is no command.
+    NoCommand,
+    /// The command has too few or too many numbers after it.
     Usage(Command),
     ByteOrderMark,
     Nul,
@@ -74,51 +77,49 @@ fn reason_of(error: NumberError, at: u32) -> Reason
     }
 }
 
-// The next number from `at` on, where there is a word.
-fn next_number(s: &[u8], at: usize) -> Result<Option<NumberRead>, NumberError>
+// The number that a word is, which is that of so many of the line.
+fn number_at(word: &[u8], place: u32) -> Result<u32, Reason>
+    ensures { result ≡ told_at (number_of word.now) place }
+{
+    program_words::number_of(word).map_err(|error| reason_of(error, place))
+}
+
+// The next number from `at` on, where there is a word, which is that of so many of the line.
+fn next_number(s: &[u8], at: usize, place: u32) -> Result<Option<NumberRead>, Reason>
     requires { at ≤ length s.now }
-    ensures { NumberAt s.now at result }
+    ensures { NumberAt s.now at place result }
 {
     let Some(word) = program_words::next_word(s, at) else {
         return Ok(None);
     };
-    let value = program_words::number_of(&s[word.start..word.end])?;
+    let value = number_at(&s[word.start..word.end], place)?;
     Ok(Some(NumberRead {
         value,
         end: word.end,
     }))
 }
 
-/// Reads the numbers from `at` on, at most `most`, into the lent words, and tells how many there are.
-pub fn read_numbers(
+/// Reads the numbers from `at` on into the lent words, as many as there is room for at most, and gives them.
+pub fn read_numbers<'a>(
     s: &[u8],
     at: usize,
     command: Command,
-    most: u32,
-    numbers: &mut [u32],
-) -> Result<u32, Reason>
+    numbers: &'a mut [u32],
+) -> Result<&'a [u32], Reason>
     requires at_in_bounds { at ≤ length s.now }
-    requires most_in_bounds { (most ≤ length numbers.old) × (most ≤ 1025) }
-    ensures numbers_after { numbers_in result numbers.new ≡ numbers_of command most 2 (words (drop at s.now)) }
-    ensures result_bound { count_of result ≤ most }
+    requires few { length numbers.old ≤ 1025 }
+    ensures value { numbers_in result ≡ numbers_of command (length numbers.old) 2 (words (drop at s.now)) }
 {
     let mut from = at;
-    for k in 0..most {
-        match next_number(s, from) {
-            Ok(None) => {
-                return Ok(k);
-            }
-            Ok(Some(number)) => {
-                numbers[k as usize] = number.value;
-                from = number.end;
-            }
-            Err(error) => {
-                return Err(reason_of(error, k + 2));
-            }
-        }
+    for k in 0..numbers.len() {
+        let Some(number) = next_number(s, from, k as u32 + 2)? else {
+            return Ok(&numbers[..k]);
+        };
+        numbers[k] = number.value;
+        from = number.end;
     }
-    match program_words::next_word(s, from) {
-        None => Ok(most),
-        Some(_) => Err(Reason::Usage(command)),
+    if program_words::next_word(s, from).is_some() {
+        return Err(Reason::Usage(command));
     }
+    Ok(numbers)
 }

@@ -71,8 +71,8 @@ pub fn put_argument(name: &[u8], out: &mut Output)
 fn answer<R: Env>(rt: &R, i: usize) {
     let mut name = io::buffer();
     let mut out = Output::new();
-    let length = program_files::argument(rt, i, &mut name);
-    put_argument(&name[..length], &mut out);
+    let name = program_files::argument(rt, i, &mut name).unwrap_or(&[]);
+    put_argument(name, &mut out);
     out.write_out();
 }
 

@@ -1,13 +1,15 @@
 -- The state of a session, and what a line makes of it and of the arena.
 -- Assumes nothing.
-use Rattle.std.specs.Prelude.{Bool, true, false, List, [], ◌∷◌, ℕ, ◌+◌, ◌-◌, ◌*◌, ◌/◌, ltb, length, take, drop}
+use Rattle.std.specs.Prelude.{Bool, true, false, List, [], ◌∷◌, ℕ, ◌+◌, ◌-◌, ◌*◌, ◌/◌, ltb, length, take, drop, Option, Some, None, Ok}
 use Rattle.std.proofs.lemmas.List.Edits.{sets}
 use Rattle.ir_records.specs.Result.{pick}
+use Rattle.valid_type_info.specs.declared.UniformRule.TheVariants.{Older}
+use Rattle.valid_rule_word.specs.RuleWord.{named}
 use Rattle.immediates_pass.specs.Pass.{begin}
 use Rattle.immediates_pass.specs.declared.Pass.{Pass}
 use Rattle.program_input.specs.declared.ReadError.TheVariants as error
-use Rattle.program_lines.specs.declared.Line.{Line}
-use Rattle.program_lines.specs.declared.Line.TheVariants as line
+use Rattle.program_lines.specs.declared.Change.{Change}
+use Rattle.program_lines.specs.declared.Change.TheVariants as change
 use Rattle.program_output.specs.declared.Stop.{Stop}
 use Rattle.program_output.specs.declared.Stop.TheVariants as stop
 use Rattle.program_commands.specs.declared.State.TheVariants as state
@@ -15,7 +17,7 @@ use Rattle.program_commands.specs.declared.Session.{Session}
 
 -- nothing is set, the arena is empty, line 1
 abbrev pub started : Session
-started = record { capabilities = 0; rule = 0; types = 0; members = 6144; pass = begin; line = 1; held = 0; state = state.Reading }
+started = record { capabilities = 0; rule = Ok Older; types = 0; members = 6144; pass = begin; line = 1; held = 0; state = state.Reading }
 
 -- the words from start up to end; none where they are not all there
 unfoldable pub part_of : List ℕ → (start end : ℕ) → List ℕ
@@ -33,7 +35,7 @@ abbrev pub with_capabilities : ℕ → Session → Session
 with_capabilities n s = record s { capabilities = n }
 
 abbrev pub with_rule : ℕ → Session → Session
-with_rule n s = record s { rule = n }
+with_rule n s = record s { rule = named n }
 
 abbrev pub with_tables : (types members : ℕ) → Session → Session
 with_tables types members s = record s { types = types; members = members }
@@ -44,74 +46,47 @@ with_pass p s = record s { pass = p }
 abbrev pub stopped : Stop → Session → Session
 stopped why s = record s { state = state.Stopped why }
 
--- empty, with capability word 0 and rule 0; the pass stays
+-- empty, with capability word 0 and the older rule; the pass stays
 abbrev pub cleared : Session → Session
-cleared s = record s { capabilities = 0; rule = 0; types = 0; members = 6144 }
+cleared s = record s { capabilities = 0; rule = Ok Older; types = 0; members = 6144 }
 
--- ---- a record more: six words of a type below word 6144, four of a member below word 22528, or the session stops
-unfoldable pub type_added : Session → Session
-type_added s = pick (ltb 6138 s.types) (stopped stop.TypesFull s) (with_tables (s.types + 6) s.members s)
+-- ---- a record more behind those of a table that ends at `limit` at the latest
+unfoldable pub end_after : (limit more end : ℕ) → Option ℕ
+end_after limit more end = pick (ltb (limit - more) end) None (Some (end + more))
 
-unfoldable pub with_type : List ℕ → Session → List ℕ → List ℕ
-with_type words s arena = pick (ltb 6138 s.types) arena (sets arena s.types words)
+unfoldable pub appended : (limit : ℕ) → List ℕ → (end : ℕ) → List ℕ → List ℕ
+appended limit words end arena = pick (ltb (limit - length words) end) arena (sets arena end words)
 
-unfoldable pub member_added : Session → Session
-member_added s = pick (ltb 22524 s.members) (stopped stop.MembersFull s) (with_tables s.types (s.members + 4) s)
+-- six words of a type below word 6144, four of a member below word 22528, or the session stops
+abbrev pub with_types : Option ℕ → Session → Session
+with_types None s = stopped stop.TypesFull s
+with_types (Some end) s = with_tables end s.members s
 
-unfoldable pub with_member : List ℕ → Session → List ℕ → List ℕ
-with_member words s arena = pick (ltb 22524 s.members) arena (sets arena s.members words)
+abbrev pub with_members : Option ℕ → Session → Session
+with_members None s = stopped stop.MembersFull s
+with_members (Some end) s = with_tables s.types end s
 
 -- one type and `more` member rows after n types and m rows
 abbrev pub held_after : (n m more : ℕ) → Session → Session
 held_after n m more s = with_tables ((n + 1) * 6) (pick (ltb more 8) (6144 + (m + more) * 4) s.members) s
 
--- ---- what a line makes of the session; one that asks for an answer leaves it
-abbrev pub changed : Line → Session → Session
-changed line.Nothing s = s
-changed (line.Capabilities n) s = with_capabilities n s
-changed (line.Rule n) s = with_rule n s
-changed (line.TypeRecord kind a b c d e) s = type_added s
-changed (line.MemberRecord ty offset location source) s = member_added s
-changed line.Layout s = s
-changed line.Judge s = s
-changed line.Check s = s
-changed (line.Members ty) s = s
-changed (line.Slots ty offset) s = s
-changed (line.Range offset size) s = s
-changed (line.Place start steps) s = s
-changed (line.Short start steps) s = s
-changed line.Report s = s
-changed (line.Plain shape width) s = s
-changed line.Pass s = with_pass begin s
-changed (line.SetRange offset size) s = s
-changed (line.Choose ty) s = s
-changed line.Run s = s
-changed line.Clear s = cleared s
-changed (line.Order span given) s = s
+-- ---- what a line makes of the session
+abbrev pub changed : Change → Session → Session
+changed (change.Capabilities n) s = with_capabilities n s
+changed (change.Rule n) s = with_rule n s
+changed (change.TypeRecord w) s = with_types (end_after 6144 6 s.types) s
+changed (change.MemberRecord m) s = with_members (end_after 22528 4 s.members) s
+changed change.Pass s = with_pass begin s
+changed change.Clear s = cleared s
 
 -- and of the arena
-abbrev pub arena_after : Line → Session → List ℕ → List ℕ
-arena_after line.Nothing s arena = arena
-arena_after (line.Capabilities n) s arena = arena
-arena_after (line.Rule n) s arena = arena
-arena_after (line.TypeRecord kind a b c d e) s arena = with_type (kind ∷ a ∷ b ∷ c ∷ d ∷ e ∷ []) s arena
-arena_after (line.MemberRecord ty offset location source) s arena = with_member (ty ∷ offset ∷ location ∷ source ∷ []) s arena
-arena_after line.Layout s arena = arena
-arena_after line.Judge s arena = arena
-arena_after line.Check s arena = arena
-arena_after (line.Members ty) s arena = arena
-arena_after (line.Slots ty offset) s arena = arena
-arena_after (line.Range offset size) s arena = arena
-arena_after (line.Place start steps) s arena = arena
-arena_after (line.Short start steps) s arena = arena
-arena_after line.Report s arena = arena
-arena_after (line.Plain shape width) s arena = arena
-arena_after line.Pass s arena = arena
-arena_after (line.SetRange offset size) s arena = arena
-arena_after (line.Choose ty) s arena = arena
-arena_after line.Run s arena = arena
-arena_after line.Clear s arena = arena
-arena_after (line.Order span given) s arena = arena
+abbrev pub arena_after : Change → Session → List ℕ → List ℕ
+arena_after (change.Capabilities n) s arena = arena
+arena_after (change.Rule n) s arena = arena
+arena_after (change.TypeRecord w) s arena = appended 6144 (w.kind ∷ w.a ∷ w.b ∷ w.c ∷ w.d ∷ w.e ∷ []) s.types arena
+arena_after (change.MemberRecord m) s arena = appended 22528 (m.ty ∷ m.offset ∷ m.location ∷ m.source ∷ []) s.members arena
+arena_after change.Pass s arena = arena
+arena_after change.Clear s arena = arena
 
 -- ---- after a write of the answers that wait: where it failed the session stops
 abbrev pub after_write : Bool → Session → Session

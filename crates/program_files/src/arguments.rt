@@ -1,15 +1,15 @@
 // The arguments that a program was started with; argument 0 is its own name.
-ghost use Rattle.std.specs.Prelude.{◌≡◌, ◌≤◌, length, take};
-ghost use Rattle.io.specs.Counts.{IsPrefixLen};
+ghost use Rattle.std.specs.Prelude.{◌≤◌, length, IfSome};
 
 use std::env::FillError;
 use std::rt::Env;
 
-// Puts argument i at the start of the word and returns its length, or 0 where it is missing or longer than the word.
-pub fn argument<R: Env>(rt: &R, i: usize, word: &mut [u8]) -> usize
-    ensures { IsPrefixLen result word.new }
+/// Argument i, which is put at the start of the word; none where it is missing or longer than the word.
+pub fn argument<'a, R: Env>(rt: &R, i: usize, word: &'a mut [u8]) -> Option<&'a [u8]>
+    ensures { IfSome result (λ argument. length argument.now ≤ length word.old) }
 {
-    rt.arg(i, word).unwrap_or(0)
+    let length = rt.arg(i, word).ok()?;
+    Some(&word[..length])
 }
 
 fn is_there<R: Env>(rt: &R, i: usize) -> bool {
@@ -17,12 +17,9 @@ fn is_there<R: Env>(rt: &R, i: usize) -> bool {
     !matches!(rt.arg(i, &mut word), Err(FillError::NotPresent))
 }
 
-// How many arguments there are.
+/// How many arguments there are.
 pub fn argument_count<R: Env>(rt: &R) -> usize {
-    for i in 0..usize::MAX {
-        if !is_there(rt, i) {
-            return i;
-        }
-    }
-    usize::MAX
+    (0..usize::MAX)
+        .find(|i| !is_there(rt, *i))
+        .unwrap_or(usize::MAX)
 }

@@ -4,22 +4,16 @@
 
 mod arguments;
 
-ghost use Rattle.std.specs.Prelude.{◌≡◌, ◌≤◌, length};
-ghost use Rattle.program_files.specs.Serving.{HeldWithin};
+ghost use Rattle.std.specs.Prelude.{◌≡◌, ℕ, ◌≤◌, ◌<◌, length, get_or};
+ghost use Rattle.program_files.specs.Serving.{HeldWithin, message_of};
 
 pub use arguments::{argument, argument_count};
+pub use program_input::ReadError;
 use std::io::Read;
 use std::rt::{Env, Files};
 
+// Kept: as program_output's.
 const STDERR: i32 = 2;
-
-/// Why an input is not held.
-#[derive(Clone, Copy, Debug, PartialEq, Eq)]
-pub enum ReadError {
-    /// There are more bytes than there is room for.
-    Long,
-    Failed,
-}
 
 // What a program reads.
 #[derive(Drop)]
@@ -50,8 +44,7 @@ pub fn open<R: Files>(rt: &R, name: &[u8]) -> Option<R::File> {
 // The file that argument i names, where it can be opened.
 pub fn named<R: Env + Files>(rt: &R, i: usize) -> Option<R::File> {
     let mut name = io::buffer();
-    let length = argument(rt, i, &mut name);
-    let file = open(rt, &name[..length]);
+    let file = argument(rt, i, &mut name).and_then(|name| open(rt, name));
     if file.is_none() {
         tell(b"the file cannot be opened\n");
     }
@@ -71,20 +64,6 @@ pub fn opened<R: Env + Files + Input>(rt: &R) -> Option<Source<R::Reader, R::Fil
     Some(Source::Named(named(rt, 1)?))
 }
 
-// One read, after the bytes that are held, and how many are held then.
-fn read_more<S: Read>(source: &mut S, bytes: &mut [u8], held: usize) -> Result<usize, ReadError>
-    requires { held ≤ length bytes.old }
-    ensures { HeldWithin held (length bytes.old) result }
-{
-    if bytes.len() <= held {
-        return Err(ReadError::Long);
-    }
-    match source.read(&mut bytes[held..]) {
-        Ok(more) => Ok(held + more),
-        Err(_) => Err(ReadError::Failed),
-    }
-}
-
 /// Reads all bytes of the input, and tells how many there are. They must be fewer than there is room for, since a full buffer does not tell whether there are more.
 pub fn read_all<S: Read>(source: &mut S, bytes: &mut [u8]) -> Result<usize, ReadError>
     ensures { HeldWithin 0 (length bytes.old) result }
@@ -92,10 +71,51 @@ pub fn read_all<S: Read>(source: &mut S, bytes: &mut [u8]) -> Result<usize, Read
     let mut held: usize = 0;
     // Kept: a read gives as many bytes as it has, and the loop ends with the input, so no range counts it.
     loop {
-        let now = read_more(source, bytes, held)?;
-        if now <= held {
+        let more = program_input::read_after(source, bytes, held)?;
+        if more == 0 {
             return Ok(held);
         }
-        held = now;
+        held += more;
+    }
+}
+
+// One byte more than a text may have, so that a full buffer tells that there are more.
+const TEXT_BYTES: usize = 1048577;
+
+/// An array of one item so many times. A caller's proof knows its length, and does not write the items out.
+pub fn filled<T: Copy, const N: usize>(item: T) -> [T; N]
+    ensures length { N ≡ length result }
+    ensures items { (k : ℕ) (d : T) → k < N → get_or result k d ≡ item }
+{
+    [item; N]
+}
+
+/// What is said of an input that cannot be answered.
+#[derive(Clone, Copy, Debug, PartialEq, Eq)]
+pub struct Messages {
+    pub long: &'static [u8],
+    pub failed: &'static [u8],
+}
+
+impl Messages {
+    /// What is said of this error.
+    pub fn of(self, error: ReadError) -> &'static [u8]
+        ensures { result.now ≡ message_of self error }
+    {
+        match error {
+            ReadError::Long => self.long,
+            ReadError::Failed => self.failed,
+        }
+    }
+}
+
+/// Answers the text that the input holds, of at most 1,048,576 bytes, or tells why there is none.
+pub fn answer_text<S: Read, F: FnOnce(&[u8])>(source: &mut S, messages: Messages, answer: F)
+    requires { F.IsAlwaysCallable answer }
+{
+    let mut bytes = filled::<u8, TEXT_BYTES>(0);
+    match read_all(source, &mut bytes) {
+        Ok(held) => answer(&bytes[..held]),
+        Err(error) => tell(messages.of(error)),
     }
 }

@@ -5,7 +5,14 @@ use Rattle.program_input.specs.declared.Input.{Input}
 use Rattle.program_input.specs.declared.ReadError.{ReadError}
 use Rattle.program_input.specs.declared.ReadError.TheVariants as error
 
--- One read after the bytes that are held; `end` bytes are to be answered. `read` is 0 where there may be more, 1 at the end of the input, 2 where
+-- One read after the bytes that are held, by how many bytes came. Which bytes are read is the operating system's.
+abbrev pub ReadAfter : (was : List ℕ) (held : ℕ) (is : List ℕ) → Result ℕ ReadError → Type 0
+ReadAfter was held is (Ok more) = (held < length was) × (held + more ≤ length was) × (length is ≡ length was) × (take held is ≡ take held was)
+-- a full buffer is told, and nothing else is told of it
+ReadAfter was held is (Err error.Long) = (length was ≤ held) × (is ≡ was)
+ReadAfter was held is (Err error.Failed) = (held < length was) × (length is ≡ length was) × (take held is ≡ take held was)
+
+-- The same with the end of the input; `end` bytes are to be answered. `read` is 0 where there may be more, 1 at the end of the input, 2 where
 -- the buffer is full with no end of a line, 3 where the read failed. Which bytes are read is the operating system's.
 pub record ReadMore (was : List ℕ) (held : ℕ) (is : List ℕ) (end read : ℕ) : Type 0 where
   pub within : end ≤ length was
@@ -30,7 +37,7 @@ ended_or_more true = 1
 ended_or_more false = 0
 
 abbrev pub error_of : ReadError → ℕ
-error_of error.Full = 2
+error_of error.Long = 2
 error_of error.Failed = 3
 
 abbrev pub read_of : Result Input ReadError → ℕ

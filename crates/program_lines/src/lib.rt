@@ -1,79 +1,67 @@
 // Reads a line of the program `inspect`: the command and the numbers after it.
+// Kept: `at ≤ length s.now`: as in program_arguments.
+// Kept: `1025 ≤ length numbers.old`: the buffer is the session's, and lent as it is: a reference to an array of so many would ask more of a caller.
 #![tactic(auto)]
 
 ghost use Rattle.std.specs.Prelude.{◌≡◌, ◌≤◌, length, drop};
 ghost use Rattle.program_words.specs.Words.{text_of, words};
-ghost use Rattle.program_lines.specs.Line.{last_command_of, answer_command_of, later_command_of, command_of, least_of, most_of, arguments_of, list_of, Holds, line_by, line_with, line_of, numbers_read, line_in, line_numbers};
+ghost use Rattle.program_lines.specs.Line.{last_command_of, answer_command_of, later_command_of, command_of, least_of, most_of, arguments_of, line_by, line_with, line_of, line_in};
+ghost use Rattle.program_lines.specs.Said.{words_in, member_in, said, said_of, said_in};
 
+use ir_member_words::Member;
+use ir_records::Words;
 use program_arguments::{Command, Reason};
 
-/// What a line says. What asks for nothing is `Nothing`.
+/// What changes the session or its arena, and asks for no answer.
 #[derive(Clone, Copy, Debug, PartialEq, Eq)]
-pub enum Line {
-    Nothing,
+pub enum Change {
     Capabilities(u32),
     Rule(u32),
-    TypeRecord {
-        kind: u32,
-        a: u32,
-        b: u32,
-        c: u32,
-        d: u32,
-        e: u32,
-    },
-    MemberRecord {
-        ty: u32,
-        offset: u32,
-        location: u32,
-        source: u32,
-    },
+    TypeRecord(Words),
+    MemberRecord(Member),
+    Pass,
+    Clear,
+}
+
+/// A step of the pass.
+#[derive(Clone, Copy, Debug, PartialEq, Eq)]
+pub enum Step {
+    SetRange { offset: u32, size: u32 },
+    Choose(u32),
+    Run,
+}
+
+/// What asks for an answer, and changes nothing.
+#[derive(Clone, Copy, Debug, PartialEq, Eq)]
+pub enum Query<'a> {
     Layout,
     Judge,
     Check,
     Members(u32),
-    Slots {
-        ty: u32,
-        offset: u32,
-    },
-    Range {
-        offset: u32,
-        size: u32,
-    },
-    // The steps stand after the start among the numbers read.
-    Place {
-        start: u32,
-        steps: u32,
-    },
-    Short {
-        start: u32,
-        steps: u32,
-    },
+    Slots { ty: u32, offset: u32 },
+    Range { offset: u32, size: u32 },
+    Place { start: u32, steps: &'a [u32] },
+    Short { start: u32, steps: &'a [u32] },
     Report,
-    Plain {
-        shape: u32,
-        width: u32,
-    },
-    Pass,
-    SetRange {
-        offset: u32,
-        size: u32,
-    },
-    Choose(u32),
-    Run,
-    Clear,
-    // The given types stand after the span among the numbers read.
-    Order {
-        span: u32,
-        given: u32,
-    },
+    Plain { shape: u32, width: u32 },
+}
+
+/// What a line says.
+#[derive(Clone, Copy, Debug, PartialEq, Eq)]
+pub enum Line<'a> {
+    Change(Change),
+    Step(Step),
+    Query(Query<'a>),
+    /// It asks for an answer, and what is found becomes a struct of the arena.
+    Order { span: u32, given: &'a [u32] },
 }
 
 /// The command that a word is, by its bytes.
 #[tactic(auto, unfolding(crate::specs::Line::command_of, crate::specs::Line::later_command_of, crate::specs::Line::answer_command_of, crate::specs::Line::last_command_of))]
-pub fn command_of(word: &[u8]) -> Command
+pub fn command_of(word: &[u8]) -> Option<Command>
     ensures { result ≡ command_of word.now }
 {
-    match word {
+    let command = match word {
         b"caps" => Command::Capabilities,
         b"rule" => Command::Rule,
         b"type" => Command::TypeRecord,
@@ -94,15 +82,16 @@ pub fn command_of(word: &[u8]) -> Command
         b"run" => Command::Run,
         b"clear" => Command::Clear,
         b"order" => Command::Order,
-        _ => Command::Unknown,
-    }
+        _ => return None,
+    };
+    Some(command)
 }
 
-// The fewest and the most numbers that a command takes. No count of numbers is right after a word that is no command.
+// The fewest and the most numbers that a command takes.
 #[derive(Clone, Copy, Debug, PartialEq, Eq)]
 struct Usage {
-    least: u32,
-    most: u32,
+    least: usize,
+    most: usize,
 }
 
 // Kept: each arm is a command's row, under its name; a table by the command's number would say the same with the names beside it in comments.
@@ -139,103 +128,117 @@ fn usage_of(command: Command) -> Usage
             least: 1,
             most: 1025,
         },
-        Command::Unknown => Usage { least: 1, most: 0 },
+    }
+}
+
+// The words of a type record; words left off are 0.
+fn words_in(numbers: &[u32]) -> Words
+    ensures { result ≡ words_in numbers.now }
+{
+    Words {
+        kind: ir_records::word_at(numbers, 0),
+        a: ir_records::word_at(numbers, 1),
+        b: ir_records::word_at(numbers, 2),
+        c: ir_records::word_at(numbers, 3),
+        d: ir_records::word_at(numbers, 4),
+        e: ir_records::word_at(numbers, 5),
+    }
+}
+
+// A member record; words left off are 0.
+fn member_in(numbers: &[u32]) -> Member
+    ensures { result ≡ member_in numbers.now }
+{
+    Member {
+        ty: ir_records::word_at(numbers, 0),
+        offset: ir_records::word_at(numbers, 1),
+        location: ir_records::word_at(numbers, 2),
+        source: ir_records::word_at(numbers, 3),
     }
 }
 
 // A command with the numbers after it, of which there are as many as it takes.
 // Kept: each command has numbers of its own, so a match says which ones; a conversion for each command would be a function of one line.
-fn line_by(command: Command, numbers: &[u32]) -> Line
-    requires { (least_of command ≤ length numbers.now) × (length numbers.now ≤ 1025) }
-    ensures { result ≡ line_by command numbers.now }
+fn line_by<'a>(command: Command, numbers: &'a [u32]) -> Line<'a>
+    requires { least_of command ≤ length numbers.now }
+    ensures { said result ≡ line_by command numbers.now }
 {
     let a = ir_records::word_at(numbers, 0);
     let b = ir_records::word_at(numbers, 1);
+    let later = numbers.get(1..).unwrap_or(&[]);
     match command {
-        Command::Capabilities => Line::Capabilities(a),
-        Command::Rule => Line::Rule(a),
-        Command::TypeRecord => Line::TypeRecord {
-            kind: a,
-            a: b,
-            b: ir_records::word_at(numbers, 2),
-            c: ir_records::word_at(numbers, 3),
-            d: ir_records::word_at(numbers, 4),
-            e: ir_records::word_at(numbers, 5),
+        Command::Capabilities => Line::Change(Change::Capabilities(a)),
+        Command::Rule => Line::Change(Change::Rule(a)),
+        Command::TypeRecord => Line::Change(Change::TypeRecord(words_in(numbers))),
+        Command::MemberRecord => Line::Change(Change::MemberRecord(member_in(numbers))),
+        Command::Layout => Line::Query(Query::Layout),
+        Command::Judge => Line::Query(Query::Judge),
+        Command::Check => Line::Query(Query::Check),
+        Command::Members => Line::Query(Query::Members(a)),
+        Command::Slots => Line::Query(Query::Slots { ty: a, offset: b }),
+        Command::Range => Line::Query(Query::Range { offset: a, size: b }),
+        Command::Place => Line::Query(Query::Place {
+            start: a,
+            steps: later,
+        }),
+        Command::Short => Line::Query(Query::Short {
+            start: a,
+            steps: later,
+        }),
+        Command::Report => Line::Query(Query::Report),
+        Command::Plain => Line::Query(Query::Plain { shape: a, width: b }),
+        Command::Pass => Line::Change(Change::Pass),
+        Command::SetRange => Line::Step(Step::SetRange { offset: a, size: b }),
+        Command::Choose => Line::Step(Step::Choose(a)),
+        Command::Run => Line::Step(Step::Run),
+        Command::Clear => Line::Change(Change::Clear),
+        Command::Order => Line::Order {
+            span: a,
+            given: later,
         },
-        Command::MemberRecord => Line::MemberRecord {
-            ty: a,
-            offset: b,
-            location: ir_records::word_at(numbers, 2),
-            source: ir_records::word_at(numbers, 3),
-        },
-        Command::Layout => Line::Layout,
-        Command::Judge => Line::Judge,
-        Command::Check => Line::Check,
-        Command::Members => Line::Members(a),
-        Command::Slots => Line::Slots { ty: a, offset: b },
-        Command::Range => Line::Range { offset: a, size: b },
-        Command::Place => {
-            let steps = (numbers.len() - 1) as u32;
-            Line::Place { start: a, steps }
-        }
-        Command::Short => {
-            let steps = (numbers.len() - 1) as u32;
-            Line::Short { start: a, steps }
-        }
-        Command::Report => Line::Report,
-        Command::Plain => Line::Plain { shape: a, width: b },
-        Command::Pass => Line::Pass,
-        Command::SetRange => Line::SetRange { offset: a, size: b },
-        Command::Choose => Line::Choose(a),
-        Command::Run => Line::Run,
-        Command::Clear => Line::Clear,
-        Command::Order => {
-            let given = (numbers.len() - 1) as u32;
-            Line::Order { span: a, given }
-        }
-        Command::Unknown => Line::Nothing,
     }
 }
 
 // A command, with its numbers from `at` on.
-fn read_command(s: &[u8], at: usize, command: Command, numbers: &mut [u32]) -> Result<Line, Reason>
+fn read_command<'a>(
+    s: &[u8],
+    at: usize,
+    command: Command,
+    numbers: &'a mut [u32],
+) -> Result<Line<'a>, Reason>
     requires at_in_bounds { at ≤ length s.now }
     requires in_bounds { 1025 ≤ length numbers.old }
-    ensures value { result ≡ line_with command (arguments_of command (words (drop at s.now))) }
-    ensures holds { Holds numbers.new (list_of (arguments_of command (words (drop at s.now)))) }
+    ensures value { said_of result ≡ line_with command (arguments_of command (words (drop at s.now))) }
 {
     let usage = usage_of(command);
-    let count = program_arguments::read_numbers(s, at, command, usage.most, numbers)?;
-    if count < usage.least {
+    let given = program_arguments::read_numbers(s, at, command, &mut numbers[..usage.most])?;
+    if given.len() < usage.least {
         return Err(Reason::Usage(command));
     }
-    Ok(line_by(command, &numbers[..count as usize]))
+    Ok(line_by(command, given))
 }
 
-// What the words of a line say.
-fn read_words(line: &[u8], numbers: &mut [u32]) -> Result<Line, Reason>
+// What the words of a line say; none where there is no word.
+fn read_words<'a>(line: &[u8], numbers: &'a mut [u32]) -> Result<Option<Line<'a>>, Reason>
     requires { 1025 ≤ length numbers.old }
-    ensures value { result ≡ line_of (words (text_of line.now)) }
-    ensures holds { Holds numbers.new (numbers_read (words (text_of line.now))) }
+    ensures value { said_in result ≡ line_of (words (text_of line.now)) }
 {
     let s = program_words::text_of(line);
-    match program_words::next_word(s, 0) {
-        None => Ok(Line::Nothing),
-        Some(word) => {
-            let command = command_of(&s[word.start..word.end]);
-            read_command(s, word.end, command, numbers)
-        }
-    }
+    let Some(word) = program_words::next_word(s, 0) else {
+        return Ok(None);
+    };
+    let command = command_of(&s[word.start..word.end]).ok_or(Reason::NoCommand)?;
+    let read = read_command(s, word.end, command, numbers)?;
+    Ok(Some(read))
 }
 
-/// What a line says. Its numbers are left in the lent words.
-pub fn read_line(line: &[u8], numbers: &mut [u32]) -> Result<Line, Reason>
+/// What a line says; none where it asks for nothing. The steps of a place and the types given for an order are a part of the lent words.
+pub fn read_line<'a>(line: &[u8], numbers: &'a mut [u32]) -> Result<Option<Line<'a>>, Reason>
     requires { 1025 ≤ length numbers.old }
-    ensures value { result ≡ line_in line.now }
-    ensures holds { Holds numbers.new (line_numbers line.now) }
+    ensures value { said_in result ≡ line_in line.now }
 {
-    match program_words::stray_in(line) {
-        None => read_words(line, numbers),
-        Some(stray) => Err(Reason::from(stray)),
+    if let Some(stray) = program_words::stray_in(line) {
+        return Err(Reason::from(stray));
     }
+    read_words(line, numbers)
 }

@@ -1,19 +1,19 @@
 -- The digits of a number, and the lines of a text, byte by byte.
 -- Assumes nothing.
 use mathlib.Core.Path.{◌≡◌, refl, sym, ◌∙◌, ap}
-use mathlib.Core.Bool.{Bool, true, false}
-use mathlib.Core.List.{List, [], ◌∷◌, ◌++◌, append_assoc, append-nil}
+use mathlib.Core.Bool.{Bool, true, false, cond}
+use mathlib.Core.List.{List, [], ◌∷◌, ◌++◌}
 use Prim.Native.Nat.{ℕ, zero, suc, ◌+◌, ◌-◌, ◌/◌, ◌%◌, ◌^◌, ◌≤◌, ◌<◌}
-use native.Mathlib.Numerals.{add-one}
 use native.Mathlib.Nat.{pow-suc, one-le-pow, pow-le-pow_right}
 use native.Mathlib.Decide.{dec_le}
 use native.Mathlib.Omega.{arith}
-use borrow.Author.Tests.{lt-ltb, le-ltb, ne_eqb}
-use lib.Dec.{eqb}
-use lib.ListN.{length, get_or, take, drop, drop_of_length-le}
-use lib.Seq.{drop-cons, take-suc, drop-append-le, take-add, drop_at, slice, length-take-le}
+use borrow.Author.Tests.{lt-ltb, le-ltb, ltb-true, ltb-false}
+use Rattle.std.specs.Prelude.{Option, None, Some, MatchOption}
+use Rattle.std.specs.List.{position, position_or_len}
+use Rattle.program_output.specs.Serving.{line_length}
+use lib.Dec.{eqb, ltb}
+use lib.ListN.{length, take, drop}
 use Rattle.io.specs.Digits.{last_digits, hex_digit_ascii, IsDigitCount}
-use Rattle.ir_records.specs.Result.{pick}
 use Rattle.program_output.specs.Bytes.{decimal_in, digit, line_at}
 
 -- ---- numbers
@@ -53,47 +53,54 @@ fewest_few n k f h = by (dec_le k 20)
         absurd (omega (arith, f.2 (omega arith), large))
 
 -- ---- lines
-slice-part : (s e : ℕ) (l : List ℕ) → s ≤ e → s ≤ length l → slice s e l ≡ take (e - s) (drop s l)
-slice-part s e l h k =
-    let split : e ≡ s + (e - s) = omega arith in
-    ap (λ (n : ℕ). drop s (take n l)) split ∙ ap (drop s) (take-add s (e - s) l) ∙ drop_at (take s l) (take (e - s) (drop s l)) s (length-take-le s l k)
+pub line_length_within : (s : List ℕ) → line_length s ≤ length s
+unfolding line_length
+line_length_within [] = omega arith
+line_length_within (b ∷ s) = by (eqb b 10) refl (line_length_within s)
+  where
+    by : (t : Bool) → eqb b 10 ≡ t → line_length s ≤ length s → line_length (b ∷ s) ≤ length (b ∷ s)
+    by true e ih = rw e (omega arith)
+    by false e ih = rw e (omega (arith, ih))
 
-inside : (t : Bool) (k : ℕ) (s : List ℕ) → pick t (line_at k s) (line_at (suc k) s) ≡ line_at (pick t k (suc k)) s
-inside true k s = refl
-inside false k s = refl
+-- the first newline is the first line's last byte; without one the line is all
+abbrev first_newline : List ℕ → ℕ
+first_newline s = position_or_len (λ b. eqb b 10) s
 
-module _ (text : List ℕ) (i : ℕ) where
-  pub line_pass : (left : ℕ) → i < length text → 0 < left → line_at left (drop i text) ≡ line_at (pick (eqb (get_or text i 0) 10) (left - 1) left) (drop (i + 1) text)
-  unfolding line_at
-  line_pass zero h above = absurd (omega arith)
-  line_pass (suc k) h above =
-      let e : suc k - 1 ≡ k = omega arith in
-      rw (add-one, drop-cons text i 0 h, e) (inside (eqb (get_or text i 0) 10) k (drop (suc i) text))
+one_further : (n m : ℕ) (t : Bool) → ltb n m ≡ t → suc (cond t (n + 1) m) ≡ cond (ltb (1 + n) (suc m)) (1 + n + 1) (suc m)
+one_further n m true e = let h : 1 + n < suc m = omega (arith, ltb-true n m e) in rw (lt-ltb (1 + n) (suc m) h) (omega arith)
+one_further n m false e = let h : suc m ≤ 1 + n = omega (arith, ltb-false n m e) in rw (le-ltb (1 + n) (suc m) h) refl
 
-  pub line_none : (left : ℕ) → length text ≤ i → line_at left (drop i text) ≡ line_at 0 (drop i text)
-  unfolding line_at
-  line_none left h = rw (drop_of_length-le text h)
+length_by : (s : List ℕ) → line_length s ≡ cond (ltb (first_newline s) (length s)) (first_newline s + 1) (length s)
+unfolding line_length
+length_by [] = refl
+length_by (b ∷ s) = by (eqb b 10) refl (length_by s)
+  where
+    by : (t : Bool) → eqb b 10 ≡ t → line_length s ≡ cond (ltb (first_newline s) (length s)) (first_newline s + 1) (length s)
+        → line_length (b ∷ s) ≡ cond (ltb (first_newline (b ∷ s)) (length (b ∷ s))) (first_newline (b ∷ s) + 1) (length (b ∷ s))
+    by true e ih = let h : 0 < suc (length s) = omega arith in rw (e, lt-ltb 0 (suc (length s)) h) refl
+    by false e ih = rw (e, ih) (one_further (first_newline s) (length s) (ltb (first_newline s) (length s)) refl)
 
-  module _ (start : ℕ) (from : start ≤ i) where
-    slice-more : i < length text → slice start (i + 1) text ≡ slice start i text ++ (get_or text i 0 ∷ [])
-    slice-more h =
-        ap (λ (k : ℕ). drop start (take k text)) (add-one i)
-        ∙ ap (drop start) (take-suc text i 0 h)
-        ∙ drop-append-le start (take i text) (get_or text i 0 ∷ []) (omega (arith, length-take-le i text (omega arith)))
+pub length_is : (s : List ℕ) (r : Option ℕ) (m : ℕ) → r ≡ position (λ b. eqb b 10) s → MatchOption r (m ≡ length s) (λ end. m ≡ end + 1) → m ≡ line_length s
+length_is s r m e h = by (ltb (first_newline s) (length s)) refl (rw e at h)
+  where
+    by : (t : Bool) → ltb (first_newline s) (length s) ≡ t → MatchOption (cond t (Some (first_newline s)) None) (m ≡ length s) (λ end. m ≡ end + 1) → m ≡ line_length s
+    by true t k = k ∙ sym (length_by s ∙ rw t refl)
+    by false t k = k ∙ sym (length_by s ∙ rw t refl)
 
-    abbrev pub Passed : Type 0
-    Passed = line_at 0 (drop start text) ≡ slice start i text ++ line_at 0 (drop i text)
+pub line_first : (s : List ℕ) → line_at 0 s ≡ take (line_length s) s
+unfolding line_at line_length
+line_first [] = refl
+line_first (b ∷ s) = by (eqb b 10) refl (line_first s)
+  where
+    by : (t : Bool) → eqb b 10 ≡ t → line_at 0 s ≡ take (line_length s) s → line_at 0 (b ∷ s) ≡ take (line_length (b ∷ s)) (b ∷ s)
+    by true e ih = rw e refl
+    by false e ih = rw e (ap (λ (l : List ℕ). b ∷ l) ih)
 
-    pub line_more : i < length text → (get_or text i 0 ≡ 10 → ⊥) → Passed → line_at 0 (drop start text) ≡ slice start (i + 1) text ++ line_at 0 (drop (i + 1) text)
-    unfolding line_at
-    line_more h other p =
-        p
-        ∙ rw (slice-more h, add-one, drop-cons text i 0 h, ne_eqb (get_or text i 0) 10 other) (sym (append_assoc (slice start i text) (get_or text i 0 ∷ []) (line_at 0 (drop (suc i) text))))
-
-    pub line_stop : i < length text → get_or text i 0 ≡ 10 → Passed → line_at 0 (drop start text) ≡ take (i + 1 - start) (drop start text)
-    unfolding line_at
-    line_stop h e p = p ∙ rw (drop-cons text i 0 h, e) (rw e at (sym (slice-more h))) ∙ slice-part start (i + 1) text (omega arith) (omega arith)
-
-    pub line_done : start ≤ length text → length text ≤ i → Passed → line_at 0 (drop start text) ≡ take (i - start) (drop start text)
-    unfolding line_at
-    line_done k h p = p ∙ rw (drop_of_length-le text h) (append-nil (slice start i text)) ∙ slice-part start i text from k
+pub line_after : (k : ℕ) (s : List ℕ) → line_at (suc k) s ≡ line_at k (drop (line_length s) s)
+unfolding line_at line_length
+line_after k [] = refl
+line_after k (b ∷ s) = by (eqb b 10) refl (line_after k s)
+  where
+    by : (t : Bool) → eqb b 10 ≡ t → line_at (suc k) s ≡ line_at k (drop (line_length s) s) → line_at (suc k) (b ∷ s) ≡ line_at k (drop (line_length (b ∷ s)) (b ∷ s))
+    by true e ih = rw e refl
+    by false e ih = rw e ih

@@ -1,6 +1,6 @@
 -- The bytes of each answer, by what is answered.
 -- Assumes nothing.
-use Rattle.std.specs.Prelude.{List, [], ◌∷◌, ◌++◌, ℕ, ◌-◌, ltb}
+use Rattle.std.specs.Prelude.{List, [], ◌∷◌, ◌++◌, ℕ, ◌-◌, ltb, Option, None, Some}
 use Rattle.ir_records.specs.Result.{pick}
 use Rattle.ir_records.specs.Outcome.{Outcome}
 use Rattle.ir_records.specs.Outcome as outcome
@@ -8,9 +8,8 @@ use Rattle.immediates_ranges.specs.Answer.{SlotsAnswer}
 use Rattle.immediates_ranges.specs.Answer as slots
 use Rattle.program_arguments.specs.declared.Command.{Command}
 use Rattle.program_arguments.specs.declared.Command.TheVariants as command
-use Rattle.program_arguments.specs.declared.Reason.{Reason}
 use Rattle.program_arguments.specs.declared.Reason.TheVariants as reason
-use Rattle.program_input.specs.Input.{error_of}
+use Rattle.program_input.specs.declared.ReadError.TheVariants as error
 use Rattle.program_output.specs.declared.Stop.{Stop}
 use Rattle.program_output.specs.declared.Stop.TheVariants as stop
 use Rattle.program_output.specs.Bytes.{ascii, line_at, number, named, newline, words_line, row_lines, report_lines}
@@ -41,70 +40,64 @@ dispatch_lines outcome.Accepted missing = ascii "passes\n"
 dispatch_lines (outcome.Refused number ty member detail) missing = refusal_line number ty member detail ++ (named (ascii "missing") missing ++ newline)
 
 -- ---- why a session stops
--- the lines of the reasons, numbered from 2 on
-unfoldable pub reasons : List ℕ
-reasons = ascii ": longer than 65535 bytes\n: the input cannot be read\n is not a decimal number\n is above 4294967295\n: the arena is full, with 1024 types\n: the member table is full, with 4096 members\n: a byte order mark stands in it\n: a NUL byte stands in it\n: a carriage return stands before its end\n: caps takes one number\n: rule takes one number\n: type takes a kind and at most 5 words\n: member takes a type and an offset, and may take a location and a blend source\n: layout takes no number\n: judge takes no number\n: check takes no number\n: members takes a type\n: slots takes a type and an offset\n: range takes an offset and a size\n: place takes a type and at most 1024 steps\n: short takes a type and at most 1024 steps\n: report takes no number\n: plain takes a shape and a width\n: pass takes no number\n: set takes an offset and a size\n: choose takes a type\n: run takes no number\n: clear takes no number\n: order takes a span and at most 1024 types\n: no such command; there are caps, rule, type, member, layout, judge, check, members, slots, range, place, short, report, plain, pass, set, choose, run, clear and order\n"
+-- what a command takes
+unfoldable pub usage_text : Command → List ℕ
+usage_text command.Capabilities = ascii ": caps takes one number\n"
+usage_text command.Rule = ascii ": rule takes one number\n"
+usage_text command.TypeRecord = ascii ": type takes a kind and at most 5 words\n"
+usage_text command.MemberRecord = ascii ": member takes a type and an offset, and may take a location and a blend source\n"
+usage_text command.Layout = ascii ": layout takes no number\n"
+usage_text command.Judge = ascii ": judge takes no number\n"
+usage_text command.Check = ascii ": check takes no number\n"
+usage_text command.Members = ascii ": members takes a type\n"
+usage_text command.Slots = ascii ": slots takes a type and an offset\n"
+usage_text command.Range = ascii ": range takes an offset and a size\n"
+usage_text command.Place = ascii ": place takes a type and at most 1024 steps\n"
+usage_text command.Short = ascii ": short takes a type and at most 1024 steps\n"
+usage_text command.Report = ascii ": report takes no number\n"
+usage_text command.Plain = ascii ": plain takes a shape and a width\n"
+usage_text command.Pass = ascii ": pass takes no number\n"
+usage_text command.SetRange = ascii ": set takes an offset and a size\n"
+usage_text command.Choose = ascii ": choose takes a type\n"
+usage_text command.Run = ascii ": run takes no number\n"
+usage_text command.Clear = ascii ": clear takes no number\n"
+usage_text command.Order = ascii ": order takes a span and at most 1024 types\n"
 
-abbrev pub usage_line : Command → ℕ
-usage_line command.Capabilities = 11
-usage_line command.Rule = 12
-usage_line command.TypeRecord = 13
-usage_line command.MemberRecord = 14
-usage_line command.Layout = 15
-usage_line command.Judge = 16
-usage_line command.Check = 17
-usage_line command.Members = 18
-usage_line command.Slots = 19
-usage_line command.Range = 20
-usage_line command.Place = 21
-usage_line command.Short = 22
-usage_line command.Report = 23
-usage_line command.Plain = 24
-usage_line command.Pass = 25
-usage_line command.SetRange = 26
-usage_line command.Choose = 27
-usage_line command.Run = 28
-usage_line command.Clear = 29
-usage_line command.Order = 30
-usage_line command.Unknown = 31
+unfoldable pub why_text : Stop → List ℕ
+why_text (stop.Input error.Long) = ascii ": longer than 65535 bytes\n"
+why_text (stop.Input error.Failed) = ascii ": the input cannot be read\n"
+why_text stop.TypesFull = ascii ": the arena is full, with 1024 types\n"
+why_text stop.MembersFull = ascii ": the member table is full, with 4096 members\n"
+why_text (stop.Line (reason.NotANumber word)) = ascii " is not a decimal number\n"
+why_text (stop.Line (reason.TooLarge word)) = ascii " is above 4294967295\n"
+why_text (stop.Line reason.ByteOrderMark) = ascii ": a byte order mark stands in it\n"
+why_text (stop.Line reason.Nul) = ascii ": a NUL byte stands in it\n"
+why_text (stop.Line reason.Return) = ascii ": a carriage return stands before its end\n"
+why_text (stop.Line reason.NoCommand) = ascii ": no such command; there are caps, rule, type, member, layout, judge, check, members, slots, range, place, short, report, plain, pass, set, choose, run, clear and order\n"
+why_text (stop.Line (reason.Usage command)) = usage_text command
 
--- the line of why a line cannot be read
-abbrev pub reason_line : Reason → ℕ
-reason_line (reason.NotANumber word) = 4
-reason_line (reason.TooLarge word) = 5
-reason_line (reason.Usage command) = usage_line command
-reason_line reason.ByteOrderMark = 8
-reason_line reason.Nul = 9
-reason_line reason.Return = 10
+-- the number of the word that is wrong
+abbrev pub word_of : Stop → Option ℕ
+word_of (stop.Input e) = None
+word_of stop.TypesFull = None
+word_of stop.MembersFull = None
+word_of (stop.Line (reason.NotANumber word)) = Some word
+word_of (stop.Line (reason.TooLarge word)) = Some word
+word_of (stop.Line reason.NoCommand) = None
+word_of (stop.Line (reason.Usage command)) = None
+word_of (stop.Line reason.ByteOrderMark) = None
+word_of (stop.Line reason.Nul) = None
+word_of (stop.Line reason.Return) = None
 
-abbrev pub why_of : Stop → ℕ
-why_of (stop.Input e) = error_of e
-why_of stop.TypesFull = 6
-why_of stop.MembersFull = 7
-why_of (stop.Line r) = reason_line r
+abbrev pub word_part : Option ℕ → List ℕ
+word_part None = []
+word_part (Some word) = named (ascii ": word") word
 
--- the number of the word that is wrong, or 0
-abbrev pub wrong_word : Reason → ℕ
-wrong_word (reason.NotANumber word) = word
-wrong_word (reason.TooLarge word) = word
-wrong_word (reason.Usage command) = 0
-wrong_word reason.ByteOrderMark = 0
-wrong_word reason.Nul = 0
-wrong_word reason.Return = 0
+-- the line at which a session stops, the word of it that is wrong, if one is, and why
+unfoldable pub stop_line : (line : ℕ) → Stop → List ℕ
+stop_line line why = named (ascii "line") line ++ word_part (word_of why) ++ why_text why
 
-abbrev pub word_of : Stop → ℕ
-word_of (stop.Input e) = 0
-word_of stop.TypesFull = 0
-word_of stop.MembersFull = 0
-word_of (stop.Line r) = wrong_word r
-
-abbrev pub word_part : (word : ℕ) → List ℕ
-word_part word = pick (ltb 0 word) (named (ascii ": word") word) []
-
+-- ---- texts of several lines
 -- line k of a text whose lines are numbered from `first` on; nothing below that
 abbrev pub numbered_line : List ℕ → (first k : ℕ) → List ℕ
 numbered_line text first k = pick (ltb k first) [] (line_at (k - first) text)
-
--- the line at which a session stops, the word of it that is wrong, unless that is 0, and why
-unfoldable pub stop_line : (line word why : ℕ) → List ℕ
-stop_line line word why = named (ascii "line") line ++ word_part word ++ numbered_line reasons 2 why

@@ -26,7 +26,8 @@ fn put_record<const WIDTH: usize, const SHOWN: usize>(
     }
 }
 
-// Kept: a reader says how many records it made, and the definition `record_lines` takes the table with that number.
+// Kept: n is how many records a reader says that it made. Nothing here says that the table has so many, so no part of n records can be cut from it;
+// a record that is not there has no line.
 // A line for each of the first n records.
 fn put_lines<const WIDTH: usize, const SHOWN: usize>(
     out: &mut Output,

@@ -6,7 +6,7 @@ mod answer;
 ghost use Rattle.std.specs.Prelude.{◌≤◌, length};
 
 use answer::Program;
-use program_commands::State;
+use program_commands::{Session, State};
 use program_output::{Output, Stop};
 use program_words::Class;
 use std::io::Read;
@@ -44,7 +44,7 @@ impl Program {
             }
             Err(error) => self.session.state = State::Stopped(Stop::Input(error)),
         }
-        self.session = program_commands::flushed(self.session, &mut self.out);
+        self.session.flush(&mut self.out);
     }
 }
 
@@ -55,7 +55,7 @@ pub fn run<R: Input>(rt: &R) {
     let mut source = rt.reader();
     let mut buffer = [0u8; 65536];
     let mut program = Program {
-        session: program_commands::start(),
+        session: Session::new(),
         arena: [0; 22528],
         rows: [0; 14336],
         out: Output::new(),

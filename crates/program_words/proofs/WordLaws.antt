@@ -1,13 +1,18 @@
 -- Runs of bytes, step by step, and the first word of a text by its runs.
 -- Assumes nothing.
-use mathlib.Core.Path.{◌≡◌, refl, ◌∙◌}
-use mathlib.Core.Bool.{Bool, true, false}
+use mathlib.Core.Path.{◌≡◌, refl, sym, ◌∙◌}
+use mathlib.Core.Bool.{Bool, true, false, not, cond}
 use mathlib.Core.List.{List, [], ◌∷◌}
 use Prim.Native.Nat.{ℕ, suc, ◌+◌, ◌-◌, ◌≤◌, ◌<◌}
 use native.Mathlib.Numerals.{add-one}
 use native.Mathlib.Omega.{arith}
 use lib.ListN.{length, get_or, take, drop, length-drop, drop_of_length-le}
+use lib.Dec.{ltb}
 use lib.Seq.{drop-cons, drop-drop}
+use borrow.Author.Tests.{ltb-false}
+use Rattle.std.specs.Prelude.{None, Some}
+use Rattle.std.specs.List.{position, position_or_len}
+use Rattle.std.specs.Option.{unwrap_or}
 use Rattle.program_words.specs.Words.{is_blank, is_in, run_of, pieces, non_empty, words, part}
 use Rattle.program_words.specs.declared.Class.TheVariants.{Blank, Word}
 
@@ -23,6 +28,36 @@ module _ (p : ℕ → Bool) (s : List ℕ) (i : ℕ) where
   pub run_done : length s ≤ i → run_of p (drop i s) ≡ 0
   unfolding run_of
   run_done h = rw (drop_of_length-le s h)
+
+-- a run is what stands before the first byte that fails the test
+module _ (p : ℕ → Bool) where
+  abbrev fails : ℕ → Bool
+  fails b = not (p b)
+
+  run_is : (s : List ℕ) → run_of p s ≡ position_or_len fails s
+  unfolding run_of
+  run_is [] = refl
+  run_is (b ∷ s) = by (p b) refl (run_is s)
+    where
+      by : (t : Bool) → p b ≡ t → run_of p s ≡ position_or_len fails s → run_of p (b ∷ s) ≡ position_or_len fails (b ∷ s)
+      by true e ih = rw e (omega (arith, ih))
+      by false e ih = rw e refl
+
+  pub run_within : (s : List ℕ) → run_of p s ≤ length s
+  unfolding run_of
+  run_within [] = omega arith
+  run_within (b ∷ s) = by (p b) refl (run_within s)
+    where
+      by : (t : Bool) → p b ≡ t → run_of p s ≤ length s → run_of p (b ∷ s) ≤ length (b ∷ s)
+      by true e ih = rw e (omega (arith, ih))
+      by false e ih = rw e (omega arith)
+
+  pub run_found : (s : List ℕ) → unwrap_or (position fails s) (length s) ≡ run_of p s
+  run_found s = by (ltb (position_or_len fails s) (length s)) refl
+    where
+      by : (t : Bool) → ltb (position_or_len fails s) (length s) ≡ t → unwrap_or (cond t (Some (position_or_len fails s)) None) (length s) ≡ run_of p s
+      by true e = sym (run_is s)
+      by false e = omega (arith, run_is s, run_within s, ltb-false (position_or_len fails s) (length s) e)
 
 -- ---- the first of the pieces, and the others
 abbrev rest : List (List ℕ) → List (List ℕ)

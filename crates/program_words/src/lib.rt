@@ -50,27 +50,26 @@ fn is_in(class: Class, b: u8) -> bool
     ensures { result ≡ is_in class b }
 {
     match class {
-        Class::Blank => (b == b' ') | (b == b'\t'),
-        Class::Word => !((b == b' ') | (b == b'\t')),
+        Class::Blank => matches!(b, b' ' | b'\t'),
+        Class::Word => !matches!(b, b' ' | b'\t'),
         Class::Text => b != b'#',
         Class::Line => b != b'\n',
     }
 }
 
 /// Where the run of bytes of a class that starts at `at` ends.
-// Kept: `run_end` of wgsl_tokens has the same loop over classes of its own. One function would need a trait for a class, with a ghost test and two
-// impls, which is more than the loop.
+// Kept: `run_end` of wgsl_tokens is the same search by a test that is lent; the classes here have names in the definitions of lines and words.
 pub fn run_end(s: &[u8], at: usize, class: Class) -> usize
     requires { at ≤ length s.now }
     ensures value { result ≡ at + run_of (is_in class) (drop at s.now) }
     ensures lower_bound { (at ≤ result) × (result ≤ length s.now) }
 {
-    for i in at..s.len() {
-        if !is_in(class, s[i]) {
-            return i;
-        }
-    }
-    s.len()
+    let rest = &s[at..];
+    let length = rest
+        .iter()
+        .position(|b| !is_in(class, *b))
+        .unwrap_or(rest.len());
+    at + length
 }
 
 /// The next word from `at` on.
@@ -137,64 +136,27 @@ pub fn number_of(word: &[u8]) -> Result<u32, NumberError>
     if word.is_empty() || !all_digits(word) {
         return Err(NumberError::NotANumber);
     }
-    let n = capped(word);
-    if n < ABOVE {
-        Ok(n as u32)
-    } else {
-        Err(NumberError::TooLarge)
-    }
+    u32::try_from(capped(word)).map_err(|_| NumberError::TooLarge)
 }
 
-// Kept: `item_or` of ir_records says the same; the words of a line stand on no other crate.
-fn byte_at(s: &[u8], at: usize) -> u8
-    ensures { result ≡ get_or s.now at 0 }
-{
-    s.get(at).copied().unwrap_or(0)
-}
-
-// A byte order mark, of UTF-8 or UTF-16.
-fn is_mark(a: u8, b: u8, c: u8) -> bool
-    ensures { result ≡ is_mark a b c }
-{
-    ((a == 0xef) & (b == 0xbb) & (c == 0xbf))
-        | ((a == 0xfe) & (b == 0xff))
-        | ((a == 0xff) & (b == 0xfe))
-}
-
-// What a byte is, by the two after it and whether it is not the last.
+// What a byte is, by those after it. A byte order mark is one of UTF-8, or of UTF-16 of either order.
 #[tactic(auto, unfolding(crate::specs::Stray::stray_of))]
-fn stray_of(a: u8, b: u8, c: u8, more: bool) -> Option<Stray>
-    ensures { result ≡ stray_of a b c more }
-{
-    if a == b'\0' {
-        return Some(Stray::Nul);
-    }
-    if (a == b'\r') & more {
-        return Some(Stray::Return);
-    }
-    if is_mark(a, b, c) {
-        return Some(Stray::ByteOrderMark);
-    }
-    None
-}
-
 fn stray_at(line: &[u8], i: usize) -> Option<Stray>
     requires { i < length line.now }
     ensures { result ≡ stray_at line.now i }
 {
-    let b = byte_at(line, i + 1);
-    let c = byte_at(line, i + 2);
-    stray_of(line[i], b, c, i + 1 < line.len())
+    match &line[i..] {
+        [b'\0', ..] => Some(Stray::Nul),
+        [b'\r', _, ..] => Some(Stray::Return),
+        [0xef, 0xbb, 0xbf, ..] | [0xfe, 0xff, ..] | [0xff, 0xfe, ..] => Some(Stray::ByteOrderMark),
+        _ => None,
+    }
 }
 
 /// The first of a line's bytes that no line may hold.
 pub fn stray_in(line: &[u8]) -> Option<Stray>
     ensures { result ≡ stray_in line.now }
 {
-    for i in 0..line.len() {
-        if let Some(stray) = stray_at(line, i) {
-            return Some(stray);
-        }
-    }
-    None
+    let at = (0..line.len()).find(|i| stray_at(line, *i).is_some())?;
+    stray_at(line, at)
 }

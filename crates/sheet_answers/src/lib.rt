@@ -1,17 +1,15 @@
 // What is printed of the bytes of a file: a WGSL text or a SPIR-V module, read, judged and written out, or its refusal.
 #![tactic(auto)]
 
-ghost use Rattle.std.specs.Prelude.{◌≡◌, ◌≤◌, length};
-
 use ir_records::Refusal;
 use program_output::Output;
-use sheet_counts::NO_SLOTS;
+use sheet_counts::Counts;
 use sheet_names::{Module, Sheet};
-use sheet_output::{Markup, Writer};
+use sheet_output::Writer;
 use sheet_structs::Form;
 use valid_type_info::UniformRule;
 
-// The form, the rule of uniform verdicts and the capability word.
+/// The form, the rule of uniform verdicts and the capability word.
 #[derive(Clone, Copy, Debug, PartialEq, Eq)]
 pub struct Asked {
     pub form: Form,
@@ -19,98 +17,42 @@ pub struct Asked {
     pub capabilities: u32,
 }
 
-const MAGIC: u32 = 119734787;
-// The magic number with its bytes in the other order.
-const OTHER_MAGIC: u32 = 50471687;
+// Words of the largest module that is read.
+const MOST_WORDS: usize = 262144;
 
 // The words of the records that a reader made in a table.
-fn made(table: &[u32], records: u32, record_words: usize) -> &[u32]
-    requires { record_words ≤ 6 }
-{
-    table
-        .get(..(records as usize) * record_words)
-        .unwrap_or(table)
+fn made(table: &[u32], records: u32, record_words: usize) -> &[u32] {
+    let words = (records as usize).saturating_mul(record_words);
+    table.get(..words).unwrap_or(table)
 }
 
-// Records with their names, before they are judged.
-fn unjudged<'a>(
-    text: &'a [u8],
-    names: &'a [usize],
-    types: &'a [u32],
-    members: &'a [u32],
-) -> Sheet<'a> {
-    Sheet {
-        text,
-        names,
-        types,
-        members,
-        rows: &[],
-        report: &[],
-        slots: &[],
-    }
-}
-
-// The first word of the bytes, the lowest byte first.
-fn first_word(bytes: &[u8]) -> u32 {
-    if bytes.len() < 4 {
-        return 0;
-    }
-    spirv_input::word_of(bytes, 0)
-}
-
+// Whether bytes begin as a module does, in either order of a word's bytes.
 fn is_module(bytes: &[u8]) -> bool {
-    let word = first_word(bytes);
-    (word == MAGIC) | (word == OTHER_MAGIC)
-}
-
-// 262,144 zeros.
-fn no_words() -> [u32; 262144]
-    ensures { 262144 ≡ length result }
-{
-    [0; 262144]
+    bytes.starts_with(&spirv_read::MAGIC.to_le_bytes())
+        | bytes.starts_with(&spirv_read::MAGIC.to_be_bytes())
 }
 
 impl Asked {
     // The sheet of records that are accepted.
     fn put_judged(self, out: &mut Writer, records: Sheet) -> Result<(), Refusal> {
-        let mut rows = [0u32; 14336];
-        let mut report = [0u64; 2048];
-        let mut slots = [NO_SLOTS; 1024];
-        let types = records.types;
-        let members = records.members;
-        valid_arena::judge(types, members, self.capabilities, self.rule, &mut rows)?;
-        sheet_counts::fill(
-            types,
-            members,
-            self.capabilities,
-            self.rule,
-            &mut rows,
-            &mut report,
-            &mut slots,
-        );
-        let sheet = Sheet {
-            rows: &rows,
-            report: &report,
-            slots: &slots,
-            ..records
-        };
-        sheet_structs::put_all(self.form, out, sheet);
+        let mut counts = Counts::new();
+        counts.judge(records, self.capabilities, self.rule)?;
+        self.form.put_all(out, counts.sheet(records));
         Ok(())
     }
 
     // The records of a text.
     fn answer_records(self, out: &mut Writer, text: &[u8], types: &[u32], members: &[u32]) {
-        let mut names = [0usize; 10240];
-        sheet_names::from_text(text, types, &mut names);
-        let records = unjudged(text, &names, types, members);
+        let names = sheet_names::from_text(text, types);
+        let records = Sheet::of(text, &names, types, members);
         if let Err(refusal) = self.put_judged(out, records) {
             sheet_refusals::put_text_arena(out, records, refusal);
         }
     }
 
     fn answer_text(self, out: &mut Writer, text: &[u8]) {
-        let mut types = [0u32; 6144];
-        let mut members = [0u32; 16384];
+        let mut types = [0; 6144];
+        let mut members = [0; 16384];
         match wgsl_read::read_at(text, &mut types, &mut members) {
             Ok(records) => self.answer_records(
                 out,
@@ -123,48 +65,35 @@ impl Asked {
     }
 
     // The records of a module.
-    fn answer_section(
-        self,
-        out: &mut Writer,
-        bytes: &[u8],
-        words: &[u32],
-        types: &[u32],
-        members: &[u32],
-    ) {
-        let mut names = [0usize; 10240];
-        let mut places = [0usize; 1024];
-        sheet_names::type_places(words, &mut places);
-        let module = Module {
-            words,
-            bytes,
-            types,
-            places: &places,
-        };
-        sheet_names::from_module(module, &mut names);
-        let records = unjudged(bytes, &names, types, members);
+    fn answer_section(self, out: &mut Writer, module: Module, members: &[u32]) {
+        let names = sheet_names::from_module(module);
+        let records = Sheet::of(module.bytes, &names, module.types, members);
         if let Err(refusal) = self.put_judged(out, records) {
-            let place = places.get(refusal.ty as usize).copied().unwrap_or(0);
-            sheet_refusals::put_module_arena(out, records, words, place, refusal);
+            let place = ir_records::item_or(module.places, refusal.ty as usize, None);
+            sheet_refusals::put_module_arena(out, records, module.words, place, refusal);
         }
     }
 
     fn answer_words(self, out: &mut Writer, bytes: &[u8], words: &[u32]) {
-        let mut types = [0u32; 6144];
-        let mut members = [0u32; 16384];
+        let mut types = [0; 6144];
+        let mut members = [0; 16384];
         match spirv_reader::read_module(words, &mut types, &mut members) {
-            Ok(records) => self.answer_section(
-                out,
-                bytes,
-                words,
-                made(&types, records.types, ir_records::TYPE_WORDS),
-                made(&members, records.members, ir_records::MEMBER_WORDS),
-            ),
-            Err(fault) => sheet_refusals::put_module(out, words, &mut types, &mut members, fault),
+            Ok(records) => {
+                let module = Module {
+                    words,
+                    bytes,
+                    types: made(&types, records.types, ir_records::TYPE_WORDS),
+                    places: &sheet_names::type_places(words),
+                };
+                let members = made(&members, records.members, ir_records::MEMBER_WORDS);
+                self.answer_section(out, module, members);
+            }
+            Err(fault) => sheet_refusals::put_module(out, words, fault),
         }
     }
 
     fn answer_module(self, out: &mut Writer, bytes: &[u8]) {
-        let mut words = no_words();
+        let mut words = program_files::filled::<u32, MOST_WORDS>(0);
         if bytes.len() % 4 != 0 {
             program_files::tell(b"sheet: the module is no whole number of words\n");
             return;
@@ -175,29 +104,16 @@ impl Asked {
         }
     }
 
-    fn answer_bytes(self, out: &mut Writer, bytes: &[u8]) {
+    /// What is printed of the bytes of a file; standard input has no name.
+    pub fn answer(self, name: Option<&[u8]>, bytes: &[u8]) {
+        let mut output = Output::new();
+        let mut out = Writer::new(&mut output, self.form.markup());
+        self.form.put_start(&mut out, name);
         if is_module(bytes) {
-            self.answer_module(out, bytes);
+            self.answer_module(&mut out, bytes);
         } else {
-            self.answer_text(out, bytes);
+            self.answer_text(&mut out, bytes);
         }
+        out.finish();
     }
-
-    // A page has marks of its own.
-    fn markup(self) -> Markup {
-        if self.form == Form::Page {
-            Markup::Page
-        } else {
-            Markup::Plain
-        }
-    }
-}
-
-/// What is printed of the bytes of a file with this name.
-pub fn answer(asked: Asked, name: &[u8], bytes: &[u8]) {
-    let mut output = Output::new();
-    let mut out = Writer::new(&mut output, asked.markup());
-    sheet_structs::put_start(asked.form, &mut out, name);
-    asked.answer_bytes(&mut out, bytes);
-    out.finish();
 }

@@ -4,30 +4,26 @@
 use sheet_names::{Member, Type};
 use sheet_output::Writer;
 
+// Kept: the letters of C and Rust; that a word of WGSL starts with the same ones is another language's rule, and says nothing of these.
 fn is_letter(c: u8) -> bool {
     c.is_ascii_alphabetic() | (c == b'_')
 }
 
 fn is_letter_or_digit(c: u8) -> bool {
-    c.is_ascii_alphanumeric() | (c == b'_')
+    is_letter(c) | c.is_ascii_digit()
 }
 
 // A letter first, then letters and digits.
 fn is_identifier(name: &[u8]) -> bool {
-    match name {
-        [first, rest @ ..] => is_letter(*first) & rest.iter().all(|c| is_letter_or_digit(*c)),
-        _ => false,
-    }
+    name.first().is_some_and(|c| is_letter(*c)) && name.iter().all(|c| is_letter_or_digit(*c))
 }
 
 // A name without the underscores at its end.
 fn stem(name: &[u8]) -> &[u8] {
-    for n in (0..name.len()).rev() {
-        if name[n] != b'_' {
-            return &name[..n + 1];
-        }
+    match name.iter().rposition(|c| *c != b'_') {
+        Some(last) => &name[..last + 1],
+        None => &name[..0],
     }
-    &name[..0]
 }
 
 // Whether a word is one of a list that blanks separate.
@@ -45,10 +41,8 @@ fn is_kept(word: &[u8]) -> bool {
 
 // Whether digits follow a prefix up to the end.
 fn is_numbered(word: &[u8], prefix: &[u8]) -> bool {
-    match word.strip_prefix(prefix) {
-        Some(rest) => rest.iter().all(|c| c.is_ascii_digit()),
-        None => false,
-    }
+    word.strip_prefix(prefix)
+        .is_some_and(|rest| rest.iter().all(|c| c.is_ascii_digit()))
 }
 
 // A name that a number makes, or that is kept, gets an underscore, and so does one that is made so: two names stay two.
@@ -63,24 +57,24 @@ fn put_identifier(out: &mut Writer, name: &[u8]) {
     }
 }
 
+// A name as an identifier, unless it stands there already; or else a number after a text.
+fn put_name(out: &mut Writer, name: Option<&[u8]>, earlier: bool, otherwise: &[u8], number: u32) {
+    match name {
+        Some(name) if is_identifier(name) & !earlier => put_identifier(out, name),
+        _ => out.put_with(otherwise, u64::from(number), b""),
+    }
+}
+
 // The identifier of struct i.
 pub fn put_type(out: &mut Writer, t: Type) {
     let name = t.name();
     let earlier = (0..t.i).any(|k| t.other(k).name() == name);
-    if is_identifier(name) & !earlier {
-        put_identifier(out, name);
-        return;
-    }
-    out.put_with(b"type_", u64::from(t.i), b"");
+    put_name(out, name, earlier, b"type_", t.i);
 }
 
 // The identifier of a member.
 pub fn put_member(out: &mut Writer, member: Member) {
     let name = member.name();
     let earlier = (0..member.j).any(|k| member.of.member_name(k) == name);
-    if is_identifier(name) & !earlier {
-        put_identifier(out, name);
-        return;
-    }
-    out.put_with(b"member_", u64::from(member.j), b"");
+    put_name(out, name, earlier, b"member_", member.j);
 }

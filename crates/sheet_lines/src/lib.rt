@@ -2,18 +2,19 @@
 #![tactic(auto)]
 
 use sheet_names::{Member, Type};
-use sheet_output::Writer;
+use sheet_output::{Unused, Writer};
 
 // The byte after a member.
 fn end_of(member: Member) -> u64 {
     u64::from(member.offset) + u64::from(member.own_type().size())
 }
 
-/// The members of a struct, the gaps between them and the one from the last of them up to `end`. All members before one end where the furthest does.
-pub fn put_lines<G: Fn(&mut Writer, u64, u64), M: Fn(&mut Writer, Member)>(
+/// The members of a struct, the gaps between them, and the one from the last of them up to `end`, where the lines have one. All members before one
+/// end where the furthest does.
+pub fn put_lines<G: Fn(&mut Writer, Unused), M: Fn(&mut Writer, Member)>(
     out: &mut Writer,
     t: Type,
-    end: u64,
+    end: Option<u64>,
     put_gap: G,
     put_member: M,
 )
@@ -23,16 +24,14 @@ pub fn put_lines<G: Fn(&mut Writer, u64, u64), M: Fn(&mut Writer, Member)>(
     let mut before: u64 = 0;
     for j in 0..t.count() {
         let member = t.member(j);
-        let unused = sheet_output::gap(before, u64::from(member.offset));
-        if 0 < unused {
-            put_gap(out, before, unused);
+        if let Some(unused) = Unused::between(before, u64::from(member.offset)) {
+            put_gap(out, unused);
         }
         put_member(out, member);
         before = before.max(end_of(member));
     }
-    let unused = sheet_output::gap(before, end);
-    if 0 < unused {
-        put_gap(out, before, unused);
+    if let Some(unused) = end.and_then(|end| Unused::between(before, end)) {
+        put_gap(out, unused);
     }
 }
 

@@ -1,1 +1,4 @@
 pub mod Names
+pub mod Row
+pub mod Counts
+pub mod Runtime

@@ -1,57 +1,46 @@
-// The names of structs and members, as parts of the text or of the module's bytes. Two words an entry: where a name starts and where it ends.
-// First the types by number, then the member rows; an entry that starts where it ends is no name.
+// The sheet that is written, type by type and member by member, and the names of its structs and members: where they stand in the text or in the
+// module's bytes.
 #![tactic(auto)]
 
-ghost use Rattle.std.specs.Prelude.{◌≡◌, ◌+◌, ◌-◌, ◌*◌, ◌<◌, length, slice_index, eqb};
-ghost use Rattle.std.specs.Iterator.{at_most};
-ghost use Rattle.ir_records.specs.Record.{type_word, struct_kind, struct_members, member_type, member_offset};
+ghost use Rattle.std.specs.Prelude.{◌≡◌, ◌+◌, get_or, eqb, MatchOption, None, true, false};
+ghost use Rattle.ir_records.specs.Record.{type_word, type_inner, array_kind, struct_kind, struct_members, member_type, member_offset};
 ghost use Rattle.ir_rows.specs.Rows.{row_word};
-ghost use Rattle.sheet_names.specs.Names.{member_entry, part_of, name_at, member_name, after_instruction};
+ghost use Rattle.valid_flags.specs.Flags.{bit, sized_bit, host_shareable_bit};
+ghost use Rattle.sheet_names.specs.Names.{type_place, member_place, name_at, type_name, member_name, NameIs};
+ghost use Rattle.sheet_names.specs.Counts.{carried_in, wasted_in, is_counted};
+ghost use Rattle.sheet_names.specs.Row.{may_be_immediate, is_usable};
+ghost use Rattle.sheet_names.specs.Runtime.{is_runtime};
 
 use immediates_ranges::Slots;
+use ir_records::{Kind, TypeInner};
+use program_words::Span;
+use spirv_words::Instructions;
 use wgsl_tokens::Lexed;
 
-// Words of the table: 1,024 types and 4,096 member rows.
-pub const WORDS: usize = 10240;
-
-const MEMBERS_AT: usize = 2048;
-
-const MOST_TYPES: u32 = 1024;
-
-const MOST_MEMBERS: usize = 4096;
+const MOST_TYPES: u32 = ir_records::MOST_TYPES as u32;
 
 const OP_NAME: u32 = 5;
 
 const OP_MEMBER_NAME: u32 = 6;
 
-// Where a name or a word of a text stands.
-#[derive(Clone, Copy, Debug, PartialEq, Eq)]
-struct Span {
-    start: usize,
-    end: usize,
+/// Where the names of the types stand, and those of the member rows. It is not Copy: a copy of so large a table would be a mistake.
+#[derive(Debug, PartialEq, Eq, Drop)]
+pub struct NameTable {
+    pub types: [Option<Span>; 1024],
+    pub members: [Option<Span>; 4096],
 }
 
-// The walk over the tokens of a text: where it goes on, the last word, whether that is `struct`, and which struct and member row come next.
-#[derive(Clone, Copy, Debug, PartialEq, Eq)]
-struct Walk {
-    at: usize,
-    last: Span,
-    after_struct: bool,
-    ty: u32,
-    row: u32,
-}
-
-/// What a sheet is made of: type and member records, the names of both as parts of a text or of a module's bytes, and what is counted of
-/// accepted records: their rows, the bytes carried and wasted of each type, and its slots.
+/// What a sheet is made of: type and member records, the names of both in a text or in a module's bytes, and what is counted of accepted records:
+/// their rows, the bytes carried and wasted of each type, and its slots where it has them.
 #[derive(Clone, Copy, Debug, PartialEq, Eq)]
 pub struct Sheet<'a> {
     pub text: &'a [u8],
-    pub names: &'a [usize],
+    pub names: &'a NameTable,
     pub types: &'a [u32],
     pub members: &'a [u32],
     pub rows: &'a [u32],
     pub report: &'a [u64],
-    pub slots: &'a [Slots],
+    pub slots: &'a [Option<Slots>],
 }
 
 /// Type i of a sheet.
@@ -62,6 +51,7 @@ pub struct Type<'a> {
 }
 
 /// Member j of a struct of a sheet, its type and its offset.
+// Kept: a view of one member; that of ir_member_words is the four words of a record.
 #[derive(Clone, Copy, Debug, PartialEq, Eq)]
 pub struct Member<'a> {
     pub of: Type<'a>,
@@ -76,105 +66,89 @@ pub struct Module<'a> {
     pub words: &'a [u32],
     pub bytes: &'a [u8],
     pub types: &'a [u32],
-    pub places: &'a [usize],
+    pub places: &'a [Option<usize>],
 }
 
-// An instruction: its number, where it stands, and where the one after it does.
-#[derive(Clone, Copy, Debug, PartialEq, Eq)]
-struct Instruction {
-    op: u32,
+// The walk over the tokens of a text: where it goes on, the last word, whether `struct` was the last token, and which struct and member row come next.
+#[derive(Drop)]
+struct Walk<'a> {
+    text: &'a [u8],
+    types: &'a [u32],
+    names: NameTable,
     at: usize,
-    next: usize,
+    last: Option<Span>,
+    after_struct: bool,
+    ty: u32,
+    row: u32,
 }
 
-// The instructions of a module from a word on.
-#[derive(Clone, Copy, Debug, PartialEq, Eq, Drop)]
-struct Instructions<'a> {
-    words: &'a [u32],
-    at: usize,
-}
-
-pub fn type_entry(i: u32) -> usize
-    ensures { result ≡ i * 2 }
-{
-    (i as usize) * 2
-}
-
-pub fn member_entry(row: usize) -> usize
-    ensures { result ≡ member_entry row }
-{
-    if row < MOST_MEMBERS {
-        MEMBERS_AT + row * 2
-    } else {
-        WORDS
-    }
-}
-
-// The row of member j of struct i.
-pub fn member_row(types: &[u32], i: u32, j: u32) -> usize
+// Where the row of member j of struct i stands among all rows.
+fn member_row(types: &[u32], i: u32, j: u32) -> usize
     ensures { result ≡ type_word types.now i 1 + j }
 {
     let first = ir_records::type_word(types, i, 1);
     (first as usize) + (j as usize)
 }
 
-fn entry_word(names: &[usize], at: usize) -> usize
-    ensures { result ≡ slice_index names.now at }
-{
-    names.get(at).copied().unwrap_or(0)
-}
-
-// Where the name of an entry starts.
-pub fn start_of(names: &[usize], entry: usize) -> usize
-    ensures { result ≡ slice_index names.now entry }
-{
-    entry_word(names, entry)
-}
-
-// Where it ends.
-fn end_of(names: &[usize], entry: usize) -> usize
-    ensures { result ≡ slice_index names.now (entry + 1) }
-{
-    if entry < names.len() {
-        return entry_word(names, entry + 1);
+impl NameTable {
+    fn new() -> NameTable {
+        NameTable {
+            types: [None; 1024],
+            members: [None; 4096],
+        }
     }
-    0
 }
 
-// The bytes from start up to end; none where that is no part of the text.
-fn part(text: &[u8], start: usize, end: usize) -> &[u8]
-    ensures { result.now ≡ part_of text.now start end }
-{
-    text.get(start..end).unwrap_or(&text[..0])
-}
-
-pub fn name_at<'a>(text: &'a [u8], names: &[usize], entry: usize) -> &'a [u8]
-    ensures { result.now ≡ name_at text.now names.now entry }
-{
-    let start = entry_word(names, entry);
-    let end = end_of(names, entry);
-    part(text, start, end)
+// Keeps where a name stands, where the table has a place for it.
+fn put_place(places: &mut [Option<Span>], at: usize, name: Span) {
+    if let Some(place) = places.get_mut(at) {
+        *place = Some(name);
+    }
 }
 
 impl<'a> Sheet<'a> {
+    /// Records and their names, of which nothing is counted yet.
+    pub fn of(
+        text: &'a [u8],
+        names: &'a NameTable,
+        types: &'a [u32],
+        members: &'a [u32],
+    ) -> Sheet<'a> {
+        Sheet {
+            text,
+            names,
+            types,
+            members,
+            rows: &[],
+            report: &[],
+            slots: &[],
+        }
+    }
+
     pub fn type_at(self, i: u32) -> Type<'a>
         ensures sheet { result.sheet ≡ self.entry }
         ensures i { result.i ≡ i }
     {
         Type { sheet: self, i }
     }
+
+    // The name that stands there.
+    fn name_at(self, place: Option<Span>) -> Option<&'a [u8]>
+        ensures { NameIs (name_at self.entry.text.now place) result }
+    {
+        let place = place?;
+        self.text.get(place.start..place.end)
+    }
 }
 
 impl<'a> Type<'a> {
     /// Another type of the sheet.
+    // Kept: one field is another and the rest stays, as in other structs; no more is alike.
     pub fn other(self, i: u32) -> Type<'a>
         ensures sheet { result.sheet ≡ self.entry.sheet }
         ensures i { result.i ≡ i }
     {
-        Type {
-            sheet: self.sheet,
-            i,
-        }
+        Type { i, ..self }
     }
 
     /// Word k of its record.
@@ -184,10 +158,49 @@ impl<'a> Type<'a> {
         ir_records::type_word(self.sheet.types, self.i, k)
     }
 
+    /// What its record says.
+    pub fn inner(self) -> TypeInner
+        ensures { result ≡ type_inner self.entry.sheet.types.now self.entry.i }
+    {
+        ir_records::type_inner(self.sheet.types, self.i)
+    }
+
+    // Kept: the tests of two kinds, each under its name, which callers ask for by it.
     pub fn is_struct(self) -> bool
         ensures { result ≡ eqb (type_word self.entry.sheet.types.now self.entry.i 0) struct_kind }
     {
-        self.word(0) == ir_records::STRUCT_KIND
+        ir_records::is_of_kind(self.sheet.types, self.i, Kind::Struct)
+    }
+
+    pub fn is_array(self) -> bool
+        ensures { result ≡ eqb (type_word self.entry.sheet.types.now self.entry.i 0) array_kind }
+    {
+        ir_records::is_of_kind(self.sheet.types, self.i, Kind::Array)
+    }
+
+    /// The type of its elements, where it is an array.
+    pub fn element(self) -> Option<Type<'a>>
+        ensures { MatchOption result (eqb (type_word self.entry.sheet.types.now self.entry.i 0) array_kind ≡ false) (λ e. (eqb (type_word self.entry.sheet.types.now self.entry.i 0) array_kind ≡ true) × (e.sheet ≡ self.entry.sheet) × (e.i ≡ type_word self.entry.sheet.types.now self.entry.i 1)) }
+    {
+        if self.is_array() {
+            Some(self.other(self.word(1)))
+        } else {
+            None
+        }
+    }
+
+    /// How far apart its elements lie as an array.
+    pub fn stride(self) -> u32
+        ensures { result ≡ type_word self.entry.sheet.types.now self.entry.i 4 }
+    {
+        self.word(4)
+    }
+
+    /// Whether it is an array without a count.
+    pub fn is_runtime(self) -> bool
+        ensures { result ≡ is_runtime (type_inner self.entry.sheet.types.now self.entry.i) }
+    {
+        matches!(self.inner(), TypeInner::RuntimeArray { .. })
     }
 
     /// How many members it has as a struct.
@@ -197,6 +210,7 @@ impl<'a> Type<'a> {
         self.word(2)
     }
 
+    // Kept: this and the next two read one word each; each says under a name which.
     pub fn size(self) -> u32
         ensures { result ≡ row_word self.entry.sheet.rows.now self.entry.i 0 }
     {
@@ -209,21 +223,104 @@ impl<'a> Type<'a> {
         ir_rows::row_word(self.sheet.rows, self.i, 1)
     }
 
-    pub fn name(self) -> &'a [u8]
-        ensures { result.now ≡ name_at self.entry.sheet.text.now self.entry.sheet.names.now (self.entry.i * 2) }
+    fn flags(self) -> u32
+        ensures { result ≡ row_word self.entry.sheet.rows.now self.entry.i 2 }
     {
-        name_at(self.sheet.text, self.sheet.names, type_entry(self.i))
+        ir_rows::row_word(self.sheet.rows, self.i, 2)
+    }
+
+    /// Whether it is host-shareable.
+    pub fn is_shareable(self) -> bool
+        ensures { result ≡ bit (row_word self.entry.sheet.rows.now self.entry.i 2) host_shareable_bit }
+    {
+        valid_flags::is_host_shareable(self.flags())
+    }
+
+    pub fn is_sized(self) -> bool
+        ensures { result ≡ bit (row_word self.entry.sheet.rows.now self.entry.i 2) sized_bit }
+    {
+        valid_flags::is_sized(self.flags())
+    }
+
+    /// Whether it may stand in immediates as a struct: it is host-shareable and sized, and its immediates word is 0.
+    pub fn may_be_immediate(self) -> bool
+        ensures { result ≡ may_be_immediate self.entry.sheet.rows.now self.entry.i }
+    {
+        let word = ir_rows::row_word(self.sheet.rows, self.i, 13);
+        self.is_shareable() & self.is_sized() & (word == 0)
+    }
+
+    /// Whether a host may fill a storage buffer with it: it is host-shareable and its storage verdict is Ok.
+    pub fn is_usable(self) -> bool
+        ensures { result ≡ is_usable self.entry.sheet.rows.now self.entry.i }
+    {
+        let verdict = ir_rows::row_word(self.sheet.rows, self.i, 8);
+        self.is_shareable() & (verdict == 0)
+    }
+
+    /// Its bytes that carry data, as the report counts them.
+    pub fn carried(self) -> u64
+        ensures { result ≡ carried_in self.entry.sheet.report.now self.entry.i }
+    {
+        ir_records::item_or(self.sheet.report, (self.i as usize) * 2, 0)
+    }
+
+    /// Its other bytes.
+    pub fn wasted(self) -> u64
+        ensures { result ≡ wasted_in self.entry.sheet.report.now self.entry.i }
+    {
+        ir_records::item_or(self.sheet.report, (self.i as usize) * 2 + 1, 0)
+    }
+
+    /// Whether its bytes were counted: both counts make up its size, and it is host-shareable.
+    pub fn is_counted(self) -> bool
+        ensures { result ≡ is_counted self.entry.sheet.rows.now self.entry.sheet.report.now self.entry.i }
+    {
+        let size = u64::from(self.size());
+        let carried = self.carried();
+        if size < carried {
+            return false;
+        }
+        (self.wasted() == size - carried) & self.is_shareable()
+    }
+
+    /// Its slots, where it may be an immediate.
+    pub fn slots(self) -> Option<Slots>
+        ensures { result ≡ get_or self.entry.sheet.slots.now self.entry.i None }
+    {
+        ir_records::item_or(self.sheet.slots, self.i as usize, None)
+    }
+
+    /// Where its name stands.
+    pub fn place(self) -> Option<Span>
+        ensures { result ≡ type_place self.entry.sheet.names.now self.entry.i }
+    {
+        ir_records::item_or(&self.sheet.names.types, self.i as usize, None)
+    }
+
+    pub fn name(self) -> Option<&'a [u8]>
+        ensures { NameIs (type_name self.entry.sheet.text.now self.entry.sheet.names.now self.entry.i) result }
+    {
+        self.sheet.name_at(self.place())
+    }
+
+    /// Where the name of its member j stands.
+    fn member_place(self, j: u32) -> Option<Span>
+        ensures { result ≡ member_place self.entry.sheet.names.now self.entry.sheet.types.now self.entry.i j }
+    {
+        let row = member_row(self.sheet.types, self.i, j);
+        ir_records::item_or(&self.sheet.names.members, row, None)
     }
 
     /// The name of its member j.
-    pub fn member_name(self, j: u32) -> &'a [u8]
-        ensures { result.now ≡ member_name self.entry.sheet.text.now self.entry.sheet.names.now self.entry.sheet.types.now self.entry.i j }
+    pub fn member_name(self, j: u32) -> Option<&'a [u8]>
+        ensures { NameIs (member_name self.entry.sheet.text.now self.entry.sheet.names.now self.entry.sheet.types.now self.entry.i j) result }
     {
-        let row = member_row(self.sheet.types, self.i, j);
-        name_at(self.sheet.text, self.sheet.names, member_entry(row))
+        self.sheet.name_at(self.member_place(j))
     }
 
     /// Its member j; of type 0 and at offset 0 where it has none.
+    // Kept: most callers count j below `count`, and an Option would be taken apart in each of their loops, where it is never None.
     pub fn member(self, j: u32) -> Member<'a>
         ensures of { result.of ≡ self.entry }
         ensures j { result.j ≡ j }
@@ -239,13 +336,12 @@ impl<'a> Type<'a> {
         }
     }
 
-    /// Its last member; the first where it has none.
-    pub fn last_member(self) -> Member<'a>
-        ensures of { result.of ≡ self.entry }
-        ensures j { result.j ≡ type_word self.entry.sheet.types.now self.entry.i 2 - 1 }
-        ensures ty { result.ty ≡ member_type (struct_members self.entry.sheet.types.now self.entry.sheet.members.now self.entry.i) (type_word self.entry.sheet.types.now self.entry.i 2 - 1) }
+    /// Its last member.
+    pub fn last_member(self) -> Option<Member<'a>>
+        ensures { MatchOption result (type_word self.entry.sheet.types.now self.entry.i 2 ≡ 0) (λ m. (m.of ≡ self.entry) × (m.j + 1 ≡ type_word self.entry.sheet.types.now self.entry.i 2) × (m.ty ≡ member_type (struct_members self.entry.sheet.types.now self.entry.sheet.members.now self.entry.i) m.j)) }
     {
-        self.member(self.count().saturating_sub(1))
+        let last = self.count().checked_sub(1)?;
+        Some(self.member(last))
     }
 }
 
@@ -258,227 +354,186 @@ impl<'a> Member<'a> {
         self.of.other(self.ty)
     }
 
-    pub fn name(self) -> &'a [u8]
-        ensures { result.now ≡ member_name self.entry.of.sheet.text.now self.entry.of.sheet.names.now self.entry.of.sheet.types.now self.entry.of.i self.entry.j }
+    /// Where its name stands.
+    pub fn place(self) -> Option<Span>
+        ensures { result ≡ member_place self.entry.of.sheet.names.now self.entry.of.sheet.types.now self.entry.of.i self.entry.j }
+    {
+        self.of.member_place(self.j)
+    }
+
+    pub fn name(self) -> Option<&'a [u8]>
+        ensures { NameIs (member_name self.entry.of.sheet.text.now self.entry.of.sheet.names.now self.entry.of.sheet.types.now self.entry.of.i self.entry.j) result }
     {
         self.of.member_name(self.j)
     }
 }
 
-// Writes a word of a table that has it.
-fn put_word(table: &mut [usize], at: usize, word: usize) {
-    if let Some(place) = table.get_mut(at) {
-        *place = word;
-    }
-}
-
-fn put_entry(names: &mut [usize], entry: usize, name: Span) {
-    put_word(names, entry, name.start);
-    put_word(names, std::num::wrapping_add_usize(entry, 1), name.end);
-}
-
 // The first struct from a type on.
 fn struct_from(types: &[u32], from: u32) -> Option<u32> {
-    (from..MOST_TYPES).find(|i| ir_records::type_word(types, *i, 0) == ir_records::STRUCT_KIND)
+    (from..MOST_TYPES).find(|i| ir_records::is_of_kind(types, *i, Kind::Struct))
 }
 
-impl Walk {
-    // After a word that stands there; the next struct is the one after type `ty`.
-    fn after_word(self, text: &[u8], word: Span, ty: u32) -> Walk {
+impl<'a> Walk<'a> {
+    fn new(text: &'a [u8], types: &'a [u32]) -> Walk<'a> {
         Walk {
-            at: word.end,
-            last: word,
-            after_struct: part(text, word.start, word.end) == b"struct".as_slice(),
-            ty,
-            row: self.row,
-        }
-    }
-
-    // After anything else, up to `at`.
-    fn after_other(self, at: usize) -> Walk {
-        Walk {
-            at,
+            text,
+            types,
+            names: NameTable::new(),
+            at: 0,
+            last: None,
             after_struct: false,
-            ..self
+            ty: 0,
+            row: 0,
         }
     }
 
-    // After a colon, whose member row is passed.
-    fn after_colon(self, at: usize) -> Walk {
-        Walk {
-            row: std::num::wrapping_add_u32(self.row, 1),
-            ..self.after_other(at)
+    // A word after `struct` is the name of the next struct.
+    fn name_struct(&mut self, word: Span) {
+        if let Some(ty) = struct_from(self.types, self.ty) {
+            put_place(&mut self.names.types, ty as usize, word);
+            self.ty = ty.wrapping_add(1);
+        }
+    }
+
+    // Any word may be a member's name.
+    fn pass_word(&mut self, word: Span) {
+        if self.after_struct {
+            self.name_struct(word);
+        }
+        self.after_struct = self.text.get(word.start..word.end) == Some(b"struct");
+        self.last = Some(word);
+        self.at = word.end;
+    }
+
+    fn pass_other(&mut self, end: usize) {
+        self.after_struct = false;
+        self.at = end;
+    }
+
+    // The word before a colon is the name of the next member.
+    fn name_member(&mut self) {
+        if let Some(name) = self.last {
+            put_place(&mut self.names.members, self.row as usize, name);
+        }
+        self.row = self.row.wrapping_add(1);
+    }
+
+    // A colon stands after the name of a member, and nowhere else.
+    fn pass_mark(&mut self, byte: u8, end: usize) {
+        if byte == b':' {
+            self.name_member();
+        }
+        self.pass_other(end);
+    }
+
+    fn pass_token(&mut self, token: Lexed) {
+        match token {
+            Lexed::Word { start, end } => self.pass_word(Span { start, end }),
+            Lexed::Mark { byte, end } => self.pass_mark(byte, end),
+            Lexed::Number { .. } | Lexed::Large(_) => self.pass_other(token.end()),
         }
     }
 }
 
-// After `struct` a word is the struct's name; any word may be a member's.
-fn after_word(text: &[u8], types: &[u32], names: &mut [usize], w: Walk, word: Span) -> Walk {
-    if w.after_struct {
-        if let Some(ty) = struct_from(types, w.ty) {
-            put_entry(names, type_entry(ty), word);
-            return w.after_word(text, word, std::num::wrapping_add_u32(ty, 1));
-        }
-    }
-    w.after_word(text, word, w.ty)
-}
-
-// A colon stands after the name of a member, and nowhere else.
-fn after_mark(names: &mut [usize], w: Walk, byte: u8, end: usize) -> Walk {
-    if byte == b':' {
-        put_entry(names, member_entry(w.row as usize), w.last);
-        return w.after_colon(end);
-    }
-    w.after_other(end)
-}
-
-fn after_token(text: &[u8], types: &[u32], names: &mut [usize], w: Walk) -> Walk {
-    match wgsl_tokens::next_token(text, w.at) {
-        Lexed::Word { start, end } => after_word(text, types, names, w, Span { start, end }),
-        Lexed::Mark { byte, end } => after_mark(names, w, byte, end),
-        Lexed::Number { value: _, end } => w.after_other(end),
-        Lexed::Large(end) => w.after_other(end),
-        Lexed::Bad | Lexed::End => w.after_other(text.len()),
-    }
-}
-
-// The names of a text that was read into these records.
-pub fn from_text(text: &[u8], types: &[u32], names: &mut [usize]) {
-    let mut w = Walk {
-        at: 0,
-        last: Span { start: 0, end: 0 },
-        after_struct: false,
-        ty: 0,
-        row: 0,
-    };
+/// The names of a text that was read into these type records.
+pub fn from_text(text: &[u8], types: &[u32]) -> NameTable {
+    let mut walk = Walk::new(text, types);
+    // A token has a byte at least.
     for _ in 0..text.len() {
-        w = after_token(text, types, names, w);
-        if text.len() <= w.at {
-            return;
-        }
+        let Ok(Some(token)) = wgsl_tokens::next_token(text, walk.at) else {
+            break;
+        };
+        walk.pass_token(token);
+    }
+    walk.names
+}
+
+// The places of all instructions of a module.
+fn instructions(words: &[u32]) -> Instructions {
+    Instructions {
+        words,
+        at: spirv_words::HEADER_WORDS,
+        end: words.len(),
     }
 }
 
-// Where the instruction after the one at `at` starts; past the words where its count is 0.
-pub fn after_instruction(words: &[u32], at: usize) -> usize
-    requires { at < length words.now }
-    ensures { (result ≡ after_instruction words.now at) × (at < result) }
-{
-    let count = spirv_words::word_count(words, at);
-    if count == 0 {
-        return words.len();
+/// Where the instruction of each type record stands, where there is one.
+pub fn type_places(words: &[u32]) -> [Option<usize>; 1024] {
+    let mut places = [None; 1024];
+    let types = instructions(words).filter(|at| spirv_ids::is_read(spirv_words::opcode_of(
+        words, *at,
+    )));
+    for (place, at) in places.iter_mut().zip(types) {
+        *place = Some(at);
     }
-    at + count
-}
-
-impl<'a> Instructions<'a> {
-    // All of a module.
-    fn of(words: &'a [u32]) -> Instructions<'a> {
-        Instructions {
-            words,
-            at: spirv_words::HEADER_WORDS,
-        }
-    }
-}
-
-impl<'a> Iterator for Instructions<'a> {
-    type Item = Instruction;
-
-    ghost remaining = { λ s. at_most (length s.words.now - s.at) };
-
-    fn next(&mut self) -> Option<Instruction> {
-        let at = self.at;
-        if self.words.len() <= at {
-            return None;
-        }
-        let next = after_instruction(self.words, at);
-        let op = spirv_words::opcode_of(self.words, at);
-        self.at = next;
-        Some(Instruction { op, at, next })
-    }
-}
-
-// Where the instruction of each type record stands.
-pub fn type_places(words: &[u32], places: &mut [usize]) {
-    let mut n: usize = 0;
-    for instruction in Instructions::of(words) {
-        if spirv_ids::is_read(instruction.op) {
-            put_word(places, n, instruction.at);
-            n = std::num::wrapping_add_usize(n, 1);
-        }
-    }
-}
-
-// So many words after a place; 0 past the words.
-fn word_after(words: &[u32], place: usize, k: usize) -> u32 {
-    ir_records::word_at(words, std::num::wrapping_add_usize(place, k))
-}
-
-// Where a string of the module's bytes ends: before a NUL, or at the limit.
-fn string_end(bytes: &[u8], start: usize, limit: usize) -> usize {
-    (start..limit)
-        .find(|i| wgsl_tokens::byte_at(bytes, *i) == 0)
-        .unwrap_or(limit.max(start))
+    places
 }
 
 impl<'a> Module<'a> {
-    // The type that an id names.
-    fn type_of(self, id: u32) -> Option<u32> {
-        for i in 0..MOST_TYPES {
-            let place = entry_word(self.places, i as usize);
-            let named = word_after(self.words, place, 1) == id;
-            if (0 < place) & named {
-                return Some(i);
-            }
-        }
-        None
+    // The type that word k of an instruction names.
+    fn type_of(self, at: usize, k: usize) -> Option<u32> {
+        let id = spirv_words::word_of(self.words, at, k);
+        (0..MOST_TYPES).find(|i| {
+            let place = ir_records::item_or(self.places, *i as usize, None);
+            place.is_some_and(|given| spirv_words::word_of(self.words, given, 1) == id)
+        })
     }
 
-    // The string from one word up to another, as the name of an entry.
-    fn put_string(self, names: &mut [usize], entry: usize, from: usize, next: usize) {
-        if (next <= self.bytes.len() / 4) && (from < next) {
-            let start = from * 4;
-            let end = string_end(self.bytes, start, next * 4);
-            put_entry(names, entry, Span { start, end });
+    // Where the string of an instruction stands, from its word k on and up to a NUL.
+    fn string_of(self, at: usize, k: usize) -> Option<Span> {
+        let start = at.checked_add(k)?.checked_mul(4)?;
+        let next = at.checked_add(spirv_words::word_count(self.words, at))?;
+        let words = self.bytes.get(start..next.checked_mul(4)?)?;
+        if words.is_empty() {
+            return None;
         }
+        let length = words.iter().position(|b| *b == 0).unwrap_or(words.len());
+        Some(Span {
+            start,
+            end: start + length,
+        })
     }
 
     // OpName: the string stands after the id.
-    fn name_type(self, names: &mut [usize], name: Instruction) {
-        if let Some(i) = self.type_of(word_after(self.words, name.at, 1)) {
-            let from = std::num::wrapping_add_usize(name.at, 2);
-            self.put_string(names, type_entry(i), from, name.next);
-        }
+    fn type_named(self, at: usize) -> Option<(u32, Span)> {
+        let i = self.type_of(at, 1)?;
+        Some((i, self.string_of(at, 2)?))
     }
 
-    // The entry of a member of a type, where it has that member.
-    fn entry_of(self, i: u32, j: u32) -> Option<usize> {
-        let kind = ir_records::type_word(self.types, i, 0);
+    // The row of a member of a type, where it has that member.
+    fn row_of(self, i: u32, j: u32) -> Option<usize> {
         let count = ir_records::type_word(self.types, i, 2);
-        if (kind == ir_records::STRUCT_KIND) & (j < count) {
-            return Some(member_entry(member_row(self.types, i, j)));
+        if ir_records::is_of_kind(self.types, i, Kind::Struct) & (j < count) {
+            return Some(member_row(self.types, i, j));
         }
         None
     }
 
     // OpMemberName: the string stands after the id and the member's number.
-    fn name_member(self, names: &mut [usize], name: Instruction) {
-        if let Some(i) = self.type_of(word_after(self.words, name.at, 1)) {
-            if let Some(entry) = self.entry_of(i, word_after(self.words, name.at, 2)) {
-                let from = std::num::wrapping_add_usize(name.at, 3);
-                self.put_string(names, entry, from, name.next);
-            }
-        }
+    fn row_named(self, at: usize) -> Option<(usize, Span)> {
+        let i = self.type_of(at, 1)?;
+        let row = self.row_of(i, spirv_words::word_of(self.words, at, 2))?;
+        Some((row, self.string_of(at, 3)?))
     }
 }
 
-// The names of a module that was read into these records: those of its OpName and OpMemberName.
-pub fn from_module(module: Module, names: &mut [usize]) {
-    for instruction in Instructions::of(module.words) {
-        match instruction.op {
-            OP_NAME => module.name_type(names, instruction),
-            OP_MEMBER_NAME => module.name_member(names, instruction),
+/// The names of a module that was read into these records: those of its OpName and OpMemberName.
+pub fn from_module(module: Module) -> NameTable {
+    let mut names = NameTable::new();
+    for at in instructions(module.words) {
+        match spirv_words::opcode_of(module.words, at) {
+            OP_NAME => {
+                if let Some((i, name)) = module.type_named(at) {
+                    put_place(&mut names.types, i as usize, name);
+                }
+            }
+            OP_MEMBER_NAME => {
+                if let Some((row, name)) = module.row_named(at) {
+                    put_place(&mut names.members, row, name);
+                }
+            }
             _ => {}
         }
     }
+    names
 }

@@ -1,36 +1,40 @@
 // What every form of the sheet is made of: texts and numbers in the buffer of the answers.
 #![tactic(auto)]
 
-ghost use Rattle.std.specs.Prelude.{◌≡◌, ◌+◌, ◌-◌, ◌≤◌};
+ghost use Rattle.std.specs.Prelude.{◌≡◌, ◌-◌, ◌≤◌, ◌<◌, length, MatchOption};
+ghost use Rattle.program_output.specs.Bytes.{decimal};
 
 use program_output::Output;
 
-// How far n lies below a width.
-pub fn missing(n: usize, width: usize) -> usize
-    ensures { result ≡ width - n }
-{
-    width.saturating_sub(n)
-}
-
-// The bytes from the end of one part to the start of the next; none where that starts before it.
+// How far a start lies past an end: the bytes between two parts, or the columns that a text leaves free; none where it lies before the end.
 pub fn gap(end: u64, start: u64) -> u64
     ensures { result ≡ start - end }
 {
     start.saturating_sub(end)
 }
 
-// Past the buffer.
-// Kept: a position, since this is how `Output` says that there was no room.
-const FULL: usize = 1114113;
+/// Bytes after a part that no part holds.
+#[derive(Clone, Copy, Debug, PartialEq, Eq)]
+pub struct Unused {
+    pub start: u64,
+    pub bytes: u64,
+}
 
-// Writes out what waits where there is no room for n more bytes: a sheet may be longer than the buffer. Once that fails nothing is written any more.
-fn make_room(out: &mut Output, n: usize)
-    ensures { out.old.end + n ≤ 1114112 → out.new ≡ out.old }
-{
-    let fits = (out.end <= out.bytes.len()) && (n <= out.bytes.len() - out.end);
-    if !fits && !out.write_out() {
-        out.end = FULL;
+impl Unused {
+    /// The bytes from the end of one part to the start of the next, where there are any.
+    pub fn between(end: u64, start: u64) -> Option<Unused>
+        ensures { MatchOption result (start ≤ end) (λ g. (g.start ≡ end) × (0 < g.bytes) × (g.bytes ≡ start - end)) }
+    {
+        let bytes = gap(end, start);
+        (0 < bytes).then_some(Unused { start: end, bytes })
     }
+}
+
+// How many digits a number has.
+pub fn digit_count(n: u64) -> usize
+    ensures { result ≡ length (decimal n) }
+{
+    io::decimal(n, &mut [0; 20])
 }
 
 /// Whether `<`, `>` and `&` are written as they are, or as a page has them.
@@ -59,7 +63,7 @@ impl<'a> Writer<'a> {
 
     /// Makes room for n more bytes.
     pub fn make_room(&mut self, n: usize) {
-        make_room(self.out, n);
+        self.out.make_room(n);
     }
 
     pub fn put_byte(&mut self, b: u8) {
@@ -71,12 +75,6 @@ impl<'a> Writer<'a> {
     pub fn put_text(&mut self, text: &[u8]) {
         self.make_room(text.len());
         self.out.put_text(text);
-    }
-
-    /// A line of a text whose lines are numbered from `first` on.
-    pub fn put_line_of(&mut self, text: &[u8], first: u32, number: u32) {
-        self.make_room(text.len());
-        self.out.put_line_of(text, first, number);
     }
 
     /// A number with nothing before it.
@@ -92,18 +90,22 @@ impl<'a> Writer<'a> {
         self.put_text(after);
     }
 
-    pub fn put_blanks(&mut self, n: usize) {
+    /// Two numbers between three texts.
+    pub fn put_two(&mut self, before: &[u8], n: u64, between: &[u8], m: u64, after: &[u8]) {
+        self.put_with(before, n, between);
+        self.put_with(b"", m, after);
+    }
+
+    pub fn put_blanks(&mut self, n: u64) {
         for _ in 0..n {
             self.put_byte(b' ');
         }
     }
 
     /// A number at the right of so many columns.
-    pub fn put_right(&mut self, width: usize, n: u64) {
-        let mut digits = [0u8; 20];
-        let k = io::decimal(n, &mut digits);
-        self.put_blanks(missing(k, width));
-        self.put_text(&digits[..k]);
+    pub fn put_right(&mut self, width: u64, n: u64) {
+        self.put_blanks(gap(digit_count(n) as u64, width));
+        self.put_number(n);
     }
 
     /// `<`, `>` or `&`, which a page writes in another way.

@@ -2,11 +2,10 @@
 #![tactic(auto)]
 
 use sheet_names::Member;
-use sheet_output::Writer;
+use sheet_output::{Unused, Writer};
 
-pub fn put_start(out: &mut Writer) {
-    out.put_text(
-        b"<!DOCTYPE html>
+/// What stands before the name of the file.
+pub const START: &[u8] = b"<!DOCTYPE html>
 <html lang=\"en\">
 <head>
 <meta charset=\"utf-8\">
@@ -35,27 +34,19 @@ table { border-collapse: collapse; width: 100%; margin: 0 0 1em; }
 </style>
 </head>
 <body>
-<h1>Layout sheet",
-    )
-}
+<h1>Layout sheet";
 
-pub fn put_end(out: &mut Writer) {
-    out.put_text(b"</body>\n</html>\n");
-}
+/// What stands after all.
+pub const END: &[u8] = b"</body>\n</html>\n";
 
-// Kept: alike the start of a C header in that each puts one text.
-pub fn put_table_head(out: &mut Writer) {
-    out.put_text(
-        b"</p>
+/// What stands between the facts of a struct and its members.
+pub const TABLE_HEAD: &[u8] = b"</p>
 <table class=\"members\">
 <tr><th class=\"n\">offset</th><th class=\"n\">size</th><th class=\"n\">align</th><th>member</th><th>type</th></tr>
-",
-    );
-}
+";
 
-pub fn put_table_end(out: &mut Writer) {
-    out.put_text(b"</table>\n");
-}
+/// What stands after the members.
+pub const TABLE_END: &[u8] = b"</table>\n";
 
 // A cell with a number.
 fn put_cell(out: &mut Writer, n: u64) {
@@ -63,10 +54,10 @@ fn put_cell(out: &mut Writer, n: u64) {
 }
 
 // Bytes between two members, or after the last one.
-pub fn put_gap(out: &mut Writer, start: u64, bytes: u64) {
+pub fn put_gap(out: &mut Writer, unused: Unused) {
     out.put_text(b"<tr>");
-    put_cell(out, start);
-    put_cell(out, bytes);
+    put_cell(out, unused.start);
+    put_cell(out, unused.bytes);
     out.put_text(b"<td></td><td class=\"gap\"></td><td>unused</td></tr>\n");
 }
 

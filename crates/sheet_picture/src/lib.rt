@@ -9,21 +9,14 @@ const MOST_DRAWN: u64 = 4096;
 
 const ROW_BYTES: u64 = 16;
 
-pub fn put_head(out: &mut Writer) {
-    out.put_text(
-        b"<table class=\"bytes\">
+/// The start of a picture.
+pub const HEAD: &[u8] = b"<table class=\"bytes\">
 <tr><th>byte</th><th>0</th><th>1</th><th>2</th><th>3</th><th>4</th><th>5</th><th>6</th><th>7</th><th>8</th><th>9</th><th>10</th><th>11</th><th>12</th><th>13</th><th>14</th><th>15</th></tr>
-",
-    );
-}
+";
 
 // The member in whose leaf a byte of a struct lies, where it lies in one.
 fn drawn_as(t: Type, byte: u64) -> Option<u32> {
-    if sheet_bytes::in_leaf(t, byte) {
-        Some(sheet_bytes::holder(t, byte))
-    } else {
-        None
-    }
+    sheet_bytes::holder(t, byte).filter(|_| sheet_bytes::in_leaf(t, byte))
 }
 
 // A run of so many bytes: a member's name, or nothing where no leaf holds them.

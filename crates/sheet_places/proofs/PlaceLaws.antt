@@ -1,8 +1,7 @@
 -- The walk over instructions: what is left gives what the whole gives.
 -- Assumes nothing.
 use Rattle.std.proofs.Common.{◌≡◌, ℕ, suc, ◌-◌, ◌<◌, ◌≤◌, List, length, ap, ◌∙◌, arith, le-ltb, lt-ltb}
-use Rattle.sheet_names.specs.Names.{after_instruction}
-use Rattle.sheet_places.specs.Places.{place_from}
+use Rattle.sheet_places.specs.Places.{after_instruction, place_from}
 
 above_zero : (n : ℕ) → 0 < n → n ≡ suc (n - 1)
 above_zero n h = omega arith

@@ -1,10 +1,13 @@
 -- The layout sheet: a module cut before an instruction, and whether what is left is refused.
 -- Assumes nothing.
-use Rattle.std.specs.Prelude.{ℕ, zero, suc, Bool, true, false, List, length, take, nat_lt}
+use Rattle.std.specs.Prelude.{ℕ, zero, suc, Bool, true, false, List, length, take, ◌+◌, ◌==◌, nat_lt}
 use Rattle.ir_records.specs.Result.{pick}
-use Rattle.spirv_words.specs.Module.{header_words}
+use Rattle.spirv_words.specs.Module.{header_words, word_count}
 use Rattle.spirv_read.specs.Section.{Section, Read, Refused}
-use Rattle.sheet_names.specs.Names.{after_instruction}
+
+-- the instruction after the one at `at`: further by its word count, and where that is 0 the end of the words
+abbrev pub after_instruction : (ws : List ℕ) (at : ℕ) → ℕ
+after_instruction ws at = pick (word_count ws at == 0) (length ws) (at + word_count ws at)
 
 -- so many instructions after the one at `at`; past the words where there are fewer
 unfoldable pub place_from : (ws : List ℕ) (left at : ℕ) → ℕ

@@ -1,9 +1,7 @@
 // The program `sheet`: its arguments, the files that they name, and what is printed of each.
 #![tactic(auto)]
 
-ghost use Rattle.std.specs.Prelude.{◌≡◌, length};
-
-use program_files::ReadError;
+use program_files::Messages;
 use program_words::NumberError;
 use sheet_answers::Asked;
 use sheet_structs::Form;
@@ -11,53 +9,68 @@ use std::io::Read;
 use std::rt::{Env, Files};
 use valid_type_info::UniformRule;
 
-// What the arguments say so far: what is asked of a file, the next argument, whether an option has no file after it yet, whether a file was named.
+// Kept: as program_output's.
+const STDOUT: i32 = 1;
+
+// What the arguments say so far: what is asked of a file, the option whose value comes next, whether an option has no file after it yet, and whether a
+// file was named.
 #[derive(Clone, Copy, Debug, PartialEq, Eq)]
-pub struct Options {
-    pub asked: Asked,
-    pub next: usize,
-    pub open: bool,
-    pub files: bool,
+struct Options {
+    asked: Asked,
+    waits: Option<Valued>,
+    open: bool,
+    files: bool,
 }
 
-// What an argument is: a form, an option that takes the next argument, a file.
+// An option that takes the next argument.
+#[derive(Clone, Copy, Debug, PartialEq, Eq)]
+enum Valued {
+    Rule,
+    Capabilities,
+}
+
+// What an argument is: a form, an option that takes the next argument, a file, or one of no such kind.
 #[derive(Clone, Copy, Debug, PartialEq, Eq)]
 enum Argument {
     OfForm(Form),
-    Rule,
-    Capabilities,
+    WithValue(Valued),
     File,
     Help,
-    Unknown,
+    NoOption,
 }
 
-const STDOUT: i32 = 1;
-
-// 1,048,577 zeros: one more than a file may have bytes, so that a full buffer tells that there are more.
-fn no_bytes() -> [u8; 1048577]
-    ensures { 1048577 ≡ length result }
-{
-    [0; 1048577]
+// Why nothing more is answered.
+#[derive(Clone, Copy, Debug, PartialEq, Eq)]
+enum Stop {
+    Help,
+    NoOption,
+    NoRule,
+    NotANumber,
+    TooLarge,
 }
 
-fn answer_held(asked: Asked, name: &[u8], bytes: &[u8], held: Result<usize, ReadError>) {
-    match held {
-        Ok(n) => {
-            if let Some(read) = bytes.get(..n) {
-                sheet_answers::answer(asked, name, read);
-            }
+impl From<NumberError> for Stop {
+    fn from(error: NumberError) -> Stop {
+        match error {
+            NumberError::NotANumber => Stop::NotANumber,
+            NumberError::TooLarge => Stop::TooLarge,
         }
-        Err(ReadError::Long) => program_files::tell(
-            b"sheet: the input is longer than 1048576 bytes\n",
-        ),
-        Err(ReadError::Failed) => program_files::tell(b"sheet: the input cannot be read\n"),
     }
 }
 
-fn answer_open<S: Read>(asked: Asked, name: &[u8], source: &mut S) {
-    let mut bytes = no_bytes();
-    let held = program_files::read_all(source, &mut bytes);
-    answer_held(asked, name, &bytes, held);
+const UNREAD: Messages = Messages {
+    long: b"sheet: the input is longer than 1048576 bytes\n",
+    failed: b"sheet: the input cannot be read\n",
+};
+
+// Kept: as `program_files::answer_text`, which takes a closure: one that holds the name was tried, and the check takes no closure of two lifetimes
+// beside messages that are `'static`.
+fn answer_open<S: Read>(asked: Asked, name: Option<&[u8]>, source: &mut S) {
+    let mut bytes = program_files::filled::<u8, 1048577>(0);
+    match program_files::read_all(source, &mut bytes) {
+        Ok(held) => asked.answer(name, &bytes[..held]),
+        Err(error) => program_files::tell(UNREAD.of(error)),
+    }
 }
 
 // What is wrong with an argument.
@@ -69,7 +82,7 @@ fn tell_of(argument: &[u8], what: &[u8]) {
 
 fn answer_file<R: Files>(rt: &R, asked: Asked, name: &[u8]) {
     match program_files::open(rt, name) {
-        Some(mut file) => answer_open(asked, name, &mut file),
+        Some(mut file) => answer_open(asked, Some(name), &mut file),
         None => tell_of(name, b": the file cannot be opened\n"),
     }
 }
@@ -99,32 +112,11 @@ fn argument_of(word: &[u8]) -> Argument {
         b"--rust" => Argument::OfForm(Form::Rust),
         b"--html" => Argument::OfForm(Form::Page),
         b"--text" => Argument::OfForm(Form::Text),
-        b"--rule" => Argument::Rule,
-        b"--capabilities" => Argument::Capabilities,
+        b"--rule" => Argument::WithValue(Valued::Rule),
+        b"--capabilities" => Argument::WithValue(Valued::Capabilities),
         b"--help" => Argument::Help,
-        [b'-', ..] => Argument::Unknown,
+        [b'-', ..] => Argument::NoOption,
         _ => Argument::File,
-    }
-}
-
-impl Options {
-    // After an option that took so many arguments.
-    fn after_option(self, taken: usize, asked: Asked) -> Options {
-        Options {
-            asked,
-            next: std::num::wrapping_add_usize(self.next, taken),
-            open: true,
-            files: self.files,
-        }
-    }
-
-    fn after_file(self) -> Options {
-        Options {
-            asked: self.asked,
-            next: std::num::wrapping_add_usize(self.next, 1),
-            open: false,
-            files: true,
-        }
     }
 }
 
@@ -137,107 +129,120 @@ fn rule_of(name: &[u8]) -> Option<UniformRule> {
     }
 }
 
-// The rule that argument i names; none where it names none, and is told.
-fn rule_at<R: Env>(rt: &R, i: usize) -> Option<UniformRule> {
-    let mut word = io::buffer();
-    let n = program_files::argument(rt, i, &mut word);
-    let rule = rule_of(&word[..n]);
-    if rule.is_none() {
-        program_files::tell(b"sheet: --rule takes older or newer\n");
+impl Options {
+    // What is asked before any argument.
+    fn new() -> Options {
+        Options {
+            asked: Asked {
+                form: Form::Text,
+                rule: UniformRule::Older,
+                capabilities: 0,
+            },
+            waits: None,
+            open: false,
+            files: false,
+        }
     }
-    rule
+
+    // After the value of an option.
+    fn with_value(self, option: Valued, value: &[u8]) -> Result<Options, Stop> {
+        let asked = match option {
+            Valued::Rule => Asked {
+                rule: rule_of(value).ok_or(Stop::NoRule)?,
+                ..self.asked
+            },
+            Valued::Capabilities => Asked {
+                capabilities: program_words::number_of(value)?,
+                ..self.asked
+            },
+        };
+        Ok(Options {
+            asked,
+            waits: None,
+            ..self
+        })
+    }
+
+    // After an argument that is no value of an option. A file is answered.
+    fn with_argument<R: Files>(self, rt: &R, word: &[u8]) -> Result<Options, Stop> {
+        match argument_of(word) {
+            Argument::OfForm(form) => Ok(Options {
+                asked: Asked { form, ..self.asked },
+                open: true,
+                ..self
+            }),
+            Argument::WithValue(option) => Ok(Options {
+                waits: Some(option),
+                open: true,
+                ..self
+            }),
+            Argument::File => {
+                answer_file(rt, self.asked, word);
+                Ok(Options {
+                    open: false,
+                    files: true,
+                    ..self
+                })
+            }
+            Argument::Help => Err(Stop::Help),
+            Argument::NoOption => Err(Stop::NoOption),
+        }
+    }
+
+    // After the next argument.
+    fn with<R: Files>(self, rt: &R, word: &[u8]) -> Result<Options, Stop> {
+        match self.waits {
+            Some(option) => self.with_value(option, word),
+            None => self.with_argument(rt, word),
+        }
+    }
+
+    // After the last argument: standard input where no file was named; an option that no file follows is told.
+    fn finish<R: Input>(self, rt: &R) -> Result<(), Stop> {
+        if let Some(option) = self.waits {
+            self.with_value(option, b"")?;
+        }
+        if !self.files {
+            answer_open(self.asked, None, &mut rt.reader());
+        } else if self.open {
+            program_files::tell(
+                b"sheet: an option stands after the last file; options hold for the files after them\n",
+            );
+        }
+        Ok(())
+    }
 }
 
-// The capability word that argument i is; none where it is none, and is told.
-fn capabilities_at<R: Env>(rt: &R, i: usize) -> Option<u32> {
-    let mut word = io::buffer();
-    let n = program_files::argument(rt, i, &mut word);
-    match program_words::number_of(&word[..n]) {
-        Ok(capabilities) => Some(capabilities),
-        Err(NumberError::TooLarge) => {
-            program_files::tell(b"sheet: --capabilities takes a number of at most 4294967295\n");
-            None
+// Why nothing more is answered after an argument.
+fn tell_stop(argument: &[u8], stop: Stop) {
+    match stop {
+        Stop::Help => put_help(),
+        Stop::NoOption => tell_of(argument, b": no such option; see --help\n"),
+        Stop::NoRule => program_files::tell(b"sheet: --rule takes older or newer\n"),
+        Stop::NotANumber => {
+            program_files::tell(b"sheet: --capabilities takes a decimal number\n")
         }
-        Err(NumberError::NotANumber) => {
-            program_files::tell(b"sheet: --capabilities takes a decimal number\n");
-            None
-        }
+        Stop::TooLarge => program_files::tell(
+            b"sheet: --capabilities takes a number of at most 4294967295\n",
+        ),
     }
-}
-
-// One argument, and the one after it where an option takes that; none where nothing more is answered.
-fn answer_argument<R: Env + Files>(rt: &R, o: Options, word: &[u8]) -> Option<Options> {
-    let value = std::num::wrapping_add_usize(o.next, 1);
-    match argument_of(word) {
-        Argument::OfForm(form) => Some(o.after_option(1, Asked { form, ..o.asked })),
-        Argument::Rule => {
-            let rule = rule_at(rt, value)?;
-            Some(o.after_option(2, Asked { rule, ..o.asked }))
-        }
-        Argument::Capabilities => {
-            let capabilities = capabilities_at(rt, value)?;
-            Some(o.after_option(
-                2,
-                Asked {
-                    capabilities,
-                    ..o.asked
-                },
-            ))
-        }
-        Argument::File => {
-            answer_file(rt, o.asked, word);
-            Some(o.after_file())
-        }
-        Argument::Help => {
-            put_help();
-            None
-        }
-        Argument::Unknown => {
-            tell_of(word, b": no such option; see --help\n");
-            None
-        }
-    }
-}
-
-// After the last argument: standard input where no file was named; an option that no file follows is told.
-fn finish<R: Input>(rt: &R, o: Options) {
-    if !o.files {
-        answer_open(o.asked, b"", &mut rt.reader());
-    } else if o.open {
-        program_files::tell(
-            b"sheet: an option stands after the last file; options hold for the files after them\n",
-        );
-    }
-}
-
-// The next argument, or what is to do after the last one; none where nothing more is answered.
-fn step<R: Env + Files + Input>(rt: &R, o: Options, count: usize) -> Option<Options> {
-    if count <= o.next {
-        finish(rt, o);
-        return None;
-    }
-    let mut word = io::buffer();
-    let n = program_files::argument(rt, o.next, &mut word);
-    answer_argument(rt, o, &word[..n])
 }
 
 pub fn run<R: Env + Files + Input>(rt: &R) {
-    let count = program_files::argument_count(rt);
-    let mut options = Options {
-        asked: Asked {
-            form: Form::Text,
-            rule: UniformRule::Older,
-            capabilities: 0,
-        },
-        next: 1,
-        open: false,
-        files: false,
-    };
-    // Each step but the last passes an argument.
-    for _ in 0..=count {
-        match step(rt, options, count) {
-            Some(next) => options = next,
-            None => return,
+    let mut options = Options::new();
+    let mut buffer = io::buffer();
+    for i in 1..program_files::argument_count(rt) {
+        // An argument that is longer than any path names no file.
+        let word = program_files::argument(rt, i, &mut buffer).unwrap_or(b"");
+        match options.with(rt, word) {
+            Ok(next) => options = next,
+            Err(stop) => {
+                tell_stop(word, stop);
+                return;
+            }
         }
+    }
+    if let Err(stop) = options.finish(rt) {
+        tell_stop(b"", stop);
     }
 }

@@ -5,15 +5,16 @@ use ir_records::{Fault, Refusal};
 use sheet_names::{Member, Sheet, Type};
 use sheet_output::{Markup, Writer};
 
-const MOST_TYPES: u32 = 1024;
+const MOST_TYPES: u32 = ir_records::MOST_TYPES as u32;
 
-const MOST_MEMBERS: u32 = 4096;
+const MOST_MEMBERS: u32 = ir_records::MOST_MEMBERS as u32;
+
 // The longest message: a token of 1,048,576 bytes and what is said of it.
 const MESSAGE: usize = 1052672;
 
 // A refusal of a text.
 pub fn put_text(out: &mut Writer, text: &[u8], refusal: wgsl_grammar::Refusal) {
-    sheet_meanings::put_number(out, u32::from(refusal.fault));
+    sheet_meanings::put_fault(out, refusal.fault);
     out.put_text(b"  ");
     out.make_room(MESSAGE);
     wgsl_messages::put_message(out.out, text, refusal);
@@ -26,35 +27,26 @@ fn put_word(out: &mut Writer, words: &[u32], place: usize) {
         out.put_text(b"the header\n");
         return;
     }
-    sheet_meanings::put_instruction(out, ir_records::word_at(words, place) % 65536);
+    sheet_meanings::put_instruction(out, spirv_words::opcode_of(words, place));
 }
 
 // A refusal of a module.
-pub fn put_module(
-    out: &mut Writer,
-    words: &[u32],
-    types: &mut [u32],
-    members: &mut [u32],
-    fault: Fault,
-) {
-    sheet_meanings::put_number(out, u32::from(fault));
+pub fn put_module(out: &mut Writer, words: &[u32], fault: Fault) {
+    sheet_meanings::put_fault(out, fault);
     out.put_text(b"  ");
-    if sheet_places::is_refused(sheet_places::before(words, 0), types, members) {
+    if sheet_places::is_refused(sheet_places::before(words, 0)) {
         put_word(out, words, 0);
         return;
     }
-    put_word(
-        out,
-        words,
-        sheet_places::place_of(words, sheet_places::refused_at(words, types, members)),
-    );
+    let place = sheet_places::place_of(words, sheet_places::refused_at(words));
+    put_word(out, words, place);
 }
 
 // Whether a member row is one of a struct.
 fn has_row(t: Type, row: u32) -> bool {
     let first = u64::from(t.word(1));
     let end = first + u64::from(t.count());
-    t.is_struct() & (first <= u64::from(row)) & (u64::from(row) < end)
+    t.is_struct() & (first..end).contains(&u64::from(row))
 }
 
 // The member in whose type a type of a text stands: the first one whose type is not before it.
@@ -74,24 +66,28 @@ fn put_member(out: &mut Writer, member: Member) {
 fn put_place(out: &mut Writer, t: Type, member: Option<Member>) {
     out.put_text(b"  struct ");
     sheet_types::put_struct_name(out, t);
-    let entry = match member {
+    let place = match member {
         Some(member) => {
             put_member(out, member);
-            sheet_names::member_entry(sheet_names::member_row(t.sheet.types, t.i, member.j))
+            member.place()
         }
-        None => sheet_names::type_entry(t.i),
+        None => t.place(),
     };
-    put_position(
-        out,
-        t.sheet.text,
-        sheet_names::start_of(t.sheet.names, entry),
-    );
+    if let Some(name) = place {
+        put_position(out, t.sheet.text, name.start);
+    }
+    out.put_byte(b'\n');
 }
 
 fn put_position(out: &mut Writer, text: &[u8], byte: usize) {
     let p = wgsl_messages::line_and_column(text, byte);
-    out.put_with(b", line ", p.line as u64, b"");
-    out.put_with(b", column ", p.column as u64, b"\n");
+    out.put_two(
+        b", line ",
+        p.line as u64,
+        b", column ",
+        p.column as u64,
+        b"",
+    );
 }
 
 // Faults whose third word is a member: those of a struct's members.
@@ -110,11 +106,7 @@ fn names_member(fault: Fault) -> bool {
 
 // The member of the refused type that a refusal names, where it names one.
 fn named_member<'a>(t: Type<'a>, refusal: Refusal) -> Option<Member<'a>> {
-    if names_member(refusal.fault) {
-        Some(t.member(refusal.member))
-    } else {
-        None
-    }
+    names_member(refusal.fault).then(|| t.member(refusal.member))
 }
 
 // The type that is refused, in a text: the struct, or the member in whose type it stands.
@@ -128,20 +120,23 @@ fn put_in_text(out: &mut Writer, sheet: Sheet, refusal: Refusal) {
 }
 
 // The type that is refused, in a module: its instruction.
-fn put_in_module(out: &mut Writer, t: Type, words: &[u32], place: usize, refusal: Refusal) {
+fn put_in_module(out: &mut Writer, t: Type, words: &[u32], place: Option<usize>, refusal: Refusal) {
     out.put_text(b"  ");
     sheet_types::put_type(out, t);
     if let Some(member) = named_member(t, refusal) {
         put_member(out, member);
     }
     out.put_text(b", ");
-    put_word(out, words, place);
+    match place {
+        Some(place) => put_word(out, words, place),
+        None => out.put_byte(b'\n'),
+    }
 }
 
 // The number, its meaning, and the capability that is missing. A refusal is no part of a page, so what comes after it is plain text.
 fn put_arena_number(out: &mut Writer, refusal: Refusal) {
     out.markup = Markup::Plain;
-    sheet_meanings::put_number(out, u32::from(refusal.fault));
+    sheet_meanings::put_fault(out, refusal.fault);
     if refusal.fault == Fault::MissingCapability {
         out.put_text(b"  ");
         sheet_meanings::put_capability(out, refusal.detail);
@@ -161,7 +156,7 @@ pub fn put_module_arena(
     out: &mut Writer,
     sheet: Sheet,
     words: &[u32],
-    place: usize,
+    place: Option<usize>,
     refusal: Refusal,
 ) {
     put_arena_number(out, refusal);

@@ -2,26 +2,25 @@
 #![tactic(auto)]
 
 use ir_records::ScalarKind;
-use sheet_dimensions::Dimensions;
+use sheet_dimensions::{Base, Dimensions};
 use sheet_names::{Member, Type};
-use sheet_output::Writer;
+use sheet_output::{Unused, Writer};
 use sheet_types::Scalar;
+
+/// What stands before the first struct.
+pub const START: &[u8] =
+    b"// Made by sheet. The assertions hold where the host's structs are those of the kernel.\n";
 
 // The type of a scalar. A host has no f16: its bits are a u16.
 fn put_scalar(out: &mut Writer, scalar: Scalar) {
-    let bits = scalar.bits();
-    match ScalarKind::try_from(scalar.kind) {
-        Ok(ScalarKind::Sint) => out.put_with(b"i", bits, b""),
-        Ok(ScalarKind::Uint) => out.put_with(b"u", bits, b""),
-        _ if scalar.width == 2 => out.put_text(b"u16"),
-        _ => out.put_with(b"f", bits, b""),
+    match scalar {
+        Scalar {
+            kind: ScalarKind::Sint | ScalarKind::Uint,
+            ..
+        } => { sheet_types::put_scalar(out, scalar) }
+        Scalar { width: 2, .. } => out.put_text(b"u16"),
+        _ => out.put_with(b"f", scalar.bits(), b""),
     }
-}
-
-pub fn put_start(out: &mut Writer) {
-    out.put_text(
-        b"// Made by sheet. The assertions hold where the host's structs are those of the kernel.\n",
-    );
 }
 
 pub fn put_open(out: &mut Writer, t: Type) {
@@ -45,41 +44,40 @@ pub fn put_none(out: &mut Writer, t: Type) {
     );
 }
 
-pub fn put_gap(out: &mut Writer, start: u64, bytes: u64) {
-    out.put_with(b"    pub unused_at_", start, b": [u8; ");
-    out.put_with(b"", bytes, b"],\n");
+// Kept: one call with the texts of this form, as in the other forms.
+pub fn put_gap(out: &mut Writer, unused: Unused) {
+    out.put_two(
+        b"    pub unused_at_",
+        unused.start,
+        b": [u8; ",
+        unused.bytes,
+        b"],\n",
+    );
 }
 
 // The type inside the dimensions.
-fn put_base(out: &mut Writer, t: Type) {
-    if t.is_struct() {
-        sheet_identifiers::put_type(out, t);
-    } else {
-        put_scalar(out, sheet_dimensions::scalar_of(t));
+fn put_base(out: &mut Writer, base: Base) {
+    match base {
+        Base::Scalar(scalar) => put_scalar(out, scalar),
+        Base::Struct(t) => sheet_identifiers::put_type(out, t),
     }
 }
 
-fn put_dimension(out: &mut Writer, n: u64) {
-    out.put_with(b"; ", n.max(1), b"]");
-}
-
-// The dimensions from the innermost on. A runtime-sized array has its first element here.
-fn put_dimensions(out: &mut Writer, dimensions: Dimensions) {
+// The type of a member, its dimensions from the innermost on. A runtime-sized array has its first element here.
+fn put_dimensioned(out: &mut Writer, dimensions: Dimensions) {
+    for _ in dimensions.as_slice() {
+        out.put_byte(b'[');
+    }
+    put_base(out, dimensions.base);
     for n in dimensions.as_slice().iter().rev() {
-        put_dimension(out, *n);
+        out.put_with(b"; ", n.unwrap_or(1), b"]");
     }
 }
 
 // The type of a member.
 fn put_type(out: &mut Writer, t: Type) {
     match sheet_dimensions::of_type(t) {
-        Some(dimensions) => {
-            for _ in dimensions.as_slice() {
-                out.put_byte(b'[');
-            }
-            put_base(out, t.other(dimensions.base));
-            put_dimensions(out, dimensions);
-        }
+        Some(dimensions) => put_dimensioned(out, dimensions),
         None => out.put_with(b"[u8; ", u64::from(t.size()), b"]"),
     }
 }

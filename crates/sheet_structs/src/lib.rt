@@ -2,10 +2,10 @@
 #![tactic(auto)]
 
 use sheet_names::{Member, Sheet, Type};
-use sheet_output::Writer;
+use sheet_output::{Markup, Writer};
 use sheet_verdicts::Space;
 
-const MOST_TYPES: u32 = 1024;
+const MOST_TYPES: u32 = ir_records::MOST_TYPES as u32;
 
 /// What a sheet is written as.
 #[derive(Clone, Copy, Debug, PartialEq, Eq)]
@@ -25,14 +25,15 @@ fn put_facts(out: &mut Writer, t: Type, line: &[u8]) {
     out.put_text(line);
     out.put_text(b"uniform: ");
     sheet_verdicts::put_verdict(out, t, Space::Uniform);
-    if sheet_counts::is_counted(t.sheet.rows, t.sheet.report, t.i) {
+    if t.is_counted() {
         out.put_text(line);
-        out.put_with(
+        out.put_two(
             b"bytes: ",
-            sheet_counts::carried(t.sheet.report, t.i),
+            t.carried(),
             b" carried, ",
+            t.wasted(),
+            b" wasted",
         );
-        out.put_with(b"", sheet_counts::wasted(t.sheet.report, t.i), b" wasted");
     }
     out.put_text(line);
     out.put_text(b"immediates: ");
@@ -50,7 +51,7 @@ fn put_text(out: &mut Writer, t: Type) {
     sheet_lines::put_lines(
         out,
         t,
-        u64::from(t.size()),
+        Some(u64::from(t.size())),
         sheet_table::put_gap,
         |out: &mut Writer, member: Member| sheet_table::put_member(out, member, width),
     );
@@ -58,7 +59,7 @@ fn put_text(out: &mut Writer, t: Type) {
 }
 
 fn put_c(out: &mut Writer, t: Type) {
-    if !sheet_verdicts::is_usable(t.sheet.rows, t.i) {
+    if !t.is_usable() {
         sheet_c::put_none(out, t);
         return;
     }
@@ -70,13 +71,13 @@ fn put_c(out: &mut Writer, t: Type) {
         sheet_c::put_gap,
         sheet_c::put_member,
     );
-    sheet_c::put_close(out);
+    out.put_text(sheet_c::CLOSE);
     sheet_lines::put_each(out, t, sheet_c::put_offset);
     sheet_c::put_end(out, t);
 }
 
 fn put_rust(out: &mut Writer, t: Type) {
-    if !sheet_verdicts::is_usable(t.sheet.rows, t.i) {
+    if !t.is_usable() {
         sheet_rust::put_none(out, t);
         return;
     }
@@ -84,7 +85,7 @@ fn put_rust(out: &mut Writer, t: Type) {
     sheet_lines::put_lines(
         out,
         t,
-        u64::from(t.size()),
+        Some(u64::from(t.size())),
         sheet_rust::put_gap,
         sheet_rust::put_member,
     );
@@ -99,91 +100,101 @@ fn put_page(out: &mut Writer, t: Type) {
     sheet_types::put_struct_name(out, t);
     out.put_text(b"</h2>\n<p>");
     put_facts(out, t, b"<br>\n");
-    sheet_page::put_table_head(out);
+    out.put_text(sheet_page::TABLE_HEAD);
     sheet_lines::put_lines(
         out,
         t,
-        u64::from(t.size()),
+        Some(u64::from(t.size())),
         sheet_page::put_gap,
         sheet_page::put_member,
     );
-    sheet_page::put_table_end(out);
-    if sheet_verdicts::is_shareable(t.sheet.rows, t.i) {
-        sheet_picture::put_head(out);
+    out.put_text(sheet_page::TABLE_END);
+    if t.is_shareable() {
+        out.put_text(sheet_picture::HEAD);
         sheet_picture::put_rows(out, t);
         sheet_picture::put_rest(out, t);
     }
 }
 
-// A type, where it is a struct.
-// Kept: the form is known only when the program runs, so a trait of forms would need this choice too, and four implementations beside it.
-fn put_one(form: Form, out: &mut Writer, t: Type) {
-    if !t.is_struct() {
-        return;
-    }
-    match form {
-        Form::Text => put_text(out, t),
-        Form::C => put_c(out, t),
-        Form::Rust => put_rust(out, t),
-        Form::Page => put_page(out, t),
-    }
-}
-
-// What stands before the first struct. A name is that of the file; where there is none, or it cannot be printed, it is left out.
-// Kept: chosen as in `put_one`.
-pub fn put_start(form: Form, out: &mut Writer, name: &[u8]) {
-    match form {
-        Form::Text => {
-            out.put_text(b"Layout sheet");
-            sheet_types::put_file(out, name);
-            out.put_text(b"\n\n")
-        }
-        Form::C => sheet_c::put_start(out),
-        Form::Rust => sheet_rust::put_start(out),
-        Form::Page => {
-            sheet_page::put_start(out);
-            sheet_types::put_file(out, name);
-            out.put_text(b"</h1>\n")
-        }
-    }
-}
-
-// What stands after the last struct, in the forms that people read: how much was read, and the limits.
-// Kept: chosen as in `put_one`.
-fn put_end(form: Form, out: &mut Writer, types: u64, structs: u64) {
-    match form {
-        Form::Text => put_counts(out, types, structs, b"\n"),
-        Form::C | Form::Rust => {}
-        Form::Page => {
-            out.put_text(b"<p>");
-            put_counts(out, types, structs, b"</p>\n");
-            sheet_page::put_end(out)
-        }
-    }
-}
-
+// What was read, and the limits.
 fn put_counts(out: &mut Writer, types: u64, structs: u64, last: &[u8]) {
-    out.put_with(b"types: ", types, b"; structs: ");
-    out.put_with(
-        b"",
+    out.put_two(
+        b"types: ",
+        types,
+        b"; structs: ",
         structs,
         b". Only structs have a table. At most 1024 types and 4096 members are read.",
     );
     out.put_text(last);
 }
 
-/// All structs of an accepted arena.
-pub fn put_all(form: Form, out: &mut Writer, sheet: Sheet) {
-    for i in 0..MOST_TYPES {
-        put_one(form, out, sheet.type_at(i));
+// Kept: three choices by the form. A trait of forms would have these three functions four times, and still a choice before the input is read and one
+// after it, since the form is an argument of the program.
+impl Form {
+    /// A page has marks of its own.
+    pub fn markup(self) -> Markup {
+        if self == Form::Page {
+            Markup::Page
+        } else {
+            Markup::Plain
+        }
     }
-    let structs = (0..MOST_TYPES)
-        .filter(|i| sheet.type_at(*i).is_struct())
-        .count();
-    put_end(
-        form,
-        out,
-        ir_records::type_count(sheet.types) as u64,
-        structs as u64,
-    );
+
+    /// What stands before the first struct. A name is that of the file; where there is none, or it cannot be printed, it is left out.
+    pub fn put_start(self, out: &mut Writer, name: Option<&[u8]>) {
+        match self {
+            Form::Text => {
+                out.put_text(b"Layout sheet");
+                sheet_types::put_file(out, name);
+                out.put_text(b"\n\n")
+            }
+            Form::C => out.put_text(sheet_c::START),
+            Form::Rust => out.put_text(sheet_rust::START),
+            Form::Page => {
+                out.put_text(sheet_page::START);
+                sheet_types::put_file(out, name);
+                out.put_text(b"</h1>\n")
+            }
+        }
+    }
+
+    fn put_struct(self, out: &mut Writer, t: Type) {
+        match self {
+            Form::Text => put_text(out, t),
+            Form::C => put_c(out, t),
+            Form::Rust => put_rust(out, t),
+            Form::Page => put_page(out, t),
+        }
+    }
+
+    // What stands after the last struct, in the forms that people read: how much was read, and the limits.
+    fn put_end(self, out: &mut Writer, types: u64, structs: u64) {
+        match self {
+            Form::Text => put_counts(out, types, structs, b"\n"),
+            Form::C | Form::Rust => {}
+            Form::Page => {
+                out.put_text(b"<p>");
+                put_counts(out, types, structs, b"</p>\n");
+                out.put_text(sheet_page::END)
+            }
+        }
+    }
+
+    /// All structs of an accepted arena.
+    pub fn put_all(self, out: &mut Writer, sheet: Sheet) {
+        for i in 0..MOST_TYPES {
+            let t = sheet.type_at(i);
+            if t.is_struct() {
+                self.put_struct(out, t);
+            }
+        }
+        let structs = (0..MOST_TYPES)
+            .filter(|i| sheet.type_at(*i).is_struct())
+            .count();
+        self.put_end(
+            out,
+            ir_records::type_count(sheet.types) as u64,
+            structs as u64,
+        );
+    }
 }

@@ -2,6 +2,7 @@
 -- Assumes nothing.
 use Rattle.std.specs.Prelude.{List, ℕ, zero, suc, min, max}
 use Rattle.sheet_names.specs.Names.{member_name}
+use Rattle.sheet_names.specs.declared.NameTable.{NameTable}
 use Rattle.sheet_types.specs.Types.{name_length}
 
 -- its head is `member`
@@ -13,9 +14,9 @@ abbrev pub most_name : ℕ
 most_name = 40
 
 -- the longest of the head and the names of the first so many members of struct i
-unfoldable pub longest : (text names types : List ℕ) (i count : ℕ) → ℕ
+unfoldable pub longest : (text : List ℕ) (names : NameTable) (types : List ℕ) (i count : ℕ) → ℕ
 longest text names types i zero = head_length
 longest text names types i (suc j) = max (longest text names types i j) (name_length (member_name text names types i j) j)
 
-abbrev pub name_width : (text names types : List ℕ) (i count : ℕ) → ℕ
+abbrev pub name_width : (text : List ℕ) (names : NameTable) (types : List ℕ) (i count : ℕ) → ℕ
 name_width text names types i count = min (longest text names types i count) most_name

@@ -5,11 +5,14 @@ ghost use Rattle.std.specs.Prelude.{◌≡◌};
 ghost use Rattle.sheet_table.specs.Width.{name_width};
 
 use sheet_names::{Member, Type};
-use sheet_output::Writer;
+use sheet_output::{Unused, Writer};
 
-const WIDE: usize = 8;
+const WIDE: u64 = 8;
 
-const NARROW: usize = 5;
+const NARROW: u64 = 5;
+
+// The width of `member`.
+const HEAD: usize = 6;
 
 // No column of names is wider.
 const MOST_NAME: usize = 40;
@@ -19,39 +22,41 @@ const MOST_NAME: usize = 40;
 pub fn name_width(t: Type, count: u32) -> usize
     ensures { result ≡ name_width t.entry.sheet.text.now t.entry.sheet.names.now t.entry.sheet.types.now t.entry.i count }
 {
-    let mut width: usize = 6;
+    let mut width = HEAD;
     for j in 0..count {
-        width = width.max(sheet_types::name_length(t, j));
+        width = width.max(sheet_types::name_length(t.member(j)));
     }
     width.min(MOST_NAME)
 }
 
+// Blanks after so many columns of a name, up to the width of its column.
+fn put_rest(out: &mut Writer, used: usize, width: usize) {
+    out.put_blanks(sheet_output::gap(used as u64, width as u64));
+}
+
 pub fn put_table_head(out: &mut Writer, width: usize) {
     out.put_text(b"    offset    size  align  member");
-    out.put_blanks(sheet_output::missing(6, width));
+    put_rest(out, HEAD, width);
     out.put_text(b"  type\n");
 }
 
 // Bytes between two members, or after the last one.
-// Kept: two numbers here and in the other forms; a struct of them would be made in one place, and taken apart in each form.
-pub fn put_gap(out: &mut Writer, end_before: u64, bytes: u64) {
-    out.put_right(WIDE + 2, end_before);
-    out.put_with(b"  ", bytes, b" ");
-    if bytes == 1 {
+pub fn put_gap(out: &mut Writer, unused: Unused) {
+    out.put_right(WIDE + 2, unused.start);
+    out.put_with(b"  ", unused.bytes, b" ");
+    if unused.bytes == 1 {
         out.put_text(b"byte unused\n");
-        return;
+    } else {
+        out.put_text(b"bytes unused\n");
     }
-    out.put_text(b"bytes unused\n");
 }
 
 // Steps of arrays and matrices, after the type.
 pub fn put_steps(out: &mut Writer, t: Type) {
-    if t.word(0) == ir_records::ARRAY_KIND {
-        out.put_with(b", elements ", u64::from(t.word(4)), b" apart");
+    if t.is_array() {
+        out.put_with(b", elements ", u64::from(t.stride()), b" apart");
     }
-    let types = t.sheet.types;
-    let step = sheet_types::column_step(types, sheet_types::innermost(types, t.i));
-    if 0 < step {
+    if let Some(step) = sheet_types::column_step(sheet_types::innermost(t)) {
         out.put_with(b", columns ", step, b" apart");
     }
 }
@@ -60,8 +65,7 @@ pub fn put_steps(out: &mut Writer, t: Type) {
 fn put_named(out: &mut Writer, member: Member, width: usize) {
     out.put_text(b"  ");
     sheet_types::put_member_name(out, member);
-    let used = sheet_types::name_length(member.of, member.j);
-    out.put_blanks(sheet_output::missing(used, width));
+    put_rest(out, sheet_types::name_length(member), width);
     out.put_text(b"  ");
 }
 

@@ -3,26 +3,34 @@
 
 ghost use Rattle.std.specs.Prelude.{◌≡◌, ◌*◌};
 ghost use Rattle.std.specs.List.{list_all};
+ghost use Rattle.ir_records.specs.Record.{type_inner};
 ghost use Rattle.sheet_names.specs.Names.{member_name};
-ghost use Rattle.sheet_types.specs.Types.{is_visible, is_printable, name_length, inside_arrays, most_depth, column_step_of};
+ghost use Rattle.sheet_types.specs.Types.{is_visible, is_printable, name_length, inside_arrays, most_depth, inner_step, ScalarIs};
 
-use ir_records::{Kind, ScalarKind};
+use ir_records::{Leaf, ScalarKind, TypeInner};
 use sheet_names::{Member, Type};
 use sheet_output::Writer;
 
-// Types that stand in one another deeper than this are not written out.
-const MOST_DEPTH: u32 = 32;
+/// Types that stand in one another deeper than this are not written out.
+// Kept: as deep as the reader of texts goes by its own constant; a module may go deeper, and this is where its sheet stops.
+pub const MOST_DEPTH: u32 = 32;
 
-const MATRIX_KIND: u32 = Kind::Matrix as u32;
-
-/// A scalar: the number of its kind, and its width in bytes.
+/// A scalar: its kind, and its width in bytes.
 #[derive(Clone, Copy, Debug, PartialEq, Eq)]
 pub struct Scalar {
-    pub kind: u32,
+    pub kind: ScalarKind,
     pub width: u32,
 }
 
 impl Scalar {
+    /// A scalar by the number of its kind, where a kind has that number.
+    pub fn of(kind: u32, width: u32) -> Option<Scalar>
+        ensures { ScalarIs kind width result }
+    {
+        let kind = ScalarKind::try_from(kind).ok()?;
+        Some(Scalar { kind, width })
+    }
+
     pub fn bits(self) -> u64
         ensures { result ≡ self.width * 8 }
     {
@@ -31,49 +39,52 @@ impl Scalar {
 }
 
 // i32, u32, f32 and the like.
-fn put_scalar(out: &mut Writer, scalar: Scalar) {
+pub fn put_scalar(out: &mut Writer, scalar: Scalar) {
     let bits = scalar.bits();
-    match ScalarKind::try_from(scalar.kind) {
-        Ok(ScalarKind::Sint) => out.put_with(b"i", bits, b""),
-        Ok(ScalarKind::Uint) => out.put_with(b"u", bits, b""),
-        Ok(ScalarKind::Float) => out.put_with(b"f", bits, b""),
-        _ => out.put_text(b"bool"),
+    match scalar.kind {
+        ScalarKind::Sint => out.put_with(b"i", bits, b""),
+        ScalarKind::Uint => out.put_with(b"u", bits, b""),
+        ScalarKind::Float => out.put_with(b"f", bits, b""),
+        ScalarKind::Bool | ScalarKind::AbstractInt | ScalarKind::AbstractFloat => {
+            out.put_text(b"bool")
+        }
+    }
+}
+
+// The scalar that a record has by the number of its kind. The record of a refused type may have the number of none.
+fn put_numbered(out: &mut Writer, kind: u32, width: u32) {
+    match Scalar::of(kind, width) {
+        Some(scalar) => put_scalar(out, scalar),
+        None => out.put_text(b"bool"),
     }
 }
 
 // `<`, the scalar and `>`.
 fn put_argument(out: &mut Writer, kind: u32, width: u32) {
     out.put_mark(b'<');
-    put_scalar(out, Scalar { kind, width });
+    put_numbered(out, kind, width);
     out.put_mark(b'>');
 }
 
 // A type that is no struct, inside all arrays that are written out.
 fn put_leaf(out: &mut Writer, t: Type) {
-    let w = ir_records::record_words(t.sheet.types, t.i);
-    match Kind::try_from(w.kind) {
-        Ok(Kind::Scalar) => put_scalar(
-            out,
-            Scalar {
-                kind: w.a,
-                width: w.b,
-            },
-        ),
-        Ok(Kind::Vector) => {
-            out.put_with(b"vec", u64::from(w.a), b"");
-            put_argument(out, w.b, w.c)
+    match t.inner() {
+        TypeInner::Plain(Leaf::Scalar(kind, width)) => put_numbered(out, kind, width),
+        TypeInner::Plain(Leaf::Vector(size, kind, width)) => {
+            out.put_with(b"vec", u64::from(size), b"");
+            put_argument(out, kind, width)
         }
-        Ok(Kind::Matrix) => {
-            out.put_with(b"mat", u64::from(w.a), b"x");
-            out.put_number(u64::from(w.b));
-            put_argument(out, w.c, w.d)
+        TypeInner::Plain(Leaf::Matrix(columns, rows, kind, width)) => {
+            out.put_with(b"mat", u64::from(columns), b"x");
+            out.put_number(u64::from(rows));
+            put_argument(out, kind, width)
         }
-        Ok(Kind::Atomic) => {
+        TypeInner::Plain(Leaf::Atomic(kind, width)) => {
             out.put_text(b"atomic");
-            put_argument(out, w.a, w.b)
+            put_argument(out, kind, width)
         }
-        Ok(Kind::Array) => out.put_text(b".."),
-        _ => out.put_with(b"kind ", u64::from(w.kind), b""),
+        TypeInner::Array { .. } | TypeInner::RuntimeArray { .. } => out.put_text(b".."),
+        _ => out.put_with(b"kind ", u64::from(t.word(0)), b""),
     }
 }
 
@@ -96,32 +107,31 @@ fn is_printable(name: &[u8]) -> bool
     is_all_visible(name) & !name.is_empty()
 }
 
+// A name where it can be printed, or else a number after a text.
+fn put_name(out: &mut Writer, name: Option<&[u8]>, otherwise: &[u8], number: u32) {
+    match name {
+        Some(name) if is_printable(name) => out.put_name(name),
+        _ => out.put_with(otherwise, u64::from(number), b""),
+    }
+}
+
 // ` of ` and the name of a file, where it can be printed.
-pub fn put_file(out: &mut Writer, name: &[u8]) {
-    if is_printable(name) {
+pub fn put_file(out: &mut Writer, name: Option<&[u8]>) {
+    if let Some(name) = name.filter(|name| is_printable(name)) {
         out.put_text(b" of ");
         out.put_name(name);
     }
 }
 
 // The name of a struct, or its number as a type.
+// Kept: this and the next one are one call each, for a type and for a member; a trait of both would have two impls in their place.
 pub fn put_struct_name(out: &mut Writer, t: Type) {
-    let name = t.name();
-    if is_printable(name) {
-        out.put_name(name);
-        return;
-    }
-    out.put_with(b"type ", u64::from(t.i), b"");
+    put_name(out, t.name(), b"type ", t.i);
 }
 
 // The name of a member, or its number.
 pub fn put_member_name(out: &mut Writer, member: Member) {
-    let name = member.name();
-    if is_printable(name) {
-        out.put_name(name);
-        return;
-    }
-    out.put_number(u64::from(member.j));
+    put_name(out, member.name(), b"", member.j);
 }
 
 // `member `, its number, and its name where it has one.
@@ -132,86 +142,82 @@ pub fn put_numbered_member(out: &mut Writer, member: Member) {
 }
 
 // Bytes of a member's name as it is put.
-pub fn name_length(t: Type, j: u32) -> usize
-    ensures { result ≡ name_length (member_name t.entry.sheet.text.now t.entry.sheet.names.now t.entry.sheet.types.now t.entry.i j) j }
+pub fn name_length(member: Member) -> usize
+    ensures { result ≡ name_length (member_name member.entry.of.sheet.text.now member.entry.of.sheet.names.now member.entry.of.sheet.types.now member.entry.of.i member.entry.j) member.entry.j }
 {
-    let name = t.member_name(j);
-    if is_printable(name) {
-        return name.len();
+    match member.name() {
+        Some(name) if is_printable(name) => name.len(),
+        _ => sheet_output::digit_count(u64::from(member.j)),
     }
-    let mut digits = [0u8; 20];
-    io::decimal(j as u64, &mut digits)
 }
 
 // The type inside so many arrays, from the outermost on; the type itself where it is no array.
-pub fn inside(types: &[u32], ty: u32, depth: u32) -> u32
-    ensures { result ≡ inside_arrays types.now depth ty }
+pub fn inside<'a>(of: Type<'a>, depth: u32) -> Type<'a>
+    ensures sheet { result.sheet ≡ of.entry.sheet }
+    ensures i { result.i ≡ inside_arrays of.entry.sheet.types.now depth of.entry.i }
 {
-    let mut t = ty;
+    let mut t = of;
     for _ in 0..depth {
-        if ir_records::type_word(types, t, 0) != ir_records::ARRAY_KIND {
-            return t;
+        match t.element() {
+            Some(element) => t = element,
+            None => return t,
         }
-        t = ir_records::type_word(types, t, 1);
     }
     t
 }
 
-// How many arrays stand in one another from a type on, as far as they are written out.
-fn depth_of(types: &[u32], ty: u32) -> u32 {
-    let mut t = ty;
-    for k in 0..MOST_DEPTH {
-        if ir_records::type_word(types, t, 0) != ir_records::ARRAY_KIND {
-            return k;
-        }
-        t = ir_records::type_word(types, t, 1);
-    }
-    MOST_DEPTH
-}
-
 // The type inside all arrays.
-pub fn innermost(types: &[u32], ty: u32) -> u32
-    ensures { result ≡ inside_arrays types.now most_depth ty }
+pub fn innermost<'a>(t: Type<'a>) -> Type<'a>
+    ensures sheet { result.sheet ≡ t.entry.sheet }
+    ensures i { result.i ≡ inside_arrays t.entry.sheet.types.now most_depth t.entry.i }
 {
-    inside(types, ty, MOST_DEPTH)
+    inside(t, MOST_DEPTH)
 }
 
-// The count of an array, where it has one, and its `>`.
+// The count of an array, where it has one.
 fn put_count(out: &mut Writer, t: Type) {
-    if t.word(2) == 0 {
-        out.put_with(b", ", u64::from(t.word(3)), b"");
+    if let TypeInner::Array { count, .. } = t.inner() {
+        out.put_with(b", ", u64::from(count), b"");
     }
-    out.put_mark(b'>');
+}
+
+// A type inside all arrays that are written out.
+fn put_base(out: &mut Writer, t: Type) {
+    if t.is_struct() {
+        put_struct_name(out, t);
+    } else {
+        put_leaf(out, t);
+    }
+}
+
+// A type, with at most so many arrays in one another.
+fn put_within(out: &mut Writer, t: Type, depth: u32) {
+    match t.element() {
+        Some(element) if 0 < depth => {
+            out.put_text(b"array");
+            out.put_mark(b'<');
+            put_within(out, element, depth - 1);
+            put_count(out, t);
+            out.put_mark(b'>');
+        }
+        _ => put_base(out, t),
+    }
 }
 
 // A type as WGSL writes it.
 pub fn put_type(out: &mut Writer, t: Type) {
-    let depth = depth_of(t.sheet.types, t.i);
-    for _ in 0..depth {
-        out.put_text(b"array");
-        out.put_mark(b'<');
-    }
-    let base = t.other(inside(t.sheet.types, t.i, depth));
-    if base.is_struct() {
-        put_struct_name(out, base);
-    } else {
-        put_leaf(out, base);
-    }
-    for k in (0..depth).rev() {
-        put_count(out, t.other(inside(t.sheet.types, t.i, k)));
-    }
+    put_within(out, t, MOST_DEPTH);
 }
 
-// The bytes from the start of a column of a matrix to the start of the next; 0 for what is no matrix.
-pub fn column_step(types: &[u32], t: u32) -> u64
-    ensures { result ≡ column_step_of types.now t }
+// The bytes from the start of a column of a matrix to the start of the next; none for what is no matrix.
+// Kept: `column_step` of proc_type_methods asks for a width below 256, which the record of a refused type need not have.
+pub fn column_step(t: Type) -> Option<u64>
+    ensures { result ≡ inner_step (type_inner t.entry.sheet.types.now t.entry.i) }
 {
-    let kind = ir_records::type_word(types, t, 0);
-    if kind != MATRIX_KIND {
-        return 0;
+    match t.inner() {
+        TypeInner::Plain(Leaf::Matrix(_, rows, _, width)) => {
+            Some(u64::from(proc_alignment::vector_alignment(rows)) * u64::from(width))
+        }
+        _ => None,
     }
-    let factor = proc_alignment::vector_alignment(ir_records::type_word(types, t, 2)) as u64;
-    let width = ir_records::type_word(types, t, 4) as u64;
-    let step = factor * width;
-    step
 }

@@ -2,9 +2,6 @@
 #![tactic(auto)]
 
 ghost use Rattle.std.specs.Prelude.{◌≡◌, ◌<◌};
-ghost use Rattle.ir_rows.specs.Rows.{row_word};
-ghost use Rattle.valid_flags.specs.Flags.{bit, sized_bit, host_shareable_bit};
-ghost use Rattle.sheet_verdicts.specs.Row.{may_be_immediate, is_usable};
 
 use immediates_ranges::Slots;
 use sheet_names::Type;
@@ -17,166 +14,162 @@ pub enum Space {
     Storage,
 }
 
+// A verdict in the row of a type: its code and the four words after it.
+#[derive(Clone, Copy, Debug, PartialEq, Eq)]
+struct Verdict {
+    code: u32,
+    a: u32,
+    b: u32,
+    c: u32,
+    d: u32,
+}
+
 impl Space {
-    // Word j of its verdict in the row of a type.
-    fn word_of(self, t: Type, j: u32) -> u32
-        requires { j < 5 }
-    {
-        match self {
-            Space::Uniform => ir_rows::row_word(t.sheet.rows, t.i, 3 + j),
-            Space::Storage => ir_rows::row_word(t.sheet.rows, t.i, 8 + j),
+    // The verdict of a type for this space.
+    fn verdict_of(self, t: Type) -> Verdict {
+        let first = match self {
+            Space::Uniform => ir_rows::UNIFORM as u32,
+            Space::Storage => ir_rows::STORAGE as u32,
+        };
+        let rows = t.sheet.rows;
+        Verdict {
+            code: ir_rows::row_word(rows, t.i, first),
+            a: ir_rows::row_word(rows, t.i, first + 1),
+            b: ir_rows::row_word(rows, t.i, first + 2),
+            c: ir_rows::row_word(rows, t.i, first + 3),
+            d: ir_rows::row_word(rows, t.i, first + 4),
         }
     }
 }
 
-// What a verdict finds wrong: naga's Disalignment, by its code in a row.
+// A number that must be a multiple of another one.
+#[derive(Clone, Copy, Debug, PartialEq, Eq)]
+struct Uneven {
+    value: u32,
+    unit: u32,
+}
+
+// What is wrong: naga's Disalignment, with the member of which it says so.
 #[derive(Clone, Copy, Debug, PartialEq, Eq)]
 enum Disalignment {
-    ArrayStride = 1,
-    StructSpan = 2,
-    MemberOffset = 3,
-    MemberOffsetAfterStruct = 4,
-    UnsizedMember = 5,
-    NonHostShareable = 6,
+    ArrayStride(Uneven),
+    StructSpan(Uneven),
+    MemberOffset {
+        member: u32,
+        offset: Uneven,
+    },
+    MemberOffsetAfterStruct {
+        member: u32,
+        offset: u32,
+        expected: u32,
+    },
+    UnsizedMember {
+        member: u32,
+    },
+    NonHostShareable,
 }
 
-// A code that says of nothing what is wrong.
-#[derive(Clone, Copy, Debug, PartialEq, Eq)]
-struct NothingWrong;
-
-impl TryFrom<u32> for Disalignment {
-    type Error = NothingWrong;
-
-    fn try_from(code: u32) -> Result<Self, NothingWrong> {
-        // Kept: these arms by number are the conversion.
-        match code {
-            1 => Ok(Disalignment::ArrayStride),
-            2 => Ok(Disalignment::StructSpan),
-            3 => Ok(Disalignment::MemberOffset),
-            4 => Ok(Disalignment::MemberOffsetAfterStruct),
-            5 => Ok(Disalignment::UnsizedMember),
-            6 => Ok(Disalignment::NonHostShareable),
-            _ => Err(NothingWrong),
+impl Verdict {
+    // The type of which something is wrong, and what.
+    fn wrong(self) -> Option<Disalignment> {
+        let number = Uneven {
+            value: self.c,
+            unit: self.d,
+        };
+        let member = self.b;
+        // Kept: these arms by number are the conversion of a code in a row.
+        match self.code {
+            1 => Some(Disalignment::ArrayStride(number)),
+            2 => Some(Disalignment::StructSpan(number)),
+            3 => Some(Disalignment::MemberOffset {
+                member,
+                offset: number,
+            }),
+            4 => Some(Disalignment::MemberOffsetAfterStruct {
+                member,
+                offset: self.c,
+                expected: self.d,
+            }),
+            5 => Some(Disalignment::UnsizedMember { member }),
+            6 => Some(Disalignment::NonHostShareable),
+            _ => None,
         }
     }
-}
-
-// What is wrong in a verdict: of which type and member of it, with the number that is and the one that it is measured by.
-#[derive(Clone, Copy, Debug, PartialEq, Eq)]
-struct Wrong {
-    what: Disalignment,
-    ty: u32,
-    member: u32,
-    value: u64,
-    bound: u64,
-}
-
-// What the verdict of a type finds wrong, where it is not Ok.
-fn wrong_in(t: Type, space: Space) -> Option<Wrong> {
-    let what = Disalignment::try_from(space.word_of(t, 0)).ok()?;
-    Some(Wrong {
-        what,
-        ty: space.word_of(t, 1),
-        member: space.word_of(t, 2),
-        value: u64::from(space.word_of(t, 3)),
-        bound: u64::from(space.word_of(t, 4)),
-    })
-}
-
-// Whether a type is host-shareable.
-pub fn is_shareable(rows: &[u32], i: u32) -> bool
-    ensures { result ≡ bit (row_word rows.now i 2) host_shareable_bit }
-{
-    valid_flags::is_host_shareable(ir_rows::row_word(rows, i, 2))
-}
-
-pub fn is_sized(rows: &[u32], i: u32) -> bool
-    ensures { result ≡ bit (row_word rows.now i 2) sized_bit }
-{
-    valid_flags::is_sized(ir_rows::row_word(rows, i, 2))
-}
-
-// Whether a struct may stand in immediates: it is host-shareable and sized, and its immediates word is 0.
-pub fn may_be_immediate(rows: &[u32], i: u32) -> bool
-    ensures { result ≡ may_be_immediate rows.now i }
-{
-    is_shareable(rows, i) & is_sized(rows, i) & (ir_rows::row_word(rows, i, 13) == 0)
-}
-
-// Whether a host may fill a storage buffer with a struct: it is host-shareable and its storage verdict is Ok.
-pub fn is_usable(rows: &[u32], i: u32) -> bool
-    ensures { result ≡ is_usable rows.now i }
-{
-    is_shareable(rows, i) & (ir_rows::row_word(rows, i, 8) == 0)
 }
 
 // Size and alignment. A runtime-sized array counts as one element.
 pub fn put_measures(out: &mut Writer, t: Type) {
     out.put_with(b"size ", u64::from(t.size()), b"");
-    if !is_sized(t.sheet.rows, t.i) {
+    if !t.is_sized() {
         out.put_text(b" with one element");
     }
     out.put_with(b", alignment ", u64::from(t.alignment()), b"");
 }
 
-// The member that is wrong; and its struct, where that is another one than type i.
-fn put_member(out: &mut Writer, t: Type, wrong: Wrong) {
-    let of = t.other(wrong.ty);
-    sheet_types::put_numbered_member(out, of.member(wrong.member));
-    if wrong.ty != t.i {
+// The member that is wrong; and its struct, where that is another one than the type that is judged.
+fn put_member(out: &mut Writer, judged: Type, of: Type, member: u32) {
+    sheet_types::put_numbered_member(out, of.member(member));
+    if of.i != judged.i {
         out.put_text(b" of ");
         sheet_types::put_struct_name(out, of);
     }
 }
 
-// The type or the member that is wrong.
-fn put_subject(out: &mut Writer, t: Type, wrong: Wrong) {
-    match wrong.what {
-        Disalignment::MemberOffset
-        | Disalignment::MemberOffsetAfterStruct
-        | Disalignment::UnsizedMember => put_member(out, t, wrong),
-        _ => sheet_types::put_type(out, t.other(wrong.ty)),
-    }
+// A number after a text, and of what it must be a multiple.
+fn put_uneven(out: &mut Writer, before: &[u8], number: Uneven, after: &[u8]) {
+    out.put_with(before, u64::from(number.value), after);
+    out.put_with(b" must be a multiple of ", u64::from(number.unit), b"");
 }
 
-// A number between two texts that must be a multiple of another one.
-fn put_multiple(out: &mut Writer, before: &[u8], wrong: Wrong, after: &[u8]) {
-    out.put_with(before, wrong.value, after);
-    out.put_with(b" must be a multiple of ", wrong.bound, b"");
-}
-
-// What is wrong with it.
-fn put_predicate(out: &mut Writer, wrong: Wrong) {
-    match wrong.what {
-        Disalignment::ArrayStride => put_multiple(
-            out,
-            b" has its elements ",
-            wrong,
-            b" apart, which",
-        ),
-        Disalignment::StructSpan => put_multiple(out, b" has size ", wrong, b", which"),
-        Disalignment::MemberOffset => put_multiple(out, b" at ", wrong, b""),
-        Disalignment::MemberOffsetAfterStruct => {
-            out.put_with(b" at ", wrong.value, b" stands after a struct and must");
-            out.put_with(b" be at ", wrong.bound, b" or later")
+// What is wrong with a type, or with a member of it, where another type is judged by it.
+fn put_wrong(out: &mut Writer, judged: Type, of: Type, wrong: Disalignment) {
+    match wrong {
+        Disalignment::ArrayStride(stride) => {
+            sheet_types::put_type(out, of);
+            put_uneven(out, b" has its elements ", stride, b" apart, which")
         }
-        Disalignment::UnsizedMember => out.put_text(b" is runtime-sized"),
-        Disalignment::NonHostShareable => out.put_text(b" is not host-shareable"),
+        Disalignment::StructSpan(span) => {
+            sheet_types::put_type(out, of);
+            put_uneven(out, b" has size ", span, b", which")
+        }
+        Disalignment::MemberOffset { member, offset } => {
+            put_member(out, judged, of, member);
+            put_uneven(out, b" at ", offset, b"")
+        }
+        Disalignment::MemberOffsetAfterStruct {
+            member,
+            offset,
+            expected,
+        } => {
+            put_member(out, judged, of, member);
+            out.put_with(
+                b" at ",
+                u64::from(offset),
+                b" stands after a struct and must",
+            );
+            out.put_with(b" be at ", u64::from(expected), b" or later")
+        }
+        Disalignment::UnsizedMember { member } => {
+            put_member(out, judged, of, member);
+            out.put_text(b" is runtime-sized")
+        }
+        Disalignment::NonHostShareable => {
+            sheet_types::put_type(out, of);
+            out.put_text(b" is not host-shareable")
+        }
     }
 }
 
 // The verdict of a type for a space: its alignment, or what is wrong.
 pub fn put_verdict(out: &mut Writer, t: Type, space: Space) {
-    if let Some(wrong) = wrong_in(t, space) {
-        put_subject(out, t, wrong);
-        put_predicate(out, wrong);
-        return;
-    }
-    if !is_shareable(t.sheet.rows, t.i) {
+    let verdict = space.verdict_of(t);
+    if let Some(wrong) = verdict.wrong() {
+        put_wrong(out, t, t.other(verdict.a), wrong);
+    } else if t.is_shareable() {
+        out.put_with(b"ok, ", u64::from(verdict.a), b"");
+    } else {
         out.put_text(b"no, the struct is not host-shareable");
-        return;
     }
-    out.put_with(b"ok, ", u64::from(space.word_of(t, 1)), b"");
 }
 
 // Whether slot k of a mask is set.
@@ -195,19 +188,16 @@ fn put_run(out: &mut Writer, mask: u64, k: u32) {
 
 // The slots of a mask, in runs.
 fn put_mask(out: &mut Writer, mask: u64) {
-    let mut before = false;
+    let starts = mask & !(mask << 1);
     for k in 0..64 {
-        let set = has_slot(mask, k);
-        if set & !before {
+        if has_slot(starts, k) {
             put_run(out, mask, k);
         }
-        before = set;
     }
 }
 
 // Slots that are touched, and those of them that are covered only in part.
 pub fn put_slots(out: &mut Writer, slots: Slots) {
-    out.put_text(b"slots");
     put_mask(out, slots.touched);
     if slots.partly != 0 {
         out.put_text(b"; only a part of");

@@ -6,14 +6,16 @@ use mathlib.Core.List.{List, [], ◌∷◌, ◌++◌, append_assoc}
 use Prim.Native.Nat.{ℕ, ◌+◌, ◌-◌, ◌≤◌, ◌<◌}
 use native.Mathlib.Omega.{arith}
 use native.Mathlib.Decide.{dec_le}
-use lib.Dec.{eqb, leb}
-use borrow.Author.Tests.{leb-true, le-leb, eqb-true, ne_eqb}
+use lib.Dec.{eqb, leb, ltb}
+use borrow.Author.Tests.{leb-true, le-leb, eqb-true, eqb-false, ne_eqb}
 use Rattle.std.specs.Prelude.{None, Some}
 use Rattle.ir_records.specs.Result.{pick}
-use Rattle.spirv_words.specs.Module.{opcode, word_count, is_type, is_read, type_int, header_words, starts, between, before, first, count}
+use Rattle.std.specs.Option.{is_some}
+use Rattle.spirv_words.specs.Module.{opcode, word, word_count, is_type, is_read, type_int, constant, header_words, starts, between, before, first, count}
 use Rattle.spirv_words.specs.Decorations.{is_integer}
-use Rattle.spirv_words.proofs.SearchLaws.{between_next, between_end, search_on, search_end, found_below}
-use Rattle.spirv_ids.specs.Ids.{integer_before, is_constant, gives, giver, giver_found, type_number}
+use Rattle.spirv_words.proofs.SearchLaws.{between_next, between_end, search_on, search_end, found_below, found_is}
+use Rattle.spirv_ids.specs.Sorts.{Unknown, OtherType, TypeRead, ConstantAt}
+use Rattle.spirv_ids.specs.Ids.{integer_before, integer_found, is_constant, gives, giver, giver_found, type_number, sort_at, sort}
 use Rattle.spirv_ids.specs.Places.{Stands, may_give, GivesFrom}
 
 and_true : (a b : Bool) → (a && b) ≡ true → (a ≡ true) × (b ≡ true)
@@ -131,12 +133,57 @@ pub giver_below : (ws : List ℕ) (at id : ℕ) → 0 < giver ws at id → giver
 unfolding giver
 giver_below ws at id h = (found_below ws at (gives ws id) (at - header_words) header_words h).0
 
-pub giver_before : (ws : List ℕ) (at id : ℕ) → giver ws at id ≤ at
-giver_before ws at id = by (dec_le 1 (giver ws at id))
+giver_gives : (ws : List ℕ) (at id : ℕ) → 0 < giver ws at id → gives ws id (giver ws at id) ≡ true
+unfolding giver
+giver_gives ws at id h = (found_below ws at (gives ws id) (at - header_words) header_words h).2
+
+-- no type is given by an OpConstant
+given_constant : (ws : List ℕ) (id q : ℕ) → gives ws id q ≡ true → eqb (opcode ws q) constant ≡ true → is_constant ws q ≡ true
+unfolding gives
+given_constant ws id q e c =
+    let op : opcode ws q ≡ 43 = eqb-true (opcode ws q) constant c in
+    (and_true (is_constant ws q) _ (rw op at e)).0
+
+-- the sorts differ
+unknown_constant : (g : ℕ) → Unknown ≡ ConstantAt g → ⊥
+unknown_constant g e = let z : ◌≡◌ {A = ℕ} 0 1 = cc in absurd (omega arith)
+
+read_constant : (n g : ℕ) → TypeRead n ≡ ConstantAt g → ⊥
+read_constant n g e = let z : ◌≡◌ {A = ℕ} 0 1 = cc in absurd (omega arith)
+
+other_constant : (g : ℕ) → OtherType ≡ ConstantAt g → ⊥
+other_constant g e = let z : ◌≡◌ {A = ℕ} 0 1 = cc in absurd (omega arith)
+
+constant_same : (h g : ℕ) → ConstantAt h ≡ ConstantAt g → h ≡ g
+constant_same h g e = cc
+
+-- ---- an OpConstant of an integer type
+pub constant_found : (ws : List ℕ) (at : ℕ) → is_some (integer_found ws at) ≡ is_constant ws at
+unfolding is_constant
+constant_found ws at = by (eqb (opcode ws at) constant) refl
   where
-    by : Dec (1 ≤ giver ws at id) → giver ws at id ≤ at
-    by (yes h) = omega (arith, giver_below ws at id h)
-    by (no h) = omega (arith, h)
+    by : (b : Bool) → eqb (opcode ws at) constant ≡ b → is_some (integer_found ws at) ≡ (eqb (opcode ws at) constant && ltb 0 (integer_before ws at (word ws at 1)))
+    by true t = rw t (found_is (integer_before ws at (word ws at 1)))
+    by false t = rw t refl
+
+-- what is given as a constant is one
+pub constant_given : (ws : List ℕ) (at id g : ℕ) → sort ws at id ≡ ConstantAt g → is_constant ws g ≡ true
+unfolding sort sort_at
+constant_given ws at id g e = none (eqb (giver ws at id) 0) refl
+  where
+    none : (b : Bool) → eqb (giver ws at id) 0 ≡ b → is_constant ws g ≡ true
+    none true z = absurd (unknown_constant g (rw z at e))
+    none false z = constants (eqb (opcode ws (giver ws at id)) constant) refl
+      where
+        constants : (b : Bool) → eqb (opcode ws (giver ws at id)) constant ≡ b → is_constant ws g ≡ true
+        constants false c = reads (is_read (opcode ws (giver ws at id))) refl
+          where
+            reads : (b : Bool) → is_read (opcode ws (giver ws at id)) ≡ b → is_constant ws g ≡ true
+            reads true r = absurd (read_constant _ g (rw (z, c, r) at e))
+            reads false r = absurd (other_constant g (rw (z, c, r) at e))
+        constants true c =
+            let some : 0 < giver ws at id = omega (arith, eqb-false (giver ws at id) 0 z) in
+            rw (constant_same _ g (rw (z, c) at e)) at (given_constant ws id (giver ws at id) (giver_gives ws at id some) c)
 
 -- ---- the giver as an option
 module _ (ws : List ℕ) (at id : ℕ) where

@@ -2,7 +2,7 @@
 -- Assumes nothing.
 use Rattle.std.specs.Prelude.{Bool, ◌&&◌, ◌||◌, List, Option, Some, None, ℕ, eqb, ltb}
 use Rattle.ir_records.specs.Result.{pick}
-use Rattle.spirv_words.specs.Module.{opcode, word, is_type, is_read, constant, before, first, count}
+use Rattle.spirv_words.specs.Module.{opcode, word, is_type, is_read, constant, before, first, found, count}
 use Rattle.spirv_words.specs.Decorations.{is_integer}
 use Rattle.spirv_ids.specs.declared.Giver.{Giver}
 use Rattle.spirv_ids.specs.Sorts.{Sort, Unknown, OtherType, TypeRead, ConstantAt}
@@ -14,6 +14,10 @@ integer_before ws at id = first (is_integer ws id) (before ws at)
 -- an OpConstant of an earlier integer type
 unfoldable pub is_constant : (ws : List ℕ) (at : ℕ) → Bool
 is_constant ws at = eqb (opcode ws at) constant && ltb 0 (integer_before ws at (word ws at 1))
+
+-- its OpTypeInt as an option
+abbrev pub integer_found : (ws : List ℕ) (at : ℕ) → Option ℕ
+integer_found ws at = pick (eqb (opcode ws at) constant) (found (integer_before ws at (word ws at 1))) None
 
 -- the instruction gives the id: a type instruction, read or not, or a constant that is read
 unfoldable pub gives : (ws : List ℕ) (id at : ℕ) → Bool

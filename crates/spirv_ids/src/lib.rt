@@ -3,8 +3,8 @@
 
 ghost use Rattle.std.specs.Prelude.{◌≡◌, Some, ◌≤◌, ◌<◌, eqb};
 ghost use Rattle.ir_records.specs.Fields.{most_types};
-ghost use Rattle.spirv_words.specs.Module.{is_type, is_read, found};
-ghost use Rattle.spirv_ids.specs.Ids.{integer_before, is_constant, gives, giver, giver_found, type_number, sort_at, sort};
+ghost use Rattle.spirv_words.specs.Module.{is_type, is_read, word, found};
+ghost use Rattle.spirv_ids.specs.Ids.{integer_before, integer_found, is_constant, gives, giver, giver_found, type_number, sort_at, sort};
 ghost use Rattle.spirv_ids.specs.Places.{may_give, GivesFrom, GivesFrom-prop};
 ghost use Rattle.spirv_ids.specs.Sorts.{sort_said};
 
@@ -45,14 +45,14 @@ pub enum Given {
 pub fn is_type(op: u32) -> bool
     ensures { result ≡ is_type op }
 {
-    (spirv_words::TYPE_VOID <= op) & (op <= spirv_words::TYPE_PIPE)
+    (spirv_words::TYPE_VOID..=spirv_words::TYPE_PIPE).contains(&op)
 }
 
 pub fn is_read(op: u32) -> bool
     ensures { result ≡ is_read op }
 {
-    ((spirv_words::TYPE_BOOL <= op) & (op <= spirv_words::TYPE_MATRIX))
-        | ((spirv_words::TYPE_ARRAY <= op) & (op <= spirv_words::TYPE_STRUCT))
+    (spirv_words::TYPE_BOOL..=spirv_words::TYPE_MATRIX).contains(&op)
+        | (spirv_words::TYPE_ARRAY..=spirv_words::TYPE_STRUCT).contains(&op)
 }
 
 fn may_give(op: u32) -> bool
@@ -66,7 +66,7 @@ pub fn first_giver(words: &[u32]) -> usize
     ensures { GivesFrom words.now result }
 {
     let mut p: usize = spirv_words::HEADER_WORDS;
-    // Kept: each step is the word count of an instruction; no range has such steps.
+    // Kept: the answer may be the place at which the walk stops, which is no instruction; `Instructions` does not hand it out.
     while p < words.len() {
         let count = spirv_words::word_count(words, p);
         if count == 0 {
@@ -100,14 +100,22 @@ pub fn integer_before(input: Module, at: usize, id: u32) -> Option<usize>
     })
 }
 
-// An OpConstant of an earlier integer type. The words are searched for an OpConstant alone.
-#[tactic(auto, unfolding(crate::specs::Ids::is_constant))]
+// The OpTypeInt of an OpConstant of an earlier integer type. The words are searched for an OpConstant alone.
+pub fn integer_of(input: Module, at: usize) -> Option<usize>
+    ensures { result ≡ integer_found input.entry.words.now at }
+{
+    if spirv_words::opcode_of(input.words, at) != spirv_words::CONSTANT {
+        return None;
+    }
+    let ty = spirv_words::word_of(input.words, at, 1);
+    integer_before(input, at, ty)
+}
+
+#[tactic(auto, using(crate::proofs::PlaceLaws::constant_found))]
 pub fn is_constant(input: Module, at: usize) -> bool
     ensures { result ≡ is_constant input.entry.words.now at }
 {
-    let op = spirv_words::opcode_of(input.words, at);
-    let ty = spirv_words::word_of(input.words, at, 1);
-    op == spirv_words::CONSTANT && integer_before(input, at, ty).is_some()
+    integer_of(input, at).is_some()
 }
 
 #[tactic(auto, unfolding(crate::specs::Ids::gives))]
@@ -126,7 +134,7 @@ pub fn giver_of(place: Place, id: u32) -> Option<Giver>
     let words = place.input.words;
     let mut p = place.input.from;
     let mut number: u32 = 0;
-    // Kept: each step is the word count of an instruction; no range has such steps.
+    // Kept: the types that are read are counted on the way; with `find` over `Instructions` a second walk would count them.
     while p < place.at {
         let count = spirv_words::word_count(words, p);
         if count == 0 {
@@ -172,4 +180,12 @@ pub fn sort_of(place: Place, id: u32) -> Option<Given>
 {
     let giver = giver_of(place, id)?;
     Some(given_at(place.input.words, giver))
+}
+
+// What word k of the instruction at a place names.
+pub fn named(place: Place, k: usize) -> Option<Given>
+    ensures { sort_said result ≡ sort place.entry.input.words.now place.entry.at (word place.entry.input.words.now place.entry.at k) }
+{
+    let id = spirv_words::word_of(place.input.words, place.at, k);
+    sort_of(place, id)
 }

@@ -14,6 +14,7 @@ pub fn word_of(bytes: &[u8], k: usize) -> u32
 }
 
 // Appends the words of the bytes after those that are held, and answers how many are held then.
+// Kept: the words that are held are the start of the caller's fixed table; a slice of them alone could not grow.
 pub fn append(words: &mut [u32], held: usize, bytes: &[u8]) -> usize
     requires { held + length bytes.now / 4 ≤ length words.old }
     ensures { (result ≡ held + length bytes.now / 4) × (words.new ≡ take held words.old ++ words_in bytes.now (length bytes.now / 4) ++ drop (held + length bytes.now / 4) words.old) }

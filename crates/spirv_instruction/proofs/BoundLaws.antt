@@ -12,7 +12,7 @@ use Rattle.ir_records.specs.Record.{inner_in, inner_of, member_count, scalar_kin
 use Rattle.ir_records.specs.Serving.{InnerBounds}
 use Rattle.ir_records.proofs.ResultLaws.{ok_inj}
 use Rattle.proc_alignment.specs.Alignment.{most}
-use Rattle.spirv_words.specs.Module.{opcode, word, word_count, type_bool, type_int, type_float, type_vector, type_matrix, type_array, type_runtime_array}
+use Rattle.spirv_words.specs.Module.{opcode, word, word_count, type_bool, type_int, type_float, type_vector, type_matrix, type_array, type_runtime_array, type_struct}
 use Rattle.spirv_members.specs.Members.{is_type_read, is_other, number_of, member_count_at, member_rows, members_unsupported, members_sound}
 use Rattle.spirv_members.specs.Serving.{Bounded}
 use Rattle.spirv_members.proofs.MemberLaws.{scalar-width, vector_bounds}
@@ -20,6 +20,7 @@ use Rattle.spirv_members.proofs.NumberLaws.{and_true}
 use Rattle.spirv_types.specs.declared.Typed.{Typed}
 use Rattle.spirv_types.specs.Types.{State, judged, typed, words_of, is_fresh, width_ok, sign_kind, parts_ok, base_sort, base_word, stride_at, stride_of, length_of, length_sort, span_of, bool_type, int_type, float_type, vector_type, matrix_type, array_type, runtime_array_type, struct_type, type_by, type_at}
 use Rattle.spirv_types.proofs.TypeLaws.{width_within}
+use Rattle.spirv_instruction.specs.Instruction.{row_count}
 
 zero_one : ◌≡◌ {A = ℕ} 0 1 → ⊥
 zero_one z = omega arith
@@ -126,6 +127,19 @@ module _ (ws : List ℕ) (s : State) (at : ℕ) (fresh : Bool) (b : Bounded s.ty
       (choose y (eqb op type_matrix) _ _ matrix_bound
       (choose y (eqb op type_array) _ _ array_bound
       (choose y (eqb op type_runtime_array) _ _ runtime_bound struct_bound))))))
+
+-- the members of a struct that is made are sound
+pub rows_sound : (ws : List ℕ) (s : State) (at : ℕ) (y : Typed) → type_at ws s at ≡ ok y → members_sound ws at (row_count ws at) ≡ true
+unfolding type_at type_by struct_type members_sound
+rows_sound ws s at y e = by (eqb (opcode ws at) type_struct) refl
+  where
+    by : (b : Bool) → eqb (opcode ws at) type_struct ≡ b → members_sound ws at (row_count ws at) ≡ true
+    by false h = rw h refl
+    by true h =
+        let op : opcode ws at ≡ 30 = eqb-true (opcode ws at) type_struct h in
+        let n = member_count_at ws at in
+        let j = judged_ok (members_unsupported ws s.types at n) (is_fresh ws at && members_sound ws at n && leb (span_of ws s.types s.alignments at n) most) _ y (rw op at e) in
+        rw h (and_true (is_fresh ws at) _ (and_true (is_fresh ws at && members_sound ws at n) _ j.1).0).1
 
 pub typed_bounds : (ws : List ℕ) (s : State) (at : ℕ) → Bounded s.types → (y : Typed) → type_at ws s at ≡ ok y → InnerBounds (inner_in y.words)
 unfolding type_at

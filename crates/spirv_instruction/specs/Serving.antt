@@ -8,7 +8,7 @@ use Rattle.ir_records.specs.Result.{Result, err, ok}
 use Rattle.ir_records.specs.Record.{inner_in}
 use Rattle.ir_records.specs.Serving.{InnerBounds}
 use Rattle.spirv_words.specs.Module.{word_count, opcode, is_read}
-use Rattle.spirv_members.specs.Members.{member_rows}
+use Rattle.spirv_members.specs.Members.{member_rows, members_sound}
 use Rattle.spirv_types.specs.Types.{State}
 use Rattle.spirv_instruction.specs.declared.Made.{Made}
 use Rattle.spirv_instruction.specs.Instruction.{with_type}
@@ -27,13 +27,14 @@ judged_result ws at s (std.Ok None) = ok s
 judged_result ws at s (std.Ok (Some made)) = ok (with_type s made.typed (member_rows ws at made.rows))
 judged_result ws at s (std.Err fault) = err (number_of fault) 0 0
 
--- what the caller goes by: there is a next instruction, and a new record's fields and place are within their bounds
-abbrev pub TypeTold : (t m types members : ℕ) → std.Result Made Fault → Type 0
-TypeTold t m types members (std.Ok made) = InnerBounds (inner_in made.typed.words) × (types < t) × (members + made.rows ≤ m)
-TypeTold t m types members (std.Err fault) = Unit {0}
+-- what the caller goes by: there is a next instruction, a new record's fields and place are within their bounds, and its members are sound
+abbrev pub TypeTold : (t m : ℕ) (ws : List ℕ) (at types members : ℕ) → std.Result Made Fault → Type 0
+TypeTold t m ws at types members (std.Ok made) =
+    InnerBounds (inner_in made.typed.words) × (types < t) × (members + made.rows ≤ m) × (members_sound ws at made.rows ≡ true)
+TypeTold t m ws at types members (std.Err fault) = Unit {0}
 
 abbrev pub Told : (t m : ℕ) (ws : List ℕ) (at types members : ℕ) → std.Result (Option Made) Fault → Type 0
 Told t m ws at types members (std.Ok None) = (0 < word_count ws at) × (is_read (opcode ws at) ≡ false)
 Told t m ws at types members (std.Ok (Some made)) =
-    (0 < word_count ws at) × (is_read (opcode ws at) ≡ true) × InnerBounds (inner_in made.typed.words) × (types < t) × (members + made.rows ≤ m)
+    (0 < word_count ws at) × (is_read (opcode ws at) ≡ true) × InnerBounds (inner_in made.typed.words) × (types < t) × (members + made.rows ≤ m) × (members_sound ws at made.rows ≡ true)
 Told t m ws at types members (std.Err fault) = Unit {0}

@@ -8,7 +8,7 @@ ghost use Rattle.spirv_types.specs.Types.{State};
 ghost use Rattle.spirv_instruction.specs.Instruction.{least_type, least_constant, least_decorate, least_member_decorate, least_words, told_by, words_ok, row_count, type_read, new_id, instruction, other_read};
 ghost use Rattle.spirv_instruction.specs.Serving.{judged_result, type_result, id_result, TypeTold, Told};
 
-use ir_records::Fault;
+use ir_records::{Fault, Records};
 use spirv_ids::{Module, Place};
 use spirv_types::{Known, Typed};
 
@@ -19,42 +19,30 @@ pub struct Made {
     pub rows: u32,
 }
 
-/// How many types and members there is room for.
-#[derive(Clone, Copy, Debug, PartialEq, Eq)]
-pub struct Space {
-    pub types: usize,
-    pub members: usize,
-}
-
 fn least_type(op: u32) -> usize
     ensures { result ≡ least_type op }
 {
-    if (op == spirv_words::TYPE_INT)
-        | (op == spirv_words::TYPE_VECTOR)
-        | (op == spirv_words::TYPE_MATRIX)
-        | (op == spirv_words::TYPE_ARRAY)
-    {
-        return 4;
+    match op {
+        spirv_words::TYPE_INT
+        | spirv_words::TYPE_VECTOR
+        | spirv_words::TYPE_MATRIX
+        | spirv_words::TYPE_ARRAY => 4,
+        spirv_words::TYPE_FLOAT | spirv_words::TYPE_RUNTIME_ARRAY => 3,
+        _ => 2,
     }
-    if (op == spirv_words::TYPE_FLOAT) | (op == spirv_words::TYPE_RUNTIME_ARRAY) {
-        return 3;
-    }
-    2
 }
 
 fn least_constant(input: Module, at: usize) -> usize
     ensures { result ≡ least_constant input.entry.words.now at }
 {
-    if spirv_ids::is_constant(input, at) {
-        let ty = spirv_words::word_of(input.words, at, 1);
-        let integer = spirv_ids::integer_before(input, at, ty).unwrap_or(0);
-        let bits = spirv_words::word_of(input.words, integer, 2);
-        if bits == 64 {
-            return 5;
-        }
-        return 4;
+    let Some(integer) = spirv_ids::integer_of(input, at) else {
+        return 2;
+    };
+    let bits = spirv_words::word_of(input.words, integer, 2);
+    if bits == 64 {
+        return 5;
     }
-    2
+    4
 }
 
 fn least_decorate(words: &[u32], at: usize) -> usize
@@ -71,10 +59,10 @@ fn least_member_decorate(words: &[u32], at: usize) -> usize
     ensures { result ≡ least_member_decorate words.now at }
 {
     let decoration = spirv_words::word_of(words, at, 3);
-    if (decoration == spirv_words::OFFSET) | (decoration == spirv_words::MATRIX_STRIDE) {
-        return 5;
+    match decoration {
+        spirv_words::OFFSET | spirv_words::MATRIX_STRIDE => 5,
+        _ => 4,
     }
-    4
 }
 
 #[tactic(auto, unfolding(crate::specs::Instruction::least_words))]
@@ -129,16 +117,16 @@ fn row_count(words: &[u32], at: usize) -> u32
     0
 }
 
-// A type that is read: 29, 30, then number 1.
+// A type that is read: 29, 30, then number 1. `space`: how many types and members there is room for.
 #[tactic(auto, unfolding(crate::specs::Instruction::type_read))]
-fn type_read(known: Known, space: Space) -> Result<Made, Fault>
-    ensures { ((ms : List ℕ) → member_count ms ≡ known.entry.rows → type_result known.entry.place.input.words.now known.entry.place.at (record { types = known.entry.tables.types.now; members = ms; alignments = known.entry.tables.alignments.now }) result ≡ type_read space.types space.members known.entry.place.input.words.now known.entry.place.at (record { types = known.entry.tables.types.now; members = ms; alignments = known.entry.tables.alignments.now })) × TypeTold space.types space.members (type_count known.entry.tables.types.now) known.entry.rows result }
+fn type_read(known: Known, space: Records) -> Result<Made, Fault>
+    ensures { ((ms : List ℕ) → member_count ms ≡ known.entry.rows → type_result known.entry.place.input.words.now known.entry.place.at (record { types = known.entry.tables.types.now; members = ms; alignments = known.entry.tables.alignments.now }) result ≡ type_read space.types space.members known.entry.place.input.words.now known.entry.place.at (record { types = known.entry.tables.types.now; members = ms; alignments = known.entry.tables.alignments.now })) × TypeTold space.types space.members known.entry.place.input.words.now known.entry.place.at (type_count known.entry.tables.types.now) known.entry.rows result }
 {
     let typed = spirv_types::type_at(known)?;
     let rows = row_count(known.place.input.words, known.place.at);
     let last = (known.rows as usize) + (rows as usize);
     let count = ir_records::type_count(known.tables.types);
-    if (count < space.types) & (last <= space.members) {
+    if (count < space.types as usize) & (last <= space.members as usize) {
         return Ok(Made { typed, rows });
     }
     Err(Fault::TableLength)
@@ -173,7 +161,7 @@ fn other_read(place: Place, op: u32) -> Result<(), Fault>
 
 // One instruction, and the type that it makes, if any: 28, 29, 30, then 1.
 #[tactic(auto, unfolding(crate::specs::Instruction::instruction, crate::specs::Instruction::words_ok))]
-pub fn judge(known: Known, space: Space) -> Result<Option<Made>, Fault>
+pub fn judge(known: Known, space: Records) -> Result<Option<Made>, Fault>
     ensures { ((ms : List ℕ) → member_count ms ≡ known.entry.rows → judged_result known.entry.place.input.words.now known.entry.place.at (record { types = known.entry.tables.types.now; members = ms; alignments = known.entry.tables.alignments.now }) result ≡ instruction space.types space.members known.entry.place.input.words.now known.entry.place.at (record { types = known.entry.tables.types.now; members = ms; alignments = known.entry.tables.alignments.now })) × Told space.types space.members known.entry.place.input.words.now known.entry.place.at (type_count known.entry.tables.types.now) known.entry.rows result }
 {
     let place = known.place;

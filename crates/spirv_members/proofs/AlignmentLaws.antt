@@ -70,6 +70,16 @@ module _ (ws : List ℕ) (at : ℕ) where
     unfolding struct_alignment
     largest_is e = rw (aligned n (omega arith) e) refl
 
+  pub sound_at : (n j : ℕ) → j < n → members_sound ws at n ≡ true → member_sound ws at j ≡ true
+  unfolding members_sound
+  sound_at zero j h e = absurd (not-suc-le-zero h)
+  sound_at (suc n) j h e = by (dec_le n j) (and_true (members_sound ws at n) _ e) (sound_at n j)
+    where
+      by : Dec (n ≤ j) → (members_sound ws at n ≡ true) × (member_sound ws at n ≡ true) → (j < n → members_sound ws at n ≡ true → member_sound ws at j ≡ true)
+          → member_sound ws at j ≡ true
+      by (no m) p rest = rest (omega (arith, m)) p.0
+      by (yes m) p rest = let same : n ≡ j = omega (arith, m, h) in rw same at p.1
+
   pub largest_positive : (al : List ℕ) (j : ℕ) → 0 < largest_alignment ws al at j
   unfolding largest_alignment
   largest_positive al zero = omega arith

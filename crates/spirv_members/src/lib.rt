@@ -1,18 +1,18 @@
 // The members of a struct, from the words of a SPIR-V module: what each is, where it stands, and how far the last one reaches.
 #![tactic(auto)]
 
-ghost use Rattle.std.specs.Prelude.{◌≡◌, true, ◌&&◌, ◌||◌, suc, ◌*◌, ◌≤◌, max, get_or};
+ghost use Rattle.std.specs.Prelude.{◌≡◌, suc, ◌*◌, ◌≤◌};
 ghost use Rattle.ir_records.specs.Result.{ok};
 ghost use Rattle.ir_records.specs.Record.{type_inner};
 ghost use Rattle.ir_records.specs.Serving.{InnerBounds};
 ghost use Rattle.proc_type_methods.specs.TypeMethods.{try_size, size_of};
 ghost use Rattle.spirv_words.specs.Module.{found};
 ghost use Rattle.spirv_ids.specs.Sorts.{sort_said};
-ghost use Rattle.spirv_members.specs.Members.{is_other, is_type_read, number_of, member_count_at, member_sort, member_number, offset_at, offset_of, column_step_in, stored_otherwise, member_unsupported, members_unsupported, member_sound, members_sound, size_in, last_end};
-ghost use Rattle.spirv_members.specs.Serving.{largest_alignment};
+ghost use Rattle.spirv_members.specs.Members.{member_count_at, offset_at, column_step_in, stored_otherwise, size_in};
+ghost use Rattle.spirv_members.specs.Serving.{faulted, type_named, offset_found, StepIs, member_found, member_made, joined, members_made};
 ghost use Rattle.spirv_members.specs.Serving.{Bounded, Bounded-prop};
 
-use ir_records::{Kind, TypeInner};
+use ir_records::{Fault, Kind, TypeInner};
 use spirv_ids::{Given, Place};
 
 /// The type records that are made, their fields within bounds, and the layout alignment of each type.
@@ -23,36 +23,28 @@ pub struct Tables<'a> {
     ghost bounded: { Bounded types.now } by { Bounded-prop types.now },
 }
 
-// What is known of the first members: one is unsupported (29), all are sound (else 30), and their largest alignment.
+/// A member: the number of its type, and its offset.
+#[derive(Clone, Copy, Debug, PartialEq, Eq)]
+pub struct Member {
+    pub number: u32,
+    pub offset: u32,
+}
+
+/// Members of a struct, from the first on: their largest alignment, and the end of the last one.
 #[derive(Clone, Copy, Debug, PartialEq, Eq)]
 pub struct Members {
-    pub unsupported: bool,
-    pub sound: bool,
     pub alignment: u32,
+    pub end: u64,
 }
 
-const MATRIX_KIND: u32 = Kind::Matrix as u32;
-
-pub fn is_other(given: Option<Given>) -> bool
-    ensures { result ≡ is_other (sort_said given) }
+/// The number of a type that is read: number 29 for another type, 30 for what is none.
+pub fn type_named(given: Option<Given>) -> Result<u32, Fault>
+    ensures { faulted result ≡ type_named (sort_said given) }
 {
-    matches!(given, Some(Given::OtherType))
-}
-
-pub fn is_type_read(given: Option<Given>) -> bool
-    ensures { result ≡ is_type_read (sort_said given) }
-{
-    matches!(given, Some(Given::TypeRead(_)))
-}
-
-// The number of a type that is read; 0 for what is none.
-// Kept: a `From` of an Option into a number has no type of this crate, so it cannot stand here.
-pub fn number_of(given: Option<Given>) -> u32
-    ensures { result ≡ number_of (sort_said given) }
-{
-    match given {
-        Some(Given::TypeRead(number)) => number,
-        _ => 0,
+    match given.ok_or(Fault::ModuleOrder)? {
+        Given::TypeRead(number) => Ok(number),
+        Given::OtherType => Err(Fault::ModuleType),
+        Given::ConstantAt(_) => Err(Fault::ModuleOrder),
     }
 }
 
@@ -60,15 +52,6 @@ pub fn member_count(words: &[u32], at: usize) -> u32
     ensures { (result ≡ member_count_at words.now at) × (result ≤ 65533) }
 {
     spirv_words::word_count(words, at).saturating_sub(2) as u32
-}
-
-// What member j is.
-pub fn member_sort(place: Place, j: u32) -> Option<Given>
-    ensures { sort_said result ≡ member_sort place.entry.input.words.now place.entry.at j }
-{
-    let k = 2 + (j as usize);
-    let id = spirv_words::word_of(place.input.words, place.at, k);
-    spirv_ids::sort_of(place, id)
 }
 
 // The one Offset of member j; none where it has several.
@@ -81,34 +64,35 @@ fn offset_at(words: &[u32], at: usize, j: u32) -> Option<usize>
     spirv_words::only_before(words, at, |p| spirv_words::is_offset_of(words, id, j, p))
 }
 
-pub fn offset_of(words: &[u32], at: usize, j: u32) -> u32
-    ensures { result ≡ offset_of words.now at j }
+#[tactic(auto, unfolding(crate::specs::Members::offset_at))]
+pub fn offset_of(words: &[u32], at: usize, j: u32) -> Option<u32>
+    ensures { result ≡ offset_found words.now at j }
 {
-    let place = offset_at(words, at, j).unwrap_or(0);
-    spirv_words::word_of(words, place, 4)
+    let place = offset_at(words, at, j)?;
+    Some(spirv_words::word_of(words, place, 4))
 }
 
-// The column step of the matrix that a type is, or is an array of; 0 for none.
-fn column_step(tables: Tables, t: u32) -> u32
-    ensures { result ≡ column_step_in tables.entry.types.now (suc t) t }
+// The column step of the matrix that a type is, or is an array of.
+fn column_step(tables: Tables, t: u32) -> Option<u32>
+    ensures { StepIs (column_step_in tables.entry.types.now (suc t) t) result }
 {
     let types = tables.types;
     let mut k = t;
     for _ in 0..=t {
-        let kind = ir_records::type_word(types, k, 0);
-        if kind == MATRIX_KIND {
-            let factor = proc_alignment::vector_alignment(ir_records::type_word(types, k, 2));
-            return factor * ir_records::type_word(types, k, 4);
+        if ir_records::is_of_kind(types, k, Kind::Matrix) {
+            let rows = ir_records::type_word(types, k, 2);
+            let width = ir_records::type_word(types, k, 4);
+            return Some(proc_type_methods::column_step(rows, width));
         }
-        if kind != ir_records::ARRAY_KIND {
-            return 0;
+        if !ir_records::is_of_kind(types, k, Kind::Array) {
+            return None;
         }
         k = ir_records::type_word(types, k, 1);
     }
-    0
+    None
 }
 
-// The matrix of member j is stored otherwise than in columns a step apart.
+// The matrix of member j is stored otherwise than in columns a step apart; where the step is 0, nothing is asked of it.
 fn stored_otherwise(words: &[u32], at: usize, j: u32, step: u32) -> bool
     ensures { result ≡ stored_otherwise words.now at j step }
 {
@@ -118,43 +102,72 @@ fn stored_otherwise(words: &[u32], at: usize, j: u32, step: u32) -> bool
         && spirv_words::first_between(words, spirv_words::HEADER_WORDS, at, otherwise).is_some()
 }
 
-// What is known with member j.
-#[tactic(auto, unfolding(crate::specs::Members::member_number, crate::specs::Members::member_sound, crate::specs::Members::member_unsupported))]
-fn with_member(place: Place, tables: Tables, j: u32, seen: Members) -> Members
-    ensures { (result.unsupported ≡ (seen.unsupported || member_unsupported place.entry.input.words.now tables.entry.types.now place.entry.at j)) × (result.sound ≡ (seen.sound && member_sound place.entry.input.words.now place.entry.at j)) × (result.alignment ≡ max seen.alignment (get_or tables.entry.alignments.now (member_number place.entry.input.words.now place.entry.at j) 0)) }
+// The same of member j by its type t, which may be no matrix.
+#[tactic(auto, unfolding(crate::specs::Members::stored_otherwise))]
+fn is_otherwise(place: Place, tables: Tables, j: u32, t: u32) -> bool
+    ensures { result ≡ stored_otherwise place.entry.input.words.now place.entry.at j (column_step_in tables.entry.types.now (suc t) t) }
 {
-    let sort = member_sort(place, j);
-    let number = number_of(sort);
-    let step = column_step(tables, number);
-    let stored = stored_otherwise(place.input.words, place.at, j, step);
-    let read = is_type_read(sort);
-    let other = is_other(sort);
-    let offset = offset_at(place.input.words, place.at, j);
-    let own = ir_records::word_at(tables.alignments, number as usize);
-    let alignment = seen.alignment.max(own);
-    let unsupported = seen.unsupported | (other | (read & stored));
-    let sound = seen.sound & (read & offset.is_some());
-    Members {
-        unsupported,
-        sound,
-        alignment,
-    }
+    let Some(step) = column_step(tables, t) else {
+        return false;
+    };
+    stored_otherwise(place.input.words, place.at, j, step)
 }
 
-// What is known of all n members.
-#[tactic(auto, unfolding(crate::specs::Serving::largest_alignment, crate::specs::Members::members_sound, crate::specs::Members::members_unsupported))]
-pub fn members_of(place: Place, tables: Tables, n: u32) -> Members
-    ensures { (result.unsupported ≡ members_unsupported place.entry.input.words.now tables.entry.types.now place.entry.at n) × (result.sound ≡ members_sound place.entry.input.words.now place.entry.at n) × (result.alignment ≡ largest_alignment place.entry.input.words.now tables.entry.alignments.now place.entry.at n) }
+// Member j: number 29 where it is unsupported; none, which is number 30, where it has no type that is read or not one Offset.
+#[tactic(auto, unfolding(crate::specs::Members::member_number, crate::specs::Members::member_sound, crate::specs::Members::member_unsupported))]
+fn member_at(place: Place, tables: Tables, j: u32) -> Result<Option<Member>, Fault>
+    ensures { result ≡ member_made place.entry.input.words.now tables.entry.types.now place.entry.at j }
 {
-    let mut seen = Members {
-        unsupported: false,
-        sound: true,
-        alignment: 1,
+    let number = match spirv_ids::named(place, 2 + (j as usize)) {
+        Some(Given::TypeRead(number)) => number,
+        Some(Given::OtherType) => return Err(Fault::ModuleType),
+        Some(Given::ConstantAt(_)) | None => return Ok(None),
     };
-    for j in 0..n {
-        seen = with_member(place, tables, j, seen);
+    if is_otherwise(place, tables, j, number) {
+        return Err(Fault::ModuleType);
     }
-    seen
+    let Some(offset) = offset_of(place.input.words, place.at, j) else {
+        return Ok(None);
+    };
+    Ok(Some(Member { number, offset }))
+}
+
+/// Member j, where it has a type that is read and one Offset.
+#[tactic(auto, unfolding(crate::specs::Members::member_number, crate::specs::Members::member_sound))]
+pub fn member_of(place: Place, j: u32) -> Option<Member>
+    ensures { result ≡ member_found place.entry.input.words.now place.entry.at j }
+{
+    let number = type_named(spirv_ids::named(place, 2 + (j as usize))).ok()?;
+    let offset = offset_of(place.input.words, place.at, j)?;
+    Some(Member { number, offset })
+}
+
+// One member more; none where it is none, or one before it was.
+fn with_member(tables: Tables, before: Option<Members>, member: Option<Member>) -> Option<Members>
+    ensures { result ≡ joined tables.entry.types.now tables.entry.alignments.now before member }
+{
+    let before = before?;
+    let member = member?;
+    let own = ir_records::word_at(tables.alignments, member.number as usize);
+    Some(Members {
+        alignment: before.alignment.max(own),
+        end: (member.offset as u64) + size_in(tables, member.number),
+    })
+}
+
+// The n members of a struct: number 29 where one is unsupported, else 30 where one is not sound.
+pub fn members_of(place: Place, tables: Tables, n: u32) -> Result<Members, Fault>
+    ensures { faulted result ≡ members_made place.entry.input.words.now tables.entry.types.now tables.entry.alignments.now place.entry.at n }
+{
+    let mut seen = Some(Members {
+        alignment: 1,
+        end: 0,
+    });
+    for j in 0..n {
+        let member = member_at(place, tables, j)?;
+        seen = with_member(tables, seen, member);
+    }
+    seen.ok_or(Fault::ModuleOrder)
 }
 
 // Of a type that is no array.
@@ -190,19 +203,4 @@ fn size_in(tables: Tables, t: u32) -> u64
         TypeInner::Struct { count: _, span } => span as u64,
         TypeInner::Other(_) => plain_size(inner),
     }
-}
-
-// The end of the last of n members; 0 for none.
-#[tactic(auto, unfolding(crate::specs::Members::last_end, crate::specs::Members::member_number))]
-pub fn last_end(place: Place, tables: Tables, n: u32) -> u64
-    ensures { result ≡ last_end place.entry.input.words.now tables.entry.types.now place.entry.at n }
-{
-    if n == 0 {
-        return 0;
-    }
-    let j = n - 1;
-    let number = number_of(member_sort(place, j));
-    let offset = offset_of(place.input.words, place.at, j);
-    let size = size_in(tables, number);
-    (offset as u64) + size
 }

@@ -1,74 +1,50 @@
 // Type sections from SPIR-V: the instructions of a module in word order, into lent type and member records.
 #![tactic(auto)]
 
-ghost use Rattle.std.specs.Prelude.{◌≡◌, [], ◌∷◌, ◌+◌, ◌*◌, ◌≤◌, ◌<◌, min, length, replicate};
+ghost use Rattle.std.specs.Prelude.{◌≡◌, true, [], ◌∷◌, ◌+◌, ◌*◌, ◌≤◌, ◌<◌, min, length, replicate};
 ghost use Rattle.ir_rows.specs.Rows.{with_part};
 ghost use Rattle.spirv_words.specs.Module.{header_ok, header_words};
-ghost use Rattle.spirv_members.specs.Members.{member_number, offset_of, member_rows};
+ghost use Rattle.spirv_members.specs.Members.{member_number, offset_of, member_sound, members_sound, member_rows};
 ghost use Rattle.spirv_instruction.specs.Instruction.{listed};
 ghost use Rattle.spirv_read.specs.Section.{section_answer_of};
 ghost use Rattle.spirv_read.specs.Read.{read_from, none, read_into, section_of, types_after, members_after};
 ghost use Rattle.spirv_read.specs.Serving.{Room, Held, StepIs, FilledTypes, FilledMembers};
 
-use ir_records::{Fault, Records, Words};
+use ir_records::{Fault, MOST_MEMBERS, MOST_TYPES, Records};
 use spirv_ids::{Module, Place};
-use spirv_instruction::{Made, Space};
+use spirv_instruction::Made;
 use spirv_members::Tables;
 use spirv_types::Known;
 
-const MAGIC: u32 = 119734787;
-
-const MOST_TYPES: usize = 1024;
-
-const MOST_MEMBERS: usize = 4096;
-
-// Writes a part of the words from `at` on.
-fn put(words: &mut [u32], at: usize, part: &[u32])
-    requires { at + length part.now ≤ length words.old }
-    ensures { words.new ≡ with_part (length part.now) words.old at part.now }
-{
-    words[at..at + part.len()].copy_from_slice(part);
-}
-
-fn put_type(types: &mut [u32], t: u32, w: Words)
-    requires { t * 6 + 6 ≤ length types.old }
-    ensures { types.new ≡ with_part 6 types.old (t * 6) (listed w) }
-{
-    let at = (t as usize) * ir_records::TYPE_WORDS;
-    let part = [w.kind, w.a, w.b, w.c, w.d, w.e];
-    put(types, at, &part);
-}
+/// The first word of a module.
+pub const MAGIC: u32 = 119734787;
 
 fn put_alignment(alignments: &mut [u32], t: u32, alignment: u32)
     requires { t < length alignments.old }
     ensures { alignments.new ≡ with_part 1 alignments.old t (alignment ∷ []) }
 {
-    let part = [alignment];
-    put(alignments, t as usize, &part);
+    wgsl_tables::put_words(alignments, t as usize, &[alignment]);
 }
 
-// The row of member j.
-#[tactic(auto, unfolding(spirv_members::specs::Members::member_number))]
-fn put_member(place: Place, members: &mut [u32], row: usize, j: u32)
-    requires { row * 4 + 4 ≤ length members.old }
+// The row of member j, which is sound.
+fn put_member(place: Place, members: &mut [u32], row: u32, j: u32)
+    requires sound { member_sound place.input.words.now place.at j ≡ true }
+    requires row_in_bounds { row * 4 + 4 ≤ length members.old }
     ensures { members.new ≡ with_part 4 members.old (row * 4) (member_number place.entry.input.words.now place.entry.at j ∷ offset_of place.entry.input.words.now place.entry.at j ∷ 0 ∷ 0 ∷ []) }
 {
-    let start = row * ir_records::MEMBER_WORDS;
-    let number = spirv_members::number_of(spirv_members::member_sort(place, j));
-    let offset = spirv_members::offset_of(place.input.words, place.at, j);
-    let part = [number, offset, 0, 0];
-    put(members, start, &part);
+    let member = spirv_members::member_of(place, j).unwrap();
+    wgsl_tables::put_member(members, row, member.number, member.offset);
 }
 
 // The rows of n members, from row m on.
 fn put_members(place: Place, members: &mut [u32], m: u32, n: u32)
+    requires sound { members_sound place.input.words.now place.at n ≡ true }
     requires n_bound { m + n ≤ 4096 }
     requires n_in_bounds { (m + n) * 4 ≤ length members.old }
     ensures { members.new ≡ with_part (n * 4) members.old (m * 4) (member_rows place.entry.input.words.now place.entry.at n) }
 {
     for j in 0..n {
-        let row = (m as usize) + (j as usize);
-        put_member(place, members, row, j);
+        put_member(place, members, m + j, j);
     }
 }
 
@@ -82,13 +58,14 @@ fn put_all(
     held: Records,
     made: Made,
 )
+    requires sound { members_sound place.input.words.now place.at made.rows ≡ true }
     requires t_in_bounds { held.types * 6 + 6 ≤ length types.old }
     requires rows_bound { held.members + made.rows ≤ 4096 }
     requires rows_in_bounds { (held.members + made.rows) * 4 ≤ length members.old }
     requires t_in_bounds_2 { held.types < length alignments.old }
     ensures { (types.new ≡ with_part 6 types.old (held.types * 6) (listed made.typed.words)) × (members.new ≡ with_part (made.rows * 4) members.old (held.members * 4) (member_rows place.entry.input.words.now place.entry.at made.rows)) × (alignments.new ≡ with_part 1 alignments.old held.types (made.typed.alignment ∷ [])) }
 {
-    put_type(types, held.types, made.typed.words);
+    wgsl_tables::put_type(types, held.types, made.typed.words);
     put_members(place, members, held.members, made.rows);
     put_alignment(alignments, held.types, made.typed.alignment);
 }
@@ -100,7 +77,7 @@ fn step_at(
     members: &mut [u32],
     alignments: &mut [u32],
     held: Records,
-    space: Space,
+    space: Records,
 ) -> Result<Records, Fault>
     requires room { Room space.types space.members types.old members.old alignments.old }
     requires held { Held space.types space.members place.input.words.now place.at types.old held.types held.members }
@@ -135,7 +112,7 @@ fn read_from(
     types: &mut [u32],
     members: &mut [u32],
     alignments: &mut [u32],
-    space: Space,
+    space: Records,
 ) -> Result<Records, Fault>
     requires { Room space.types space.members types.old members.old alignments.old }
     ensures { (section_answer_of result ≡ section_of (read_from space.types space.members input.entry.words.now (length input.entry.words.now) header_words none)) × FilledTypes (read_from space.types space.members input.entry.words.now (length input.entry.words.now) header_words none) types.old types.new × FilledMembers (read_from space.types space.members input.entry.words.now (length input.entry.words.now) header_words none) members.old members.new }
@@ -145,7 +122,7 @@ fn read_from(
         types: 0,
         members: 0,
     };
-    // Kept: each step is the word count of an instruction; no range has such steps.
+    // Kept: an instruction that has no words is refused here, by its place; `Instructions` ends before it.
     while at < input.words.len() {
         let place = Place { input, at };
         held = step_at(place, types, members, alignments, held, space)?;
@@ -180,10 +157,10 @@ pub fn read_words(words: &[u32], types: &mut [u32], members: &mut [u32]) -> Resu
         clear_both(types, members);
         return Err(Fault::ModuleHeader);
     }
-    let mut alignments = [0u32; 1024];
-    let space = Space {
-        types: MOST_TYPES.min(types.len() / ir_records::TYPE_WORDS),
-        members: MOST_MEMBERS.min(members.len() / ir_records::MEMBER_WORDS),
+    let mut alignments = [0u32; MOST_TYPES];
+    let space = Records {
+        types: MOST_TYPES.min(types.len() / ir_records::TYPE_WORDS) as u32,
+        members: MOST_MEMBERS.min(members.len() / ir_records::MEMBER_WORDS) as u32,
     };
     let section = read_from(Module::new(words), types, members, &mut alignments, space);
     if section.is_err() {

@@ -23,6 +23,7 @@ pub fn head_at(words: &[u32], at: usize) -> Option<u32>
 }
 
 // The module that begins at a position of a slice; past its end there is none.
+// Kept: the caller lends both tables beside the words, and each clause speaks of one of them.
 pub fn read_from(
     words: &[u32],
     at: usize,
@@ -31,15 +32,12 @@ pub fn read_from(
 ) -> Result<Records, Fault>
     ensures { (section_answer_of result ≡ section_at words.now at types.old members.old) × (types.new ≡ types_at words.now at types.old members.old) × (members.new ≡ members_at words.now at types.old members.old) }
 {
-    let n = words.len();
-    if at <= n {
-        return spirv_read::read_words(&words[at..], types, members);
-    }
-    spirv_read::read_words(&words[n..], types, members)
+    spirv_read::read_words(&words[at.min(words.len())..], types, members)
 }
 
 impl<'a> Reader<'a> {
     // At the first word.
+    // Kept: `handle_layout` of proc_type_layout is alike in form alone.
     pub fn new(words: &'a [u32]) -> Self
         ensures { (result.words ≡ words.entry) × (result.at ≡ 0) }
     {
@@ -68,6 +66,7 @@ impl<'a> Reader<'a> {
 }
 
 // A module's words, with plain parameters. Nothing is asked of the caller.
+// Kept: they are those of the exported call.
 pub fn read_module(words: &[u32], types: &mut [u32], members: &mut [u32]) -> Result<Records, Fault>
     ensures { (section_answer_of result ≡ section_of (read_into words.now types.old members.old)) × (types.new ≡ types_after (read_into words.now types.old members.old) types.old) × (members.new ≡ members_after (read_into words.now types.old members.old) members.old) }
 {

@@ -1,28 +1,32 @@
 // The record of one type that is read, from the words of a SPIR-V module, and its refusals 29 and 30.
 #![tactic(auto)]
 
-ghost use Rattle.std.specs.Prelude.{◌≡◌, true, false, ◌&&◌, ◌||◌, List, ℕ, ◌≤◌, ◌<◌, eqb, leb, ltb, length};
-ghost use Rattle.ir_records.specs.Result.{ok, pick, require, value_or};
-ghost use Rattle.ir_records.specs.Kinds.{scalar_number};
-ghost use Rattle.ir_records.specs.Record.{member_count, scalar_kind, array_kind, struct_kind};
-ghost use Rattle.proc_alignment.specs.Alignment.{round_up, most};
-ghost use Rattle.proc_type_alignment.specs.TypeAlignment.{width_alignment, base_alignment};
-ghost use Rattle.spirv_ids.specs.Ids.{integer_before, type_number, sort};
-ghost use Rattle.spirv_ids.specs.Sorts.{sort_said};
-ghost use Rattle.spirv_words.specs.Module.{word, found};
-ghost use Rattle.spirv_members.specs.Members.{layouts_of};
-ghost use Rattle.spirv_types.specs.Types.{judged, words_of, is_fresh, width_ok, sign_kind, parts_ok, stride_at, stride_of, constant_length, length_of, bool_type, int_type, float_type, vector_type, matrix_type, array_type, runtime_array_type, struct_type, type_at};
-ghost use Rattle.spirv_types.specs.Serving.{made_result, checked};
+ghost use Rattle.std.specs.Prelude.{◌≡◌, true, ◌&&◌, ◌||◌, Ok, List, ℕ, ◌≤◌, ◌<◌, eqb, ltb, length};
+ghost use Rattle.ir_records.specs.Result.{pick};
+ghost use Rattle.ir_records.specs.Kinds.{kind_number, scalar_number};
+ghost use Rattle.ir_records.specs.Record.{member_count, scalar_kind};
+ghost use Rattle.spirv_ids.specs.Ids.{integer_before, is_constant, type_number};
+ghost use Rattle.spirv_words.specs.Module.{opcode, word, found};
+ghost use Rattle.spirv_members.specs.Serving.{faulted};
+ghost use Rattle.spirv_types.specs.Types.{words_of, is_fresh, stride_at, constant_length, type_at};
+ghost use Rattle.spirv_types.specs.Serving.{leaf, width_of, kinded, sign_of, int_made, float_made, parts_made, vector_made, matrix_made, stride_made, length_made, array_typed, array_made, runtime_array_made, spanned, struct_made, type_made};
 
 use ir_records::{Fault, Kind, ScalarKind, Words};
 use spirv_ids::{Given, Module, Place};
-use spirv_members::Tables;
+use spirv_members::{Members, Tables};
 
 // A type's record and its layout alignment.
 #[derive(Clone, Copy, Debug, PartialEq, Eq)]
 pub struct Typed {
     pub words: Words,
     pub alignment: u32,
+}
+
+// How many parts a vector or a matrix has, and the record of each.
+#[derive(Clone, Copy, Debug, PartialEq, Eq)]
+pub struct Parts {
+    pub count: u32,
+    pub part: Words,
 }
 
 /// A place, and the records that are made of the instructions before it: a type for each that is read, and so many member rows.
@@ -34,41 +38,17 @@ pub struct Known<'a, 'b> {
     ghost whole: { length tables.alignments.now ≡ type_number place.input.words.now place.at },
 }
 
-// 29 before 30.
-fn check(unsupported: bool, sound: bool) -> Result<(), Fault>
-    ensures { result ≡ checked unsupported sound }
-{
-    if unsupported {
-        return Err(Fault::ModuleType);
-    }
-    if !sound {
-        return Err(Fault::ModuleOrder);
-    }
-    Ok(())
-}
-
-fn judged_type(unsupported: bool, sound: bool, typed: Typed) -> Result<Typed, Fault>
-    ensures { made_result result ≡ judged unsupported sound typed }
-{
-    check(unsupported, sound)?;
-    Ok(typed)
-}
-
 // Of a leaf: aligned to a factor times its width; no alignment is 1.
-fn leaf_type(
-    unsupported: bool,
-    sound: bool,
-    words: Words,
-    factor: u32,
-    width: u32,
-) -> Result<Typed, Fault>
+// Kept: `width ≤ 255`: a number that was just read has no type that says it; of a record that is made `Bounded` does.
+fn leaf_type(words: Words, factor: u32, width: u32) -> Typed
     requires factor_bound { factor ≤ 16 }
-    requires width_bound { unsupported ≡ false → sound ≡ true → width ≤ 255 }
-    ensures { made_result result ≡ judged unsupported sound (record { words = words; alignment = value_or 1 (width_alignment factor width) }) }
+    requires width_bound { width ≤ 255 }
+    ensures { result ≡ leaf words factor width }
 {
-    check(unsupported, sound)?;
-    let alignment = proc_type_alignment::leaf_alignment(factor, width).unwrap_or(1);
-    Ok(Typed { words, alignment })
+    Typed {
+        words,
+        alignment: proc_type_alignment::leaf_alignment(factor, width).unwrap_or(1),
+    }
 }
 
 // Its id is not given before, and has no decoration that it cannot have.
@@ -84,133 +64,109 @@ fn is_fresh(place: Place) -> bool
     spirv_ids::is_new(place, id) & misplaced.is_none()
 }
 
-// What word k of an instruction names.
-fn named(place: Place, k: usize) -> Option<Given>
-    ensures { sort_said result ≡ sort place.entry.input.words.now place.entry.at (word place.entry.input.words.now place.entry.at k) }
+// The width in bytes; number 29 for any other number of bits.
+fn width_of(bits: u32) -> Result<u32, Fault>
+    ensures width { faulted result ≡ width_of bits }
+    ensures bound { (width : ℕ) → result ≡ Ok width → width ≤ 255 }
 {
-    let id = spirv_words::word_of(place.input.words, place.at, k);
-    spirv_ids::sort_of(place, id)
+    if matches!(bits, 8 | 16 | 32 | 64) {
+        return Ok(bits / 8);
+    }
+    Err(Fault::ModuleType)
 }
 
-fn width_ok(bits: u32) -> bool
-    ensures { result ≡ width_ok bits }
+// Number 29 for any other word.
+// Kept: these arms by number are the conversion of SPIR-V's signedness.
+fn sign_kind(signedness: u32) -> Result<ScalarKind, Fault>
+    ensures { kinded result ≡ sign_of signedness }
 {
-    (bits == 8) | (bits == 16) | (bits == 32) | (bits == 64)
-}
-
-// Kept: valid_rule_word::rule_of is alike in form alone: it chooses a rule and not a kind.
-fn sign_kind(signedness: u32) -> ScalarKind
-    ensures { scalar_number result ≡ sign_kind signedness }
-{
-    if signedness == 0 {
-        ScalarKind::Uint
-    } else {
-        ScalarKind::Sint
+    match signedness {
+        0 => Ok(ScalarKind::Uint),
+        1 => Ok(ScalarKind::Sint),
+        _ => Err(Fault::ModuleType),
     }
 }
 
-fn parts_ok(n: u32) -> bool
-    ensures { result ≡ parts_ok n }
+fn scalar_type(kind: ScalarKind, width: u32) -> Typed
+    requires { width ≤ 255 }
+    ensures { result ≡ leaf (words_of scalar_kind (scalar_number kind) width 0 0) 1 width }
 {
-    (2 <= n) & (n <= 4)
-}
-
-fn scalar(kind: ScalarKind, width: u32) -> Words
-    ensures { result ≡ words_of scalar_kind (scalar_number kind) width 0 0 }
-{
-    Words {
+    let words = Words {
         kind: Kind::Scalar as u32,
         a: kind as u32,
         b: width,
         c: 0,
         d: 0,
         e: 0,
+    };
+    leaf_type(words, 1, width)
+}
+
+fn int_type(words: &[u32], at: usize) -> Result<Typed, Fault>
+    ensures { faulted result ≡ int_made words.now at }
+{
+    let width = width_of(spirv_words::word_of(words, at, 2))?;
+    let kind = sign_kind(spirv_words::word_of(words, at, 3))?;
+    Ok(scalar_type(kind, width))
+}
+
+// A fourth word is an encoding, which is number 29.
+fn float_type(words: &[u32], at: usize) -> Result<Typed, Fault>
+    ensures { faulted result ≡ float_made words.now at }
+{
+    if 3 < spirv_words::word_count(words, at) {
+        return Err(Fault::ModuleType);
     }
+    let width = width_of(spirv_words::word_of(words, at, 2))?;
+    Ok(scalar_type(ScalarKind::Float, width))
 }
 
-#[tactic(auto, unfolding(proc_type_alignment::specs::TypeAlignment::alignment_of, crate::specs::Types::bool_type, ir_records::specs::Record::inner_of))]
-fn bool_type(fresh: bool) -> Result<Typed, Fault>
-    ensures { (al : List ℕ) → made_result result ≡ bool_type al fresh }
+// What a vector or a matrix consists of: how many parts, each with this record, which is of the kind that is asked for.
+fn parts_of(place: Place, tables: Tables, kind: Kind) -> Result<Parts, Fault>
+    ensures { faulted result ≡ parts_made place.entry.input.words.now tables.entry.types.now place.entry.at (kind_number kind) }
 {
-    leaf_type(false, fresh, scalar(ScalarKind::Bool, 1), 1, 1)
+    let count = spirv_words::word_of(place.input.words, place.at, 3);
+    if !(2..=4).contains(&count) {
+        return Err(Fault::ModuleType);
+    }
+    let number = spirv_members::type_named(spirv_ids::named(place, 2))?;
+    let part = ir_records::record_words(tables.types, number);
+    if !part.is(kind) {
+        return Err(Fault::ModuleOrder);
+    }
+    Ok(Parts { count, part })
 }
 
-#[tactic(auto, unfolding(proc_type_alignment::specs::TypeAlignment::alignment_of, ir_records::specs::Record::inner_of, crate::specs::Types::int_type))]
-fn int_type(words: &[u32], at: usize, fresh: bool) -> Result<Typed, Fault>
-    ensures { (al : List ℕ) → made_result result ≡ int_type words.now al at fresh }
+fn vector_type(place: Place, tables: Tables) -> Result<Typed, Fault>
+    ensures { faulted result ≡ vector_made place.entry.input.words.now tables.entry.types.now place.entry.at }
 {
-    let bits = spirv_words::word_of(words, at, 2);
-    let signedness = spirv_words::word_of(words, at, 3);
-    let unsupported = !width_ok(bits) | (1 < signedness);
-    let width = bits / 8;
-    leaf_type(
-        unsupported,
-        fresh,
-        scalar(sign_kind(signedness), width),
-        1,
-        width,
-    )
-}
-
-#[tactic(auto, unfolding(proc_type_alignment::specs::TypeAlignment::alignment_of, crate::specs::Types::float_type, ir_records::specs::Record::inner_of))]
-fn float_type(words: &[u32], at: usize, fresh: bool) -> Result<Typed, Fault>
-    ensures { (al : List ℕ) → made_result result ≡ float_type words.now al at fresh }
-{
-    let bits = spirv_words::word_of(words, at, 2);
-    let count = spirv_words::word_count(words, at);
-    let unsupported = !width_ok(bits) | (3 < count);
-    let width = bits / 8;
-    leaf_type(
-        unsupported,
-        fresh,
-        scalar(ScalarKind::Float, width),
-        1,
-        width,
-    )
-}
-
-// Kept: matrix_type differs in the kind of its part, in one word more, and in which word is the alignment's factor; one function for both would
-// take these three as parameters and be no shorter.
-#[tactic(auto, unfolding(proc_type_alignment::specs::TypeAlignment::alignment_of, ir_records::specs::Record::inner_of, crate::specs::Types::vector_type))]
-fn vector_type(place: Place, tables: Tables, fresh: bool) -> Result<Typed, Fault>
-    ensures { (al : List ℕ) → made_result result ≡ vector_type place.entry.input.words.now tables.entry.types.now al place.entry.at fresh }
-{
-    let n = spirv_words::word_of(place.input.words, place.at, 3);
-    let part = named(place, 2);
-    let base = ir_records::record_words(tables.types, spirv_members::number_of(part));
-    let unsupported = !parts_ok(n) | spirv_members::is_other(part);
-    let sound = fresh & spirv_members::is_type_read(part) & (base.kind == Kind::Scalar as u32);
+    let parts = parts_of(place, tables, Kind::Scalar)?;
     let vector = Words {
         kind: Kind::Vector as u32,
-        a: n,
-        b: base.a,
-        c: base.b,
+        a: parts.count,
+        b: parts.part.a,
+        c: parts.part.b,
         d: 0,
         e: 0,
     };
-    let factor = proc_alignment::vector_alignment(n);
-    leaf_type(unsupported, sound, vector, factor, base.b)
+    let factor = proc_alignment::vector_alignment(parts.count);
+    Ok(leaf_type(vector, factor, parts.part.b))
 }
 
-#[tactic(auto, unfolding(proc_type_alignment::specs::TypeAlignment::alignment_of, ir_records::specs::Record::inner_of, crate::specs::Types::matrix_type))]
-fn matrix_type(place: Place, tables: Tables, fresh: bool) -> Result<Typed, Fault>
-    ensures { (al : List ℕ) → made_result result ≡ matrix_type place.entry.input.words.now tables.entry.types.now al place.entry.at fresh }
+fn matrix_type(place: Place, tables: Tables) -> Result<Typed, Fault>
+    ensures { faulted result ≡ matrix_made place.entry.input.words.now tables.entry.types.now place.entry.at }
 {
-    let n = spirv_words::word_of(place.input.words, place.at, 3);
-    let part = named(place, 2);
-    let base = ir_records::record_words(tables.types, spirv_members::number_of(part));
-    let unsupported = !parts_ok(n) | spirv_members::is_other(part);
-    let sound = fresh & spirv_members::is_type_read(part) & (base.kind == Kind::Vector as u32);
+    let parts = parts_of(place, tables, Kind::Vector)?;
     let matrix = Words {
         kind: Kind::Matrix as u32,
-        a: n,
-        b: base.a,
-        c: base.b,
-        d: base.c,
+        a: parts.count,
+        b: parts.part.a,
+        c: parts.part.b,
+        d: parts.part.c,
         e: 0,
     };
-    let factor = proc_alignment::vector_alignment(base.a);
-    leaf_type(unsupported, sound, matrix, factor, base.c)
+    let factor = proc_alignment::vector_alignment(parts.part.a);
+    Ok(leaf_type(matrix, factor, parts.part.c))
 }
 
 // The one ArrayStride of an array; none where there are several.
@@ -222,12 +178,12 @@ fn stride_at(words: &[u32], at: usize) -> Option<usize>
     spirv_words::only_before(words, at, |p| spirv_words::is_stride_of(words, id, p))
 }
 
-// Its operand.
-fn stride_in(words: &[u32], at: usize, place: Option<usize>) -> u32
-    requires { place ≡ found (stride_at words.now at) }
-    ensures { result ≡ stride_of words.now at }
+// Its operand; number 30 where there is not one.
+fn stride_of(words: &[u32], at: usize) -> Result<u32, Fault>
+    ensures { faulted result ≡ stride_made words.now at }
 {
-    spirv_words::word_of(words, place.unwrap_or(0), 3)
+    let place = stride_at(words, at).ok_or(Fault::ModuleOrder)?;
+    Ok(spirv_words::word_of(words, place, 3))
 }
 
 // A length by the words of its type and its own.
@@ -242,140 +198,128 @@ fn length_by(bits: u32, signedness: u32, value: u32) -> Option<u32>
 
 // The length that the constant at a place is.
 fn constant_length(input: Module, at: usize) -> Option<u32>
+    requires { is_constant input.words.now at ≡ true }
     ensures { result ≡ found (constant_length input.entry.words.now at (integer_before input.entry.words.now at (word input.entry.words.now at 1))) }
 {
     let words = input.words;
-    let ty = spirv_words::word_of(words, at, 1);
-    let integer = spirv_ids::integer_before(input, at, ty).unwrap_or(0);
+    let integer = spirv_ids::integer_of(input, at)?;
     let bits = spirv_words::word_of(words, integer, 2);
     let signedness = spirv_words::word_of(words, integer, 3);
     let value = spirv_words::word_of(words, at, 3);
     length_by(bits, signedness, value)
 }
 
+// The length of the array at a place: number 29 where a type that is not read stands for it, none where no length above 0 does.
 #[tactic(auto, unfolding(crate::specs::Types::length_of))]
-fn length_of(input: Module, given: Option<Given>) -> Option<u32>
-    ensures { result ≡ found (length_of input.entry.words.now (sort_said given)) }
+fn length_of(place: Place) -> Result<Option<u32>, Fault>
+    ensures { faulted result ≡ length_made place.entry.input.words.now place.entry.at }
 {
-    match given? {
-        Given::ConstantAt(at) => constant_length(input, at),
-        Given::OtherType | Given::TypeRead(_) => None,
+    match spirv_ids::named(place, 3) {
+        Some(Given::ConstantAt(at)) => Ok(constant_length(place.input, at)),
+        Some(Given::OtherType) => Err(Fault::ModuleType),
+        Some(Given::TypeRead(_)) | None => Ok(None),
     }
 }
 
-// The record of an array, aligned as its element is.
-// Kept: form, count and stride are words of the record that is made here; before that they are no one value.
-fn array_typed(alignments: &[u32], base: u32, form: u32, count: u32, stride: u32) -> Typed
-    ensures { result ≡ record { words = words_of array_kind base form count stride; alignment = value_or 1 (base_alignment (layouts_of alignments.now) (length alignments.now) base) } }
+// The record of an array, aligned as its element is; no length: a runtime array.
+fn array_typed(alignments: &[u32], base: u32, length: Option<u32>, stride: u32) -> Typed
+    ensures { result ≡ array_typed alignments.now base length stride }
 {
-    Typed {
-        words: Words {
-            kind: Kind::Array as u32,
-            a: base,
-            b: form,
-            c: count,
-            d: stride,
-            e: 0,
-        },
-        alignment: alignments.get(base as usize).copied().unwrap_or(1),
-    }
+    let alignment = alignments.get(base as usize).copied().unwrap_or(1);
+    let (form, count) = match length {
+        Some(count) => (0, count),
+        None => (1, 0),
+    };
+    let words = Words {
+        kind: Kind::Array as u32,
+        a: base,
+        b: form,
+        c: count,
+        d: stride,
+        e: 0,
+    };
+    Typed { words, alignment }
 }
 
-#[tactic(auto, unfolding(proc_type_alignment::specs::TypeAlignment::alignment_of, crate::specs::Types::array_type, ir_records::specs::Record::inner_of))]
-fn array_type(place: Place, alignments: &[u32], fresh: bool) -> Result<Typed, Fault>
-    ensures { made_result result ≡ array_type place.entry.input.words.now alignments.now place.entry.at fresh }
+fn array_type(place: Place, alignments: &[u32]) -> Result<Typed, Fault>
+    ensures { faulted result ≡ array_made place.entry.input.words.now alignments.now place.entry.at }
 {
-    let element = named(place, 2);
-    let counter = named(place, 3);
-    let decoration = stride_at(place.input.words, place.at);
-    let stride = stride_in(place.input.words, place.at, decoration);
-    let length = length_of(place.input, counter);
-    let n = length.unwrap_or(0);
-    let size = (n as u64) * (stride as u64);
-    let unsupported = spirv_members::is_other(element) | spirv_members::is_other(counter);
-    let read = spirv_members::is_type_read(element);
-    let sound = fresh
-        & read
-        & decoration.is_some()
-        & length.is_some()
-        & (size <= proc_alignment::MOST);
-    let base = spirv_members::number_of(element);
-    judged_type(
-        unsupported,
-        sound,
-        array_typed(alignments, base, 0, n, stride),
-    )
-}
-
-#[tactic(auto, unfolding(proc_type_alignment::specs::TypeAlignment::alignment_of, ir_records::specs::Record::inner_of, crate::specs::Types::runtime_array_type))]
-fn runtime_array_type(place: Place, alignments: &[u32], fresh: bool) -> Result<Typed, Fault>
-    ensures { made_result result ≡ runtime_array_type place.entry.input.words.now alignments.now place.entry.at fresh }
-{
-    let element = named(place, 2);
-    let decoration = stride_at(place.input.words, place.at);
-    let stride = stride_in(place.input.words, place.at, decoration);
-    let read = spirv_members::is_type_read(element);
-    let sound = fresh & read & decoration.is_some();
-    let base = spirv_members::number_of(element);
-    judged_type(
-        spirv_members::is_other(element),
-        sound,
-        array_typed(alignments, base, 1, 0, stride),
-    )
-}
-
-// A struct of n members by its end and alignment; `first`: the member rows before it.
-fn spanned_type(end: u64, alignment: u32, first: u32, n: u32) -> Result<Typed, Fault>
-    requires { 0 < alignment }
-    ensures { made_result result ≡ require (leb (round_up alignment end) most) 30 0 0 (ok (record { words = words_of struct_kind first n (round_up alignment end) 0; alignment = alignment })) }
-{
-    if proc_alignment::MOST < end {
+    let counted = length_of(place)?;
+    let base = spirv_members::type_named(spirv_ids::named(place, 2))?;
+    let stride = stride_of(place.input.words, place.at)?;
+    let length = counted.ok_or(Fault::ModuleOrder)?;
+    if proc_alignment::MOST < (length as u64) * (stride as u64) {
         return Err(Fault::ModuleOrder);
     }
-    let span = proc_alignment::round_up(alignment, end as u32);
-    if proc_alignment::MOST < span {
+    Ok(array_typed(alignments, base, Some(length), stride))
+}
+
+fn runtime_array_type(place: Place, alignments: &[u32]) -> Result<Typed, Fault>
+    ensures { faulted result ≡ runtime_array_made place.entry.input.words.now alignments.now place.entry.at }
+{
+    let base = spirv_members::type_named(spirv_ids::named(place, 2))?;
+    let stride = stride_of(place.input.words, place.at)?;
+    Ok(array_typed(alignments, base, None, stride))
+}
+
+// A struct of n members by their end and alignment; `first`: the member rows before it.
+fn spanned_type(members: Members, first: u32, n: u32) -> Result<Typed, Fault>
+    requires { 0 < members.alignment }
+    ensures { faulted result ≡ spanned members first n }
+{
+    let alignment = members.alignment;
+    let Ok(end) = u32::try_from(members.end) else {
         return Err(Fault::ModuleOrder);
-    }
+    };
+    let Ok(span) = u32::try_from(proc_alignment::round_up(alignment, end)) else {
+        return Err(Fault::ModuleOrder);
+    };
     let words = Words {
         kind: Kind::Struct as u32,
         a: first,
         b: n,
-        c: span as u32,
+        c: span,
         d: 0,
         e: 0,
     };
     Ok(Typed { words, alignment })
 }
 
-fn struct_type(known: Known, fresh: bool) -> Result<Typed, Fault>
-    ensures { (ms : List ℕ) → member_count ms ≡ known.entry.rows → made_result result ≡ struct_type known.entry.place.input.words.now (record { types = known.entry.tables.types.now; members = ms; alignments = known.entry.tables.alignments.now }) known.entry.place.at fresh }
+fn struct_type(known: Known) -> Result<Typed, Fault>
+    ensures { faulted result ≡ struct_made known.entry.place.input.words.now known.entry.tables.types.now known.entry.tables.alignments.now known.entry.rows known.entry.place.at }
 {
     let place = known.place;
     let n = spirv_members::member_count(place.input.words, place.at);
-    let seen = spirv_members::members_of(place, known.tables, n);
-    check(seen.unsupported, fresh & seen.sound)?;
-    let end = spirv_members::last_end(place, known.tables, n);
-    spanned_type(end, seen.alignment, known.rows, n)
+    let members = spirv_members::members_of(place, known.tables, n)?;
+    spanned_type(members, known.rows, n)
 }
 
-// The type at a place.
-#[tactic(auto, unfolding(crate::specs::Types::type_at, crate::specs::Types::type_by))]
-pub fn type_at(known: Known) -> Result<Typed, Fault>
-    ensures { (ms : List ℕ) → member_count ms ≡ known.entry.rows → made_result result ≡ type_at known.entry.place.input.words.now (record { types = known.entry.tables.types.now; members = ms; alignments = known.entry.tables.alignments.now }) known.entry.place.at }
+// The type of the instruction at a place, whatever its id is.
+fn type_made(known: Known) -> Result<Typed, Fault>
+    ensures { faulted result ≡ type_made known.entry.place.input.words.now known.entry.tables.types.now known.entry.tables.alignments.now known.entry.rows known.entry.place.at (opcode known.entry.place.input.words.now known.entry.place.at) }
 {
     let place = known.place;
     let tables = known.tables;
     let words = place.input.words;
-    let fresh = is_fresh(place);
-    let op = spirv_words::opcode_of(words, place.at);
-    match op {
-        spirv_words::TYPE_BOOL => bool_type(fresh),
-        spirv_words::TYPE_INT => int_type(words, place.at, fresh),
-        spirv_words::TYPE_FLOAT => float_type(words, place.at, fresh),
-        spirv_words::TYPE_VECTOR => vector_type(place, tables, fresh),
-        spirv_words::TYPE_MATRIX => matrix_type(place, tables, fresh),
-        spirv_words::TYPE_ARRAY => array_type(place, tables.alignments, fresh),
-        spirv_words::TYPE_RUNTIME_ARRAY => runtime_array_type(place, tables.alignments, fresh),
-        _ => struct_type(known, fresh),
+    match spirv_words::opcode_of(words, place.at) {
+        spirv_words::TYPE_BOOL => Ok(scalar_type(ScalarKind::Bool, 1)),
+        spirv_words::TYPE_INT => int_type(words, place.at),
+        spirv_words::TYPE_FLOAT => float_type(words, place.at),
+        spirv_words::TYPE_VECTOR => vector_type(place, tables),
+        spirv_words::TYPE_MATRIX => matrix_type(place, tables),
+        spirv_words::TYPE_ARRAY => array_type(place, tables.alignments),
+        spirv_words::TYPE_RUNTIME_ARRAY => runtime_array_type(place, tables.alignments),
+        _ => struct_type(known),
     }
+}
+
+// The type at a place: number 29, then 30.
+pub fn type_at(known: Known) -> Result<Typed, Fault>
+    ensures { (ms : List ℕ) → member_count ms ≡ known.entry.rows → faulted result ≡ type_at known.entry.place.input.words.now (record { types = known.entry.tables.types.now; members = ms; alignments = known.entry.tables.alignments.now }) known.entry.place.at }
+{
+    let typed = type_made(known)?;
+    if !is_fresh(known.place) {
+        return Err(Fault::ModuleOrder);
+    }
+    Ok(typed)
 }

@@ -10,8 +10,9 @@ use native.Mathlib.Omega.{arith}
 use lib.Dec.{eqb, ltb}
 use borrow.Author.Tests.{lt-ltb, le-ltb, ltb-true, ne_eqb, eqb-true, eqb-false}
 use Rattle.ir_records.specs.Result.{pick}
-use Rattle.std.specs.Prelude.{None, Some}
-use Rattle.std.specs.Option.{is_some}
+use Rattle.std.specs.Prelude.{Option, None, Some}
+use Rattle.std.specs.Option.{is_some, option_map}
+use Rattle.std.specs.List as list
 use Rattle.spirv_words.specs.Module.{word_count, header_words, starts, between, before, first, find, found, only}
 
 and_true : (a b : Bool) → (a && b) ≡ true → (a ≡ true) × (b ≡ true)
@@ -61,6 +62,20 @@ found_is n = by (eqb n 0) refl
     by : (b : Bool) → eqb n 0 ≡ b → is_some (found n) ≡ ltb 0 n
     by true t = rw (eqb-true n 0 t) refl
     by false t = let more : 0 < n = omega (arith, eqb-false n 0 t) in rw (t, lt-ltb 0 n more) refl
+
+-- what std's search finds
+pub same_place : (r : Option ℕ) → option_map (λ (p : ℕ). p) r ≡ r
+same_place None = refl
+same_place (Some p) = refl
+
+pub same_find : (test : ℕ → Bool) (ps : List ℕ) → list.find test ps ≡ find test ps
+unfolding find
+same_find test [] = refl
+same_find test (p ∷ ps) = by (test p) refl (same_find test ps)
+  where
+    by : (b : Bool) → test p ≡ b → list.find test ps ≡ find test ps → list.find test (p ∷ ps) ≡ find test (p ∷ ps)
+    by true e rest = rw e refl
+    by false e rest = rw e rest
 
 module _ (ws : List ℕ) (end : ℕ) where
   -- two bounds that are large enough
@@ -119,24 +134,6 @@ module _ (ws : List ℕ) (end : ℕ) where
     pub search_stuck : word_count ws p ≡ 0 → first test (between ws p end) ≡ 0
     unfolding first
     search_stuck e = rw (between_stuck p e)
-
-    -- the same as an option
-    pub find_on : p < end → 0 < word_count ws p → test p ≡ false
-        → find test (between ws p end) ≡ find test (between ws (p + word_count ws p) end)
-    unfolding find
-    find_on h k e = rw (between_next p h k, e)
-
-    pub find_here : p < end → 0 < word_count ws p → test p ≡ true → find test (between ws p end) ≡ Some p
-    unfolding find
-    find_here h k e = rw (between_next p h k, e)
-
-    pub find_end : end ≤ p → find test (between ws p end) ≡ None
-    unfolding find
-    find_end h = rw (between_end p h)
-
-    pub find_stuck : word_count ws p ≡ 0 → find test (between ws p end) ≡ None
-    unfolding find
-    find_stuck e = rw (between_stuck p e)
 
   -- after the first word of the words, 0 is no place
   pub find_found : (test : ℕ → Bool) (l p : ℕ) → 0 < p → find test (starts ws l p end) ≡ found (first test (starts ws l p end))

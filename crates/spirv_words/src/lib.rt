@@ -5,10 +5,14 @@ ghost use Rattle.std.specs.Prelude.{◌≡◌, ◌&&◌, ◌≤◌, Bool, ℕ, e
 ghost use Rattle.spirv_words.specs.Module.{word_count, opcode, word, between, before, find, only, found};
 ghost use Rattle.spirv_words.specs.Decorations.{is_integer, is_stride_of, is_offset_of, is_misplaced, is_otherwise};
 ghost use Rattle.spirv_words.specs.Serving.{Tells};
+ghost use Rattle.std.specs.Iterator.{YieldsFirst, item_count};
 
 // Words of the header; the first instruction stands after them.
 pub const HEADER_WORDS: usize = 5;
 
+// The opcodes that are looked at.
+// Kept: numbers, and no enum: a module may have any of 65,536 opcodes, and what is a type or is read is a range of them (spirv_ids); an enum would
+// have a variant for all others, and each of these tests would go back to its number.
 pub const TYPE_VOID: u32 = 19;
 
 pub const TYPE_BOOL: u32 = 20;
@@ -35,6 +39,7 @@ pub const DECORATE: u32 = 71;
 
 pub const MEMBER_DECORATE: u32 = 72;
 
+// The decorations that are looked at; a module may have any other number.
 pub const ROW_MAJOR: u32 = 4;
 
 pub const ARRAY_STRIDE: u32 = 6;
@@ -119,6 +124,35 @@ pub fn is_otherwise(words: &[u32], id: u32, member: u32, step: u32, at: usize) -
             | ((decoration == MATRIX_STRIDE) & !(word_of(words, at, 4) == step)))
 }
 
+/// The instructions from one place on and before another, by their places; none after one that has no words.
+#[derive(Clone, Copy, Debug, PartialEq, Eq)]
+pub struct Instructions<'a> {
+    pub words: &'a [u32],
+    pub at: usize,
+    pub end: usize,
+}
+
+impl<'a> Iterator for Instructions<'a> {
+    type Item = usize;
+
+    ghost next_gives = { YieldsFirst (λ s. between s.words.now s.at s.end) };
+
+    ghost remaining = { item_count (λ s. between s.words.now s.at s.end) };
+
+    fn next(&mut self) -> Option<usize> {
+        let at = self.at;
+        if self.end <= at {
+            return None;
+        }
+        let count = word_count(self.words, at);
+        if count == 0 {
+            return None;
+        }
+        self.at = at + count;
+        Some(at)
+    }
+}
+
 // The first wanted instruction from `from` on and before `end`.
 pub fn first_between<F: Fn(usize) -> bool>(
     words: &[u32],
@@ -129,19 +163,12 @@ pub fn first_between<F: Fn(usize) -> bool>(
     requires { F.IsAlwaysCallable is_wanted }
     ensures { (test : ℕ → Bool) → Tells (F.post is_wanted) test → result ≡ find test (between words.now from end) }
 {
-    let mut p = from;
-    // Kept: each step is the word count of an instruction; no range has such steps.
-    while p < end {
-        let count = word_count(words, p);
-        if count == 0 {
-            return None;
-        }
-        if is_wanted(p) {
-            return Some(p);
-        }
-        p += count;
-    }
-    None
+    let mut instructions = Instructions {
+        words,
+        at: from,
+        end,
+    };
+    instructions.find(|p| is_wanted(*p))
 }
 
 // The only wanted instruction before `at`; none where there are several.

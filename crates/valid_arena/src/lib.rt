@@ -1,6 +1,8 @@
 // Judging an arena, the types in order, as Validator::validate of naga's valid/mod.rs has those of a module; and the arena check, which lays out
 // and then judges.
-// Kept: `rows`, `n`: n is how many types there are, and the rows may be longer.
+// Kept: `types`, `members`, `rows`: the tables that a caller lends, as in ir_records.
+// Kept: `n ≡ type_count types.now`, `n * 14 ≤ length rows.old`: as in proc_layouter.
+// Kept: `rows`, `n`: the caller may lend rows for more types than there are, and gets the rest back as it was.
 #![tactic(auto)]
 
 ghost use Rattle.ir_records.specs.Refusal.{outcome_of};
@@ -13,7 +15,7 @@ ghost use Rattle.ir_rows.specs.Rows.{cleared};
 ghost use Rattle.proc_layouter.specs.Layouter.{layout_outcome, rows_after};
 ghost use Rattle.valid_type_info.specs.Verdict.{least_for};
 ghost use Rattle.valid_arena.specs.Arena.{row_at, arena_outcome, arena_rows, arena_answer, arena_words};
-ghost use Rattle.valid_arena.specs.Serving.{laid_then_judged};
+ghost use Rattle.valid_arena.specs.Serving.{laid_then_judged, refused_by};
 
 use ir_records::{Fault, Refusal};
 use valid_type_info::UniformRule;
@@ -41,22 +43,20 @@ fn judge_all(
 }
 
 // Where type by type a refusal was found: 2 to 7 of any type come before it. The rows are zeroed.
-fn refused(
-    types: &[u32],
-    members: &[u32],
-    rows: &mut [u32],
-    n: u32,
-    found: Result<(), Refusal>,
-) -> Result<(), Refusal>
+fn refused(types: &[u32], members: &[u32], rows: &mut [u32], n: u32, found: Refusal) -> Refusal
     requires n_value { n ≡ type_count types.now }
     requires rows_value { tables_fit (length types.now) (length members.now) (length rows.old) ≡ true }
-    ensures value { outcome_of result ≡ also (layout_outcome types.now members.now) (outcome_of found) }
+    ensures value { refused_by result ≡ also (layout_outcome types.now members.now) (refused_by found) }
     ensures rows_after { rows.new ≡ cleared rows.old (n * 14) }
 {
-    proc_layouter::layout(types, members, rows)?;
-    let words = (n as usize) * ir_records::ROW_WORDS;
-    ir_rows::clear(rows, words);
-    found
+    match proc_layouter::layout(types, members, rows) {
+        Ok(()) => {
+            let words = (n as usize) * ir_records::ROW_WORDS;
+            ir_rows::clear(rows, words);
+            found
+        }
+        Err(first) => first,
+    }
 }
 
 // Judging, once tables and capabilities are in order.
@@ -73,11 +73,11 @@ fn judge_tables(
     ensures value { outcome_of result ≡ arena_outcome capabilities types.now members.now }
     ensures rows_after { rows.new ≡ rows_after (outcome_of result) (arena_rows rule capabilities types.now members.now n) n rows.old }
 {
-    let found = judge_all(capabilities, rule, types, members, rows, n);
-    if found.is_err() {
-        return refused(types, members, rows, n, found);
+    // Kept: what is refused is worked out with the rows, which a closure for `map_err` would have to borrow.
+    if let Err(found) = judge_all(capabilities, rule, types, members, rows, n) {
+        return Err(refused(types, members, rows, n, found));
     }
-    found
+    Ok(())
 }
 
 // Kept: `capabilities`, `rule`: two parameters of the calls: they are only handed on together, and part below, where the layout needs neither,
@@ -99,7 +99,7 @@ pub fn judge(
     if !(known & fits) {
         return Err(Refusal::of(Fault::TableLength));
     }
-    let n = (types.len() / ir_records::TYPE_WORDS) as u32;
+    let n = ir_records::type_count(types) as u32;
     judge_tables(capabilities, rule, types, members, rows, n)
 }
 

@@ -3,8 +3,9 @@
 -- Assumes nothing.
 use Rattle.std.proofs.Common.{Option, Some, None}
 use Rattle.std.specs.Option.{is_some}
+use Rattle.std.specs.List.{list_any, range_with_len}
 use mathlib.Core.Path.{◌≡◌, refl, sym, ◌∙◌, ap}
-use mathlib.Core.Bool.{Bool, true, false, not, ◌&&◌}
+use mathlib.Core.Bool.{Bool, true, false, not, ◌||◌}
 use mathlib.Core.Logic.{◌⊎◌, inl, inr}
 use mathlib.Core.List.{List}
 use Prim.Native.Nat.{ℕ, zero, suc, ◌+◌, ◌/◌, ◌%◌, ◌^◌, ◌-◌, ◌≤◌, ◌<◌}
@@ -13,11 +14,12 @@ use native.Mathlib.Decide.{ℕ_discrete, le_ind}
 use native.Mathlib.Numerals.{add-one}
 use native.Mathlib.Omega.{arith}
 use lib.Bits.{bit_or, or_shr, or_step}
-use lib.Dec.{T, eqb, leb, ltb}
+use lib.Dec.{T, eqb, leb}
 use borrow.Author.Tests.{eq-eqb, ne_eqb}
 use Rattle.ir_records.specs.Result.{Result, err, ok, pick, require, and_then}
-use Rattle.ir_records.specs.Record.{member_type, member_offset, member_source, member_location, Sourceless}
+use Rattle.ir_records.specs.Record.{member_type, member_offset, member_source, Sourceless}
 use Rattle.ir_records.specs.declared.TypeInner.{TypeInner}
+use Rattle.ir_records.proofs.RecordLaws.{any_last}
 use Rattle.ir_records.proofs.ResultLaws.{required, require_twice, and_then_ok, ok_inj, T_true}
 use Rattle.valid_flags.specs.Flags.{bit, io_shareable_bit, io_shareable_flag}
 use Rattle.proc_alignment.specs.Alignment.{most}
@@ -26,7 +28,7 @@ use Rattle.valid_type_info.specs.declared.PreviousStruct.{PreviousStruct}
 use Rattle.valid_type_info.specs.Verdict.{previous_of, distance_ok}
 use Rattle.valid_member_bounds.specs.declared.Bounds.{Bounds}
 use Rattle.valid_member_bounds.specs.MemberBounds.{is_array, is_member_data, is_apart, is_member_sized, member_bounds, bounds_after}
-use Rattle.valid_blend.specs.Blend.{source_at, source_rules, source_result, sources_after, blended_after, other_location, same_type, pair_of, pair_result, struct_blend}
+use Rattle.valid_blend.specs.Blend.{is_other, source_at, source_rules, source_result, sources_after, blended_after, other_location, same_type, pair_of, pair_result, struct_blend}
 use Rattle.valid_blend.specs.Serving.{sources_before, blended_flags, plus_one}
 
 -- each of the first j members passes the rules of its blend source
@@ -356,24 +358,20 @@ module _ (members : List ℕ) (word : ℕ) where
   source_none zero h = refl
   source_none (suc j) h = absurd (not-suc-le-zero h)
 
-module _ (members : List ℕ) where
-  abbrev other : ℕ → Bool
-  other k = eqb (member_source members k) 0 && ltb 0 (member_location members k)
-
-  other_at : (k : ℕ) (t : Bool) → other k ≡ t → other_location members (suc k) ≡ pick t true (other_location members k)
-  unfolding other_location
-  other_at k t e = ap (λ (x : Bool). pick x true (other_location members k)) e
-
-  pub other_found : (j : ℕ) → 0 < j → other (j - 1) ≡ true → other_location members j ≡ true
-  other_found j h e = ap (other_location members) (one_less j h) ∙ other_at (j - 1) true e
-
-  pub other_before : (j : ℕ) → 0 < j → other (j - 1) ≡ false → other_location members j ≡ other_location members (j - 1)
-  other_before j h e = ap (other_location members) (one_less j h) ∙ other_at (j - 1) false e
-
-  pub other_none : (j : ℕ) → j ≤ 0 → other_location members j ≡ false
-  unfolding other_location
-  other_none zero h = refl
-  other_none (suc j) h = absurd (not-suc-le-zero h)
+-- the library's search among the first n members
+pub any_other : (members : List ℕ) (n : ℕ) → list_any (is_other members) (range_with_len 0 n) ≡ other_location members n
+unfolding other_location
+any_other members zero = refl
+any_other members (suc n) =
+    let z : 0 + n ≡ n = omega arith in
+    any_last (is_other members) 0 n ∙ ap (λ (i : ℕ). list_any (is_other members) (range_with_len 0 n) || is_other members i) z
+    ∙ ap (λ (b : Bool). b || is_other members n) (any_other members n) ∙ turned (other_location members n) (is_other members n)
+  where
+    turned : (a b : Bool) → (a || b) ≡ pick b true a
+    turned true true = refl
+    turned true false = refl
+    turned false true = refl
+    turned false false = refl
 
 -- whether a member has this blend source, as `source_at` tells it
 pub source_met : (found : Option ℕ) → is_some found ≡ true → eqb (plus_one found) 0 ≡ false

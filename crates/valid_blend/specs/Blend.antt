@@ -1,7 +1,7 @@
 -- 02, E9: the blend sources of a struct, member by member and after the last. A member's location and blend source are stored as value
 -- plus one, 0 for none. `sizes` and `flags` are those of the types before type i.
 -- Assumes nothing.
-use Rattle.std.specs.Prelude.{Bool, true, false, not, ◌&&◌, ◌||◌, List, ℕ, zero, suc, eqb, leb, ltb}
+use Rattle.std.specs.Prelude.{Bool, true, false, not, ◌&&◌, List, ℕ, zero, suc, eqb, leb, ltb}
 use Rattle.std.specs.Int.Bits.{bit_or}
 use Rattle.ir_records.specs.Result.{Result, err, ok, pick, require, and_then}
 use Rattle.ir_records.specs.Record.{member_type, member_offset, member_location, member_source, struct_kind}
@@ -48,10 +48,14 @@ blended_after dual inner sizes flags count span members (suc j) =
     (λ _. member_bounds count span (previous_of inner members j) (inner (member_type members j)) (member_offset members j) j (sizes (member_type members j)) (flags (member_type members j)) b)))
 
 -- ---- after the last member
--- one of the first j members has a location and no blend source
+-- member j has a location and no blend source
+abbrev pub is_other : (members : List ℕ) → ℕ → Bool
+is_other members j = eqb (member_source members j) 0 && ltb 0 (member_location members j)
+
+-- one of the first j members is such
 unfoldable pub other_location : (members : List ℕ) → ℕ → Bool
 other_location members zero = false
-other_location members (suc j) = pick (eqb (member_source members j) 0 && ltb 0 (member_location members j)) true (other_location members j)
+other_location members (suc j) = pick (is_other members j) true (other_location members j)
 
 -- the six words of a record that says it; what is no data is no blend source, and a struct is none that is compared
 abbrev pub six_words : (kind a b c d e : ℕ) → Words

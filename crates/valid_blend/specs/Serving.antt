@@ -1,8 +1,10 @@
 -- Serves the contracts of functions inside the library: it adds nothing to what the other files say, and a reader may skip it.
 -- Assumes nothing.
-use Rattle.std.specs.Prelude.{Bool, List, ℕ, suc, eqb, Option, Some, None}
-use Rattle.ir_records.specs.Result.{Result, err, ok, pick, and_then}
+use Rattle.std.specs.Prelude.{◌≡◌, Bool, List, ℕ, suc, ◌<◌, ◌^◌, eqb, Option, Some, None}
+use Rattle.ir_records.specs.Result.{Result, pick, and_then}
 use Rattle.ir_records.specs.declared.TypeInner.{TypeInner}
+use Rattle.valid_blend.specs.declared.BlendFault.{BlendFault}
+use Rattle.valid_blend.specs.declared.BlendFault.TheVariants.{InvalidBlendSrcIndex, BindingCollisionBlendSrc, InvalidBlendSrcWithOtherBindings, BlendSrcOutputTypeMismatch, NotIoShareableType, IncompleteBlendSrcUsage}
 use Rattle.valid_blend.specs.Blend.{sources_after, struct_blend}
 
 -- all rules of blend sources
@@ -17,3 +19,16 @@ sources_before number member = pick (eqb number 17) member (suc member)
 abbrev pub plus_one : Option ℕ → ℕ
 plus_one (Some j) = suc j
 plus_one None = 0
+
+-- the detail of number 34
+abbrev pub detail_of : BlendFault → ℕ
+detail_of InvalidBlendSrcIndex = 1
+detail_of BindingCollisionBlendSrc = 2
+detail_of InvalidBlendSrcWithOtherBindings = 3
+detail_of BlendSrcOutputTypeMismatch = 4
+detail_of NotIoShareableType = 5
+detail_of IncompleteBlendSrcUsage = 6
+
+-- what a closure answers of a type is a number of it
+abbrev pub Gives : (post : ℕ → ℕ → Type 0) (number : ℕ → ℕ) → Type 0
+Gives post number = (t r : ℕ) → t < 2 ^ 32 → post t r → r ≡ number t

@@ -7,57 +7,66 @@ ghost use Rattle.ir_records.specs.Record.{member_words, member_count, type_inner
 ghost use Rattle.ir_records.specs.Kinds.{kind_number};
 ghost use Rattle.valid_flags.specs.Flags.{bit};
 ghost use Rattle.valid_width.specs.Width.{dual_source_blending};
-ghost use Rattle.valid_type_info.specs.TypeInfo.{rows_in, row_flags};
-ghost use Rattle.valid_blend.specs.Blend.{source_at, source_result, sources_after, other_location, leaf_words, inner_words, same_words, same_type, pair_of, struct_blend};
+ghost use Rattle.valid_blend.specs.Blend.{source_at, source_result, sources_after, is_other, other_location, leaf_words, inner_words, same_words, same_type, pair_of, struct_blend};
 ghost use Rattle.ir_records.specs.Refusal.{judged, number_of, type_refusal};
-ghost use Rattle.valid_blend.specs.Serving.{sources_before, blended_flags, plus_one};
+ghost use Rattle.valid_blend.specs.Serving.{sources_before, blended_flags, plus_one, detail_of, Gives};
 
 use ir_records::{Fault, Kind, Leaf, Members, TypeInner, TypeRefusal, Words};
-use ir_rows::Earlier;
 
 // The last of the first n members whose blend source is stored as this word.
-// Kept: how many members are looked at, and not how long the part is.
+// Kept: `part`, `n`: how many members are looked at, and not how long the part is.
+// Kept: a loop, since the last one is found from the end: `rfind` was tried, and std has no law of what a range yields from there.
 pub fn source_at(part: &[u32], word: u32, n: u32) -> Option<u32>
-    requires { n * member_words ≤ length part.now }
     ensures { plus_one result ≡ source_at part.now word n }
 {
     for j in (0..n).rev() {
-        if ir_records::own_source(part, j as usize) == word {
+        if ir_records::member_source(part, j) == word {
             return Some(j);
         }
     }
     None
 }
 
-// Whether one of the first n members has a location and no blend source.
-fn other_location(part: &[u32], n: u32) -> bool
-    requires { n * member_words ≤ length part.now }
-    ensures { result ≡ other_location part.now n }
+// Whether member j has a location and no blend source.
+fn is_other(part: &[u32], j: u32) -> bool
+    ensures { result ≡ is_other part.now j }
 {
-    for j in (0..n).rev() {
-        let source = ir_records::own_source(part, j as usize);
-        let location = ir_records::own_location(part, j as usize);
-        if (source == 0) & (0 < location) {
-            return true;
-        }
-    }
-    false
+    (ir_records::member_source(part, j) == 0) & (0 < ir_records::member_location(part, j))
 }
 
-// Number 34 with this detail.
-pub fn invalid(detail: u32) -> TypeRefusal
-    ensures { result ≡ type_refusal InvalidBlendSrc 0 detail }
+// Whether one of the first n members is such.
+// Kept: `part`, `n`: as source_at.
+fn other_location(part: &[u32], n: u32) -> bool
+    ensures { result ≡ other_location part.now n }
 {
-    TypeRefusal::with_detail(Fault::InvalidBlendSrc, detail)
+    (0..n).any(|j| is_other(part, j))
+}
+
+/// Why the blend sources of a struct are refused, by naga's names; the details of number 34.
+#[derive(Clone, Copy, Debug, PartialEq, Eq)]
+pub enum BlendFault {
+    InvalidBlendSrcIndex = 1,
+    BindingCollisionBlendSrc = 2,
+    InvalidBlendSrcWithOtherBindings = 3,
+    BlendSrcOutputTypeMismatch = 4,
+    NotIoShareableType = 5,
+    IncompleteBlendSrcUsage = 6,
+}
+
+impl From<BlendFault> for TypeRefusal {
+    ghost from_gives = { λ fault result. result ≡ type_refusal InvalidBlendSrc 0 (detail_of fault) };
+
+    fn from(fault: BlendFault) -> TypeRefusal {
+        TypeRefusal::with_detail(Fault::InvalidBlendSrc, fault as u32)
+    }
 }
 
 // Number 8, and 34 with detail 1 and 2, of member j.
 fn source_of(dual: bool, part: &[u32], j: u32) -> Result<(), TypeRefusal>
-    requires { j * member_words + member_words ≤ length part.now }
     ensures { judged result ≡ source_result dual part.now j }
 {
-    let word = ir_records::own_source(part, j as usize);
-    let location = ir_records::own_location(part, j as usize);
+    let word = ir_records::member_source(part, j);
+    let location = ir_records::member_location(part, j);
     if word == 0 {
         return Ok(());
     }
@@ -68,18 +77,17 @@ fn source_of(dual: bool, part: &[u32], j: u32) -> Result<(), TypeRefusal>
         ));
     }
     if !((location == 1) & (word <= 2)) {
-        return Err(invalid(1));
+        return Err(BlendFault::InvalidBlendSrcIndex.into());
     }
     if source_at(part, word, j).is_some() {
-        return Err(invalid(2));
+        return Err(BlendFault::BindingCollisionBlendSrc.into());
     }
     Ok(())
 }
 
 // The same of the first n members, one after the other.
-// Kept: how many members are looked at, and not how long the part is.
+// Kept: `part`, `n`: as source_at.
 pub fn sources_of(dual: bool, part: &[u32], n: u32) -> Result<(), TypeRefusal>
-    requires { n * member_words ≤ length part.now }
     ensures { judged result ≡ sources_after dual part.now n }
 {
     for j in 0..n {
@@ -142,7 +150,7 @@ fn inner_words(inner: TypeInner) -> Words
 fn same_words(v: Words, w: Words) -> bool
     ensures { result ≡ same_words v w }
 {
-    (v == w) & (v.kind != ir_records::STRUCT_KIND)
+    (v == w) & !v.is(Kind::Struct)
 }
 
 // Whether two records say the same type, and no struct.
@@ -156,6 +164,7 @@ fn same_type(types: &[u32], s: u32, t: u32) -> bool
 }
 
 // Number 34 with detail 3 to 5, or the flags, of the struct whose members a and b have source 0 and 1. own: the flags of a's type.
+// Kept: `part`, `count`: as source_at.
 pub fn pair_of(
     types: &[u32],
     own: u32,
@@ -165,32 +174,31 @@ pub fn pair_of(
     a: u32,
     b: u32,
 ) -> Result<u32, TypeRefusal>
-    requires { count * member_words ≤ length part.now }
     ensures { (before : ℕ → ℕ) → before (member_type part.now a) ≡ own → judged result ≡ pair_of (type_inner types.now) before part.now (other_location part.now count) flags a b }
 {
     if other_location(part, count) {
-        return Err(invalid(3));
+        return Err(BlendFault::InvalidBlendSrcWithOtherBindings.into());
     }
     let s = ir_records::member_type(part, a);
     let t = ir_records::member_type(part, b);
     if !same_type(types, s, t) {
-        return Err(invalid(4));
+        return Err(BlendFault::BlendSrcOutputTypeMismatch.into());
     }
     if !valid_flags::is_io_shareable(own) {
-        return Err(invalid(5));
+        return Err(BlendFault::NotIoShareableType.into());
     }
     Ok(flags | valid_flags::IO_SHAREABLE)
 }
 
-// After the last member: number 34 with detail 3 to 6, or the flags.
-fn struct_blend(
+// After the last member: number 34 with detail 3 to 6, or the flags. flags_of: those of a type.
+fn struct_blend<F: Fn(u32) -> u32>(
     types: &[u32],
-    before: Earlier,
+    flags_of: F,
     part: Members,
     flags: u32,
 ) -> Result<u32, TypeRefusal>
-    requires { (j : ℕ) → j < part.count → member_type part.words.now j < before.i }
-    ensures { judged result ≡ struct_blend (type_inner types.now) (row_flags (rows_in before.entry.rows.now)) part.entry.words.now part.entry.count flags }
+    requires { F.IsAlwaysCallable flags_of }
+    ensures { (before : ℕ → ℕ) → Gives (F.post flags_of) before → judged result ≡ struct_blend (type_inner types.now) before part.entry.words.now part.entry.count flags }
 {
     let first = source_at(part.words, 1, part.count);
     let second = source_at(part.words, 2, part.count);
@@ -198,33 +206,32 @@ fn struct_blend(
         (None, None) => Ok(flags),
         (Some(a), Some(b)) => {
             let s = ir_records::member_type(part.words, a);
-            let own = before.word(s, ir_rows::FLAGS);
-            pair_of(types, own, part.words, part.count, flags, a, b)
+            pair_of(types, flags_of(s), part.words, part.count, flags, a, b)
         }
-        (None, Some(_)) => Err(invalid(6)),
-        (Some(_), None) => Err(invalid(6)),
+        (None, Some(_)) => Err(BlendFault::IncompleteBlendSrcUsage.into()),
+        (Some(_), None) => Err(BlendFault::IncompleteBlendSrcUsage.into()),
     }
 }
 
-// All rules of blend sources, of a struct whose members leave these flags. sourced: a member may have one.
-pub fn blended_flags(
+// All rules of blend sources, of a struct whose members leave these flags. sourced: a member may have one; flags_of: the flags of a type.
+pub fn blended_flags<F: Fn(u32) -> u32>(
     sourced: bool,
     capabilities: u32,
     types: &[u32],
-    before: Earlier,
+    flags_of: F,
     part: Members,
     flags: u32,
 ) -> Result<u32, TypeRefusal>
-    requires by_index { (j : ℕ) → j < part.count → member_type part.words.now j < before.i }
+    requires callable { F.IsAlwaysCallable flags_of }
     requires sourceless { sourced ≡ false → Sourceless part.words.now (member_count part.words.now) }
-    ensures { judged result ≡ blended_flags (bit capabilities dual_source_blending) (type_inner types.now) (row_flags (rows_in before.entry.rows.now)) part.entry.words.now part.entry.count flags }
+    ensures { (before : ℕ → ℕ) → Gives (F.post flags_of) before → judged result ≡ blended_flags (bit capabilities dual_source_blending) (type_inner types.now) before part.entry.words.now part.entry.count flags }
 {
     if !sourced {
         return Ok(flags);
     }
     let dual = valid_flags::capable(capabilities, valid_width::DUAL_SOURCE_BLENDING);
     sources_of(dual, part.words, part.count)?;
-    struct_blend(types, before, part, flags)
+    struct_blend(types, flags_of, part, flags)
 }
 
 // The refusal of a blend source that comes before this refusal of a member.

@@ -1,1 +1,2 @@
 pub mod BitLaws
+pub mod SizeLaws

@@ -1,9 +1,9 @@
 -- 01, 'The result row' and 'The capability word': flags and capabilities are bits of a word.
 -- Assumes nothing.
-use Rattle.std.specs.Prelude.{Bool, ◌&&◌, ◌||◌, List, [], ◌∷◌, ℕ, ◌+◌, ◌/◌, ◌%◌, ◌^◌, eqb, leb, get_or}
+use Rattle.std.specs.Prelude.{Bool, ◌&&◌, ◌||◌, [], ◌∷◌, ℕ, ◌+◌, ◌/◌, ◌%◌, ◌^◌, eqb, leb, get_or}
 use Rattle.std.specs.Int.Bits.{bit_and, bit_or}
 use Rattle.ir_records.specs.Result.{pick}
-use Rattle.ir_records.specs.Record.{pointer_kind, value_pointer_kind, array_kind, struct_kind, binding_array_kind}
+use Rattle.ir_records.specs.Record.{array_kind, binding_array_kind}
 
 -- bit k of a word
 abbrev pub bit : (word k : ℕ) → Bool

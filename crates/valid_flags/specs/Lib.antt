@@ -1,1 +1,2 @@
 pub mod Flags
+pub mod Serving

@@ -3,124 +3,119 @@
 
 ghost use Rattle.std.specs.Prelude.{◌≡◌, ◌<◌};
 ghost use Rattle.std.specs.Int.Bits.{bit_and, bit_or};
-ghost use Rattle.valid_flags.specs.Flags.{bit, data_bit, sized_bit, io_shareable_bit, host_shareable_bit, creation_resolved_bit, is_sized_data, starting_flags, scalar_flags, space_flag, pointer_flags, array_flags, runtime_array_flags, binding_array_flags, not_host_shareable};
+ghost use Rattle.ir_records.specs.Kinds.{kind_number};
+ghost use Rattle.valid_flags.specs.Flags.{bit, data_bit, sized_bit, io_shareable_bit, host_shareable_bit, creation_resolved_bit, is_sized_data, starting_flags, scalar_flags, space_flag, pointer_flags, not_host_shareable};
+ghost use Rattle.valid_flags.specs.Serving.{flags_over_base};
 
-// 01's kinds, as indexes of the table.
-pub const SCALAR_KIND: usize = 0;
+use ir_records::{Kind, ScalarKind};
 
-pub const VECTOR_KIND: usize = 1;
+/// naga's AddressSpace, by its number in a record.
+#[derive(Clone, Copy, Debug, PartialEq, Eq)]
+pub enum AddressSpace {
+    Function = 0,
+    Private = 1,
+    WorkGroup = 2,
+    Uniform = 3,
+    Storage = 4,
+    Handle = 5,
+    Immediate = 6,
+    TaskPayload = 7,
+    RayPayload = 8,
+    IncomingRayPayload = 9,
+}
 
-pub const MATRIX_KIND: usize = 2;
+// The bits that are tested for.
+const DATA_BIT: u32 = 0;
 
-pub const COOPERATIVE_MATRIX_KIND: usize = 3;
+const SIZED_BIT: u32 = 1;
 
-pub const ATOMIC_KIND: usize = 4;
+const IO_SHAREABLE_BIT: u32 = 3;
 
-pub const POINTER_KIND: usize = 5;
+const HOST_SHAREABLE_BIT: u32 = 4;
 
-pub const VALUE_POINTER_KIND: usize = 6;
+const CREATION_RESOLVED_BIT: u32 = 7;
 
-pub const ARRAY_KIND: usize = 7;
+const DATA: u32 = 1 << DATA_BIT;
 
-pub const STRUCT_KIND: usize = 8;
-
-pub const IMAGE_KIND: usize = 9;
-
-pub const SAMPLER_KIND: usize = 10;
-
-pub const ACCELERATION_STRUCTURE_KIND: usize = 11;
-
-pub const RAY_QUERY_KIND: usize = 12;
-
-pub const BINDING_ARRAY_KIND: usize = 13;
-
-const DATA: u32 = 1;
-
-const SIZED: u32 = 2;
+const SIZED: u32 = 1 << SIZED_BIT;
 
 const COPY: u32 = 4;
 
-pub const IO_SHAREABLE: u32 = 8;
+pub const IO_SHAREABLE: u32 = 1 << IO_SHAREABLE_BIT;
 
-const HOST_SHAREABLE: u32 = 16;
+const HOST_SHAREABLE: u32 = 1 << HOST_SHAREABLE_BIT;
 
 const ARGUMENT: u32 = 32;
 
 const CONSTRUCTIBLE: u32 = 64;
 
-const CREATION_RESOLVED: u32 = 128;
+const CREATION_RESOLVED: u32 = 1 << CREATION_RESOLVED_BIT;
 // All flags but IO_SHAREABLE and HOST_SHAREABLE.
 const UNSHAREABLE: u32 = DATA | SIZED | COPY | ARGUMENT | CONSTRUCTIBLE | CREATION_RESOLVED;
-// Scalars and vectors.
+// Of scalars and vectors.
 const NUMERIC: u32 = UNSHAREABLE | IO_SHAREABLE | HOST_SHAREABLE;
-// Matrices, arrays and structs.
+// Of matrices, arrays and structs.
 const COMPOSITE: u32 = UNSHAREABLE | HOST_SHAREABLE;
-// Pointers of both kinds.
+
+const ATOMIC: u32 = DATA | SIZED | HOST_SHAREABLE | CREATION_RESOLVED;
+// Of pointers of both kinds.
 const REFERENCE: u32 = SIZED | COPY | CREATION_RESOLVED;
-// Images, samplers and acceleration structures.
+// Of images, samplers and acceleration structures.
 const HANDLE: u32 = ARGUMENT | CREATION_RESOLVED;
-// The starting flags of each kind, by its number.
-const STARTING_FLAGS: [u32; 14] = [
-    NUMERIC,
-    NUMERIC,
-    COMPOSITE,
-    COMPOSITE,
-    DATA | SIZED | HOST_SHAREABLE | CREATION_RESOLVED,
-    REFERENCE,
-    REFERENCE,
-    COMPOSITE,
-    COMPOSITE,
-    HANDLE,
-    HANDLE,
-    HANDLE,
-    DATA | SIZED | CONSTRUCTIBLE | CREATION_RESOLVED,
-    SIZED | HOST_SHAREABLE | CREATION_RESOLVED,
-];
 
-const RUNTIME_ARRAY: u32 = DATA | COPY | HOST_SHAREABLE | CREATION_RESOLVED;
+const RAY_QUERY: u32 = DATA | SIZED | CONSTRUCTIBLE | CREATION_RESOLVED;
 
-const DYNAMIC_BINDING_ARRAY: u32 = HOST_SHAREABLE | CREATION_RESOLVED;
+const BINDING_ARRAY: u32 = SIZED | HOST_SHAREABLE | CREATION_RESOLVED;
+
+// What a type may have that has no size.
+const WITHOUT_SIZE: u32 = DATA | COPY | IO_SHAREABLE | HOST_SHAREABLE | CREATION_RESOLVED;
 
 const NOT_HOST_SHAREABLE: u32 = UNSHAREABLE | IO_SHAREABLE;
 
-const BOOL: u32 = 3;
+// Bit k of a word.
+fn bit(word: u32, k: u32) -> bool
+    requires { k < 32 }
+    ensures { result ≡ bit word k }
+{
+    (word >> k) % 2 == 1
+}
 
 // Bit k of a capability word.
 pub fn capable(capabilities: u32, k: u32) -> bool
     requires { k < 32 }
     ensures { result ≡ bit capabilities k }
 {
-    (capabilities >> k) % 2 == 1
+    bit(capabilities, k)
 }
 
 pub fn is_data(flags: u32) -> bool
     ensures { result ≡ bit flags data_bit }
 {
-    flags / 1 % 2 == 1
+    bit(flags, DATA_BIT)
 }
 
 pub fn is_sized(flags: u32) -> bool
     ensures { result ≡ bit flags sized_bit }
 {
-    flags / 2 % 2 == 1
+    bit(flags, SIZED_BIT)
 }
 
 pub fn is_io_shareable(flags: u32) -> bool
     ensures { result ≡ bit flags io_shareable_bit }
 {
-    flags / 8 % 2 == 1
+    bit(flags, IO_SHAREABLE_BIT)
 }
 
 pub fn is_host_shareable(flags: u32) -> bool
     ensures { result ≡ bit flags host_shareable_bit }
 {
-    flags / 16 % 2 == 1
+    bit(flags, HOST_SHAREABLE_BIT)
 }
 
 pub fn is_creation_resolved(flags: u32) -> bool
     ensures { result ≡ bit flags creation_resolved_bit }
 {
-    flags / 128 % 2 == 1
+    bit(flags, CREATION_RESOLVED_BIT)
 }
 
 // Data that is sized, and resolved at shader creation.
@@ -130,29 +125,36 @@ pub fn is_sized_data(flags: u32) -> bool
     is_data(flags) & is_sized(flags) & is_creation_resolved(flags)
 }
 
-pub fn starting_flags(kind: usize) -> u32
-    requires { kind < 14 }
-    ensures { result ≡ starting_flags kind }
+pub fn starting_flags(kind: Kind) -> u32
+    ensures { result ≡ starting_flags (kind_number kind) }
 {
-    STARTING_FLAGS[kind]
+    match kind {
+        Kind::Scalar | Kind::Vector => NUMERIC,
+        Kind::Matrix | Kind::CooperativeMatrix | Kind::Array | Kind::Struct => COMPOSITE,
+        Kind::Atomic => ATOMIC,
+        Kind::Pointer | Kind::ValuePointer => REFERENCE,
+        Kind::Image | Kind::Sampler | Kind::AccelerationStructure => HANDLE,
+        Kind::RayQuery => RAY_QUERY,
+        Kind::BindingArray => BINDING_ARRAY,
+    }
 }
 
 // A bool is not shareable.
 pub fn scalar_flags(scalar_kind: u32, flags: u32) -> u32
     ensures { result ≡ scalar_flags scalar_kind flags }
 {
-    if scalar_kind == BOOL {
+    if scalar_kind == ScalarKind::Bool as u32 {
         flags & UNSHAREABLE
     } else {
         flags
     }
 }
 
-// ptr_space_argument_flag.
+// ptr_space_argument_flag: of function locals, private data and both ray payloads, which come last.
 fn space_flag(space: u32) -> u32
     ensures { result ≡ space_flag space }
 {
-    if (space <= 1) | (8 <= space) {
+    if (space <= AddressSpace::Private as u32) | (AddressSpace::RayPayload as u32 <= space) {
         ARGUMENT
     } else {
         0
@@ -162,29 +164,18 @@ fn space_flag(space: u32) -> u32
 pub fn pointer_flags(space: u32, flags: u32) -> u32
     ensures { result ≡ pointer_flags space flags }
 {
-    let argument = space_flag(space);
-    flags | argument
+    flags | space_flag(space)
 }
 
-pub fn array_flags(base: u32) -> u32
-    ensures { result ≡ array_flags base }
+/// What an array or a binding array of this size has of its base's flags: those that its kind starts with; without a size (none: a runtime array,
+/// or a dynamic binding array) it is not SIZED, no ARGUMENT and not CONSTRUCTIBLE.
+pub fn flags_over_base(kind: Kind, size: Option<u32>, base: u32) -> u32
+    ensures { result ≡ flags_over_base (kind_number kind) size base }
 {
-    base & STARTING_FLAGS[ARRAY_KIND]
-}
-
-pub fn runtime_array_flags(base: u32) -> u32
-    ensures { result ≡ runtime_array_flags base }
-{
-    base & RUNTIME_ARRAY
-}
-
-pub fn binding_array_flags(form: u32, base: u32) -> u32
-    ensures { result ≡ binding_array_flags form base }
-{
-    if form == 0 {
-        base & STARTING_FLAGS[BINDING_ARRAY_KIND]
-    } else {
-        base & DYNAMIC_BINDING_ARRAY
+    let own = starting_flags(kind);
+    match size {
+        Some(_) => base & own,
+        None => base & (own & WITHOUT_SIZE),
     }
 }
 

@@ -7,7 +7,7 @@ ghost use Rattle.valid_type_info.specs.Serving.{is_within};
 ghost use Rattle.valid_member_bounds.specs.MemberBounds.{is_array, is_member_data, is_apart, is_member_sized, member_flags, bounds_by};
 ghost use Rattle.ir_records.specs.Refusal.{judged};
 
-use ir_records::{Fault, TypeRefusal};
+use ir_records::{Fault, Kind, TypeRefusal};
 use valid_type_info::Distance;
 
 // The running end and the flags after some members.
@@ -17,11 +17,22 @@ pub struct Bounds {
     pub flags: u32,
 }
 
+/// Member j as the rules of bounds see it: its offset, the size and flags of its type, and whether that is an array.
+#[derive(Clone, Copy, Debug, PartialEq, Eq)]
+pub struct BoundMember {
+    pub j: u32,
+    pub offset: u32,
+    pub size: u32,
+    pub flags: u32,
+    pub array: bool,
+}
+
 // Whether type t is an array; its kind tells.
+// Kept: beside `valid_type_flags::is_struct`: each says of what a record says what its kind tells, by a definition of its own.
 pub fn is_array(types: &[u32], t: u32) -> bool
     ensures { result ≡ is_array (type_inner types.now t) }
 {
-    ir_records::type_word(types, t, 0) == ir_records::ARRAY_KIND
+    ir_records::is_of_kind(types, t, Kind::Array)
 }
 
 // Number 17: data of a size known at shader creation.
@@ -59,11 +70,7 @@ fn is_apart(end: u32, offset: u32) -> bool
 pub fn is_within(d: Distance) -> bool
     ensures { result ≡ is_within d }
 {
-    match d {
-        Distance::Enough => true,
-        Distance::Short(_) => true,
-        Distance::Overflow => false,
-    }
+    d != Distance::Overflow
 }
 
 // Numbers 17 to 21 in the Rust's order; else the running end and the flags after this member.
@@ -71,39 +78,35 @@ pub fn member_bounds(
     count: u32,
     span: u32,
     within: bool,
-    array: bool,
-    offset: u32,
-    j: u32,
-    size: u32,
-    flags: u32,
+    m: BoundMember,
     so_far: Bounds,
 ) -> Result<Bounds, TypeRefusal>
-    ensures { judged result ≡ bounds_by count span within array offset j size flags so_far }
+    ensures { judged result ≡ bounds_by count span within m.array m.offset m.j m.size m.flags so_far }
 {
     let end = so_far.end;
-    if !is_member_data(flags) {
-        return Err(TypeRefusal::of_member(Fault::InvalidData, j));
+    if !is_member_data(m.flags) {
+        return Err(TypeRefusal::of_member(Fault::InvalidData, m.j));
     }
-    if !is_apart(end, offset) {
-        return Err(TypeRefusal::of_member(Fault::MemberOverlap, j));
+    if !is_apart(end, m.offset) {
+        return Err(TypeRefusal::of_member(Fault::MemberOverlap, m.j));
     }
-    let sum = (offset as u64) + (size as u64);
+    let sum = (m.offset as u64) + (m.size as u64);
     if proc_alignment::MOST < sum {
-        return Err(TypeRefusal::of_member(Fault::StructSum, j));
+        return Err(TypeRefusal::of_member(Fault::StructSum, m.j));
     }
     let next = sum as u32;
     if span < next {
-        return Err(TypeRefusal::of_member(Fault::MemberOutOfBounds, j));
+        return Err(TypeRefusal::of_member(Fault::MemberOutOfBounds, m.j));
     }
     if !within {
-        return Err(TypeRefusal::of_member(Fault::StructSum, j));
+        return Err(TypeRefusal::of_member(Fault::StructSum, m.j));
     }
-    if !is_member_sized(flags, array, j, count) {
-        return Err(TypeRefusal::of_member(Fault::InvalidDynamicArray, j));
+    if !is_member_sized(m.flags, m.array, m.j, count) {
+        return Err(TypeRefusal::of_member(Fault::InvalidDynamicArray, m.j));
     }
-    let joined = valid_flags::both(so_far.flags, flags);
+    let joined = valid_flags::both(so_far.flags, m.flags);
     Ok(Bounds {
         end: next,
-        flags: member_flags(end, offset, joined),
+        flags: member_flags(end, m.offset, joined),
     })
 }

@@ -9,7 +9,7 @@ use Rattle.ir_records.specs.declared.TypeInner.{TypeInner}
 use Rattle.ir_records.proofs.KindLaws.{inner_alike}
 use Rattle.valid_type_info.specs.declared.Distance.{Distance}
 use Rattle.valid_type_info.specs.declared.Distance.TheVariants.{Enough, Short, Overflow}
-use Rattle.std.specs.Prelude.{None, Some}
+use Rattle.std.specs.Prelude.{None}
 use Rattle.valid_type_info.specs.Verdict.{struct_at}
 use Rattle.valid_member_rules.specs.Serving.{is_enough}
 

@@ -8,13 +8,14 @@ ghost use Rattle.std.specs.Prelude.{None, Some};
 ghost use Rattle.valid_member_rules.specs.MemberRules.{member_storage, member_immediates};
 ghost use Rattle.valid_member_rules.specs.Serving.{uniform_by, is_plain, is_enough};
 
+use ir_records::Kind;
 use valid_type_info::{Distance, MemberAt, PreviousStruct, Row, Verdict};
 
 // The struct that a member of type t is, for the distance of the next one.
 pub fn struct_at(types: &[u32], t: u32, offset: u32) -> Option<PreviousStruct>
     ensures { result ≡ struct_at (type_inner types.now t) offset }
 {
-    if ir_records::type_word(types, t, 0) == ir_records::STRUCT_KIND {
+    if ir_records::is_of_kind(types, t, Kind::Struct) {
         let span = ir_records::type_word(types, t, 3);
         return Some(PreviousStruct { span, offset });
     }
@@ -24,11 +25,7 @@ pub fn struct_at(types: &[u32], t: u32, offset: u32) -> Option<PreviousStruct>
 pub fn is_enough(d: Distance) -> bool
     ensures { result ≡ is_enough d }
 {
-    match d {
-        Distance::Enough => true,
-        Distance::Short(_) => false,
-        Distance::Overflow => false,
-    }
+    d == Distance::Enough
 }
 
 // The uniform verdict after this member.

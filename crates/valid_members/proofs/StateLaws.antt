@@ -1,29 +1,28 @@
 -- Laws of a struct's members: one member more, a refusal that stays.
 -- Assumes nothing.
 use mathlib.Core.Path.{◌≡◌, refl, sym, ◌∙◌, ap}
-use mathlib.Core.Bool.{Bool, true, false, ◌&&◌}
+use mathlib.Core.Bool.{Bool, true, false, not, ◌&&◌}
 use mathlib.Core.List.{List}
 use Prim.Native.Nat.{ℕ, suc, ◌+◌, ◌≤◌}
 use native.Mathlib.Omega.{arith}
 use native.Mathlib.Decide.{le_ind}
 use lib.Bits.{bit_and}
-use lib.Dec.{eqb, eqb→eq}
 use borrow.Author.Tests.{le-leb}
-use Rattle.ir_records.specs.Result.{Result, err, ok, and_then}
+use Rattle.ir_records.specs.Result.{Result, err, ok, pick, and_then}
 use Rattle.ir_records.specs.Record.{member_type, member_offset}
 use Rattle.ir_records.specs.declared.TypeInner.{TypeInner}
 use Rattle.proc_alignment.specs.Alignment.{most}
 use Rattle.valid_type_info.specs.declared.Row.{Row}
 use Rattle.valid_type_info.specs.TypeInfo.{row_sizes, row_flags}
 use Rattle.valid_type_info.specs.declared.Verdict.{Verdict}
-use Rattle.std.specs.Prelude.{Option}
+use Rattle.std.specs.Prelude.{Option, Some, None}
 use Rattle.valid_type_info.specs.declared.PreviousStruct.{PreviousStruct}
 use Rattle.valid_type_info.specs.Verdict.{distance_ok, distance_verdict, share_verdict, member_verdict, unsized_verdict}
 use Rattle.valid_member_bounds.specs.declared.Bounds.{Bounds}
 use Rattle.valid_members.specs.declared.State.{State}
 use Rattle.ir_records.proofs.ResultLaws.{true_T, T_true, and_left, and_right}
 use Rattle.valid_flags.specs.Flags.{bit, data_bit, sized_bit, host_shareable_bit, creation_resolved_bit, is_sized_data}
-use Rattle.valid_type_info.specs.Verdict.{struct_at, previous_of, ok_verdict}
+use Rattle.valid_type_info.specs.Verdict.{struct_at, previous_of, is_ok, ok_verdict}
 use Rattle.valid_member_bounds.specs.MemberBounds.{is_array, member_bounds, bounds_after}
 use Rattle.valid_member_rules.specs.MemberRules.{uniform_after, storage_after, immediates_after, member_immediates}
 use Rattle.valid_members_plain.specs.declared.PlainState.{PlainState}
@@ -31,7 +30,7 @@ use Rattle.valid_members_plain.specs.Serving.{least_of, uniform_so_far, HasFaile
 use Rattle.std.specs.Prelude as std
 use Rattle.ir_records.specs.Refusal.{judged}
 use Rattle.ir_records.specs.declared.TypeRefusal.{TypeRefusal}
-use Rattle.valid_members.specs.Serving.{state_after, member_step, is_clean, UniformFits, Told}
+use Rattle.valid_members.specs.Serving.{state_after, member_step, alignment_of, UniformFits, Told}
 
 module _ (least : ℕ) (inner : ℕ → TypeInner) (rows : ℕ → Row) (i count span : ℕ) (part : List ℕ) where
   -- one member more
@@ -138,7 +137,7 @@ module _ (least : ℕ) (inner : ℕ → TypeInner) (rows : ℕ → Row) (i count
   -- to the loops of plain_members and back
   pub plain_before : (s : State) (u : Verdict) → state_after least inner rows i count span part j ≡ ok s → s.uniform ≡ u → s.storage ≡ ok_verdict s.storage.ty
       → PlainAfter least inner rows i count span part j u s.immediates
-      (record { end = s.bounds.end; flags = s.bounds.flags; uniform = s.uniform.ty; storage = s.storage.ty; least = least_of s.bounds.end (previous_of inner part j) })
+      (record { end = s.bounds.end; flags = s.bounds.flags; uniform = alignment_of s.uniform; storage = s.storage.ty; least = least_of s.bounds.end (previous_of inner part j) })
   plain_before s u e uniform storage =
       let p = state_parts s e in
       (p.bounds, p.uniform ∙ uniform, p.storage ∙ storage, p.immediates, refl)
@@ -163,25 +162,18 @@ told least inner rows i count span part (std.Ok s) e =
     (p.bounds, p.uniform, p.storage, p.immediates)
 told least inner rows i count span part (std.Err r) e = state_error least inner rows i count span part count (sym e)
 
--- ---- a verdict that is Ok with its alignment alone
-abbrev verdict : (code ty index value bound : ℕ) → Verdict
-verdict code ty index value bound = record { code = code; ty = ty; index = index; value = value; bound = bound }
+-- a uniform verdict that is Ok with its alignment alone, and one that has failed
+pub fits_clean : (u : Verdict) → u ≡ ok_verdict u.ty → UniformFits u
+fits_clean u e = go (is_ok u) (ap is_ok e)
+  where
+    go : (t : Bool) → t ≡ true → (uniform_so_far (pick t (Some u.ty) None) u ≡ u) × HasFailed (pick t (Some u.ty) None) u
+    go true f = (sym e, tt)
+    go false f = let z : ◌≡◌ {A = ℕ} 0 1 = cc in absurd (omega arith)
 
-pub clean : (v : Verdict) → is_clean v ≡ true → v ≡ ok_verdict v.ty
-clean v e =
-    let a = eqb v.code 0 in
-    let b = eqb v.index 0 in
-    let c = eqb v.value 0 in
-    let d = eqb v.bound 0 in
-    let all = true_T e in
-    let three = and_left (a && b && c) d all in
-    let two = and_left (a && b) c three in
-    ap (λ (x : ℕ). verdict x v.ty v.index v.value v.bound) (eqb→eq v.code 0 (and_left a b two))
-    ∙ ap (λ (x : ℕ). verdict 0 v.ty x v.value v.bound) (eqb→eq v.index 0 (and_right a b two))
-    ∙ ap (λ (x : ℕ). verdict 0 v.ty 0 x v.bound) (eqb→eq v.value 0 (and_right (a && b) c three))
-    ∙ ap (λ (x : ℕ). verdict 0 v.ty 0 0 x) (eqb→eq v.bound 0 (and_right (a && b && c) d all))
+pub fits_failed : (u : Verdict) → is_ok u ≡ false → UniformFits u
+fits_failed u f = rw f (refl, f)
 
--- the uniform verdict of a loop that keeps both, or storage's alone
-pub so_far : (both : Bool) (u : Verdict) → UniformFits both u → (u ≡ uniform_so_far both u.ty u) × HasFailed both u
-so_far true u fits = (fits, tt)
-so_far false u fits = (refl, fits)
+-- a test that its denial answers
+pub denied : (b : Bool) → not b ≡ true → b ≡ false
+denied true e = cc
+denied false e = refl

@@ -4,7 +4,7 @@
 -- Assumes nothing.
 use Rattle.std.specs.Prelude as std
 use Rattle.std.specs.Prelude.{Option, Some, None, Bool, true, false, ◌&&◌, List, ◌≡◌, ℕ, ◌≤◌, eqb}
-use Rattle.ir_records.specs.Result.{Result, err, ok, and_then}
+use Rattle.ir_records.specs.Result.{Result, err, ok, pick, and_then}
 use Rattle.ir_records.specs.Refusal.{number_of}
 use Rattle.ir_records.specs.declared.TypeRefusal.{TypeRefusal}
 use Rattle.ir_records.specs.declared.TypeInner.{TypeInner}
@@ -18,8 +18,8 @@ use Rattle.valid_type_info.specs.Verdict.{least_for, ok_verdict, is_ok, previous
 use Rattle.valid_member_bounds.specs.MemberBounds.{bounds_by, bounds_after}
 use Rattle.valid_member_rules.specs.MemberRules.{member_uniform, member_storage, member_immediates, uniform_after, storage_after, immediates_after}
 use Rattle.valid_members.specs.declared.State.{State}
-use Rattle.valid_members.specs.declared.Way.{Way}
-use Rattle.valid_members.specs.declared.Way.TheVariants as way
+use Rattle.valid_members_plain.specs.declared.Reached.{Reached}
+use Rattle.valid_members_plain.specs.Serving.{uniform_so_far, HasFailed}
 
 -- after j members
 unfoldable pub state_after : (least : ℕ) (inner : ℕ → TypeInner) (rows : ℕ → Row) (i count span : ℕ) (members : List ℕ) → ℕ → Result State
@@ -67,17 +67,21 @@ Told least inner rows i count span part (std.Ok s) =
     × (immediates_after rows part count ≡ s.immediates)
 Told least inner rows i count span part (std.Err r) = bounds_after inner (row_sizes rows) (row_flags rows) count span part count ≡ err (number_of r.fault) r.member r.detail
 
--- a verdict that is Ok, with its alignment and nothing else
-abbrev pub is_clean : Verdict → Bool
-is_clean v = eqb v.code 0 && eqb v.index 0 && eqb v.value 0 && eqb v.bound 0
+-- the alignment in a verdict; none where it has failed
+abbrev pub alignment_of : Verdict → Option ℕ
+alignment_of v = pick (is_ok v) (Some v.ty) None
 
--- what is known of the uniform verdict where a loop keeps both verdicts, or storage's alone
-abbrev pub UniformFits : (both : Bool) → Verdict → Type 0
-UniformFits true u = u ≡ ok_verdict u.ty
-UniformFits false u = is_ok u ≡ false
+-- a uniform verdict with which the loop of plain members goes on: it is Ok and holds nothing but its alignment, or it has failed
+abbrev pub UniformFits : Verdict → Type 0
+UniformFits u = (uniform_so_far (alignment_of u) u ≡ u) × HasFailed (alignment_of u) u
 
--- what is known of the uniform verdict u and the storage verdict s where a way is taken
-abbrev pub WayFits : Way → (u s : Verdict) → Type 0
-WayFits way.Ordered u s = Unit {0}
-WayFits way.Plain u s = UniformFits true u × (s ≡ ok_verdict s.ty)
-WayFits way.Storage u s = UniformFits false u × (s ≡ ok_verdict s.ty)
+-- the same of the uniform verdict u and the storage verdict s
+abbrev pub PlainFits : (u s : Verdict) → Type 0
+PlainFits u s = UniformFits u × (s ≡ ok_verdict s.ty)
+
+-- what is known of the state after some members, by either rule, is known after those that were taken since
+abbrev pub GoesOn : (inner : ℕ → TypeInner) (rows : ℕ → Row) (i count span : ℕ) (members : List ℕ) → (from to : Reached State) → Type 0
+GoesOn inner rows i count span members from to =
+    (rule : UniformRule)
+    → state_after (least_for rule) inner rows i count span members from.taken ≡ ok from.state
+    → state_after (least_for rule) inner rows i count span members to.taken ≡ ok to.state

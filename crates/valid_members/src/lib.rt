@@ -10,12 +10,12 @@ ghost use Rattle.valid_type_info.specs.Verdict.{least_for, ok_verdict, share_ver
 ghost use Rattle.valid_members_plain.specs.Serving.{least_of, uniform_so_far};
 ghost use Rattle.valid_member_bounds.specs.MemberBounds.{is_array};
 ghost use Rattle.ir_records.specs.Refusal.{judged};
-ghost use Rattle.valid_members.specs.Serving.{member_step, state_after, InOrder, ordered_step, is_clean, UniformFits, WayFits};
+ghost use Rattle.valid_members.specs.Serving.{member_step, state_after, InOrder, ordered_step, alignment_of, UniformFits, PlainFits, GoesOn};
 
 use ir_records::TypeRefusal;
 use ir_rows::Earlier;
-use valid_member_bounds::Bounds;
-use valid_members_plain::PlainState;
+use valid_member_bounds::{BoundMember, Bounds};
+use valid_members_plain::{PlainState, Reached};
 use valid_type_info::{MemberAt, PreviousStruct, Row, StructType, UniformRule, Verdict};
 
 // What is known after some members.
@@ -26,21 +26,6 @@ pub struct State {
     pub storage: Verdict,
     pub immediates: u32,
     pub previous: Option<PreviousStruct>,
-}
-
-// How many members have been taken, and what is known after them.
-#[derive(Clone, Copy, Debug, PartialEq, Eq)]
-pub struct Reached {
-    pub taken: u32,
-    pub state: State,
-}
-
-// How the next members are taken: with all that is known of both verdicts, or by a loop of valid_members_plain.
-#[derive(Clone, Copy, Debug, PartialEq, Eq)]
-pub enum Way {
-    Ordered,
-    Plain,
-    Storage,
 }
 
 // One member m of struct s, in 01's order.
@@ -60,11 +45,13 @@ fn member(
         s.part.count,
         s.span,
         valid_member_bounds::is_within(d),
-        array,
-        m.offset,
-        m.j,
-        row.size,
-        row.flags,
+        BoundMember {
+            j: m.j,
+            offset: m.offset,
+            size: row.size,
+            flags: row.flags,
+            array,
+        },
         state.bounds,
     )?;
     let least = valid_type_info::least_for(rule);
@@ -81,7 +68,7 @@ fn member(
 pub fn carried(
     types: &[u32],
     part: &[u32],
-    reached: valid_members_plain::Reached,
+    reached: Reached<PlainState>,
     uniform: Verdict,
     immediates: u32,
 ) -> State
@@ -185,12 +172,15 @@ fn ordered_member(s: &StructType, m: MemberAt, state: State) -> Option<State>
     })
 }
 
+// Kept: `from.taken ≤ s.now.part.count`: of how far a loop has come in this struct; a struct of both would borrow the one that is lent.
+// Kept: three loops promise the same of the state: what holds by whichever rule goes on holding by it. A ghost field of the state would fix one rule,
+// which these loops do not read.
 // The members of struct i from `taken` on, up to the first for which `member` is needed. They are taken alike by either rule.
-fn ordered_members(s: &StructType, from: Reached) -> Reached
+fn ordered_members(s: &StructType, from: Reached<State>) -> Reached<State>
     requires { from.taken ≤ s.now.part.count }
     ensures taken_le_taken { from.taken ≤ result.taken }
     ensures taken_le_count { result.taken ≤ s.now.part.count }
-    ensures taken_value { (rule : rule.UniformRule) → state_after (least_for rule) (type_inner s.now.types.now) (rows_in s.now.before.rows.now) s.now.before.i s.now.part.count s.now.span s.now.part.words.now from.taken ≡ ok from.state → state_after (least_for rule) (type_inner s.now.types.now) (rows_in s.now.before.rows.now) s.now.before.i s.now.part.count s.now.span s.now.part.words.now result.taken ≡ ok result.state }
+    ensures taken_value { GoesOn (type_inner s.now.types.now) (rows_in s.now.before.rows.now) s.now.before.i s.now.part.count s.now.span s.now.part.words.now from result }
 {
     let mut state = from.state;
     for j in from.taken..s.part.count {
@@ -228,16 +218,23 @@ fn least_at(s: &StructType, j: u32, end: u32) -> u64
     valid_members_plain::least_after(s.types, t, offset, end as u64)
 }
 
-// The same state for the loops of valid_members_plain.
-fn from_state(s: &StructType, from: Reached) -> PlainState
+// The alignment in a verdict; none where it has failed.
+fn alignment_of(v: Verdict) -> Option<u32>
+    ensures { result ≡ alignment_of v }
+{
+    if v.is_ok() { Some(v.ty) } else { None }
+}
+
+// The same state for the loop of valid_members_plain.
+fn from_state(s: &StructType, from: Reached<State>) -> PlainState
     requires { from.taken ≤ s.now.part.count }
-    ensures { result ≡ record { end = from.state.bounds.end; flags = from.state.bounds.flags; uniform = from.state.uniform.ty; storage = from.state.storage.ty; least = least_of from.state.bounds.end (previous_of (type_inner s.now.types.now) s.now.part.words.now from.taken) } }
+    ensures { result ≡ record { end = from.state.bounds.end; flags = from.state.bounds.flags; uniform = alignment_of from.state.uniform; storage = from.state.storage.ty; least = least_of from.state.bounds.end (previous_of (type_inner s.now.types.now) s.now.part.words.now from.taken) } }
 {
     let state = from.state;
     PlainState {
         end: state.bounds.end,
         flags: state.bounds.flags,
-        uniform: state.uniform.ty,
+        uniform: alignment_of(state.uniform),
         storage: state.storage.ty,
         least: least_at(s, from.taken, state.bounds.end),
     }
@@ -245,57 +242,45 @@ fn from_state(s: &StructType, from: Reached) -> PlainState
 
 // Whether a verdict is Ok with its alignment and nothing else in it.
 fn is_clean(v: Verdict) -> bool
-    ensures { result ≡ is_clean v }
+    ensures { result ≡ true → v ≡ ok_verdict v.ty }
 {
-    (v.code == 0) & (v.index == 0) & (v.value == 0) & (v.bound == 0)
+    v == valid_type_info::ok_verdict(v.ty)
 }
 
-// By how many members are left and by the verdicts u, uniform, and s, storage. To change from one loop to another costs more than a few members do.
-fn way_of(left: u32, u: Verdict, s: Verdict) -> Way
-    ensures { WayFits result u s }
+// Whether so many members that are left are worth the loop of valid_members_plain: to change to it costs more than a few members do. It goes on
+// with verdicts that are Ok and hold nothing but their alignment, and past a uniform one that has failed. u: uniform; v: storage.
+fn are_plain(left: u32, u: Verdict, v: Verdict) -> bool
+    ensures { result ≡ true → PlainFits u v }
 {
     if left < valid_members_plain::LONG {
-        return Way::Ordered;
+        return false;
     }
-    if !is_clean(s) {
-        return Way::Ordered;
+    if !is_clean(v) {
+        return false;
     }
     if is_clean(u) {
-        return Way::Plain;
+        return true;
     }
-    let code = u.code;
-    if code == 0 {
-        return Way::Ordered;
-    }
-    Way::Storage
+    !u.is_ok()
 }
 
-// The uniform verdict after them: Ok with the alignment so far, or the one that had failed.
-fn uniform_from(both: bool, alignment: u32, failed: Verdict) -> Verdict
-    ensures { result ≡ uniform_so_far both alignment failed }
-{
-    if both {
-        valid_type_info::ok_verdict(alignment)
-    } else {
-        failed
-    }
-}
-
-// The members of a struct from `taken` on as long as none breaks a rule. both: both verdicts are Ok; else the uniform one has failed, and stays.
-fn plain_from(both: bool, s: &StructType, from: Reached) -> Reached
+// The members of a struct from `taken` on as long as none breaks a rule. A uniform verdict that has failed stays.
+// Inlined, as the loop in it: in a call of its own it took a third of the time of a small struct.
+#[inline(always)]
+fn plain_from(s: &StructType, from: Reached<State>) -> Reached<State>
     requires taken_le_count { from.taken ≤ s.now.part.count }
-    requires uniform_value { UniformFits both from.state.uniform }
+    requires uniform_value { UniformFits from.state.uniform }
     requires storage_value { from.state.storage ≡ ok_verdict from.state.storage.ty }
     ensures taken_le_taken { from.taken ≤ result.taken }
     ensures taken_le_count { result.taken ≤ s.now.part.count }
-    ensures taken_value { (rule : rule.UniformRule) → state_after (least_for rule) (type_inner s.now.types.now) (rows_in s.now.before.rows.now) s.now.before.i s.now.part.count s.now.span s.now.part.words.now from.taken ≡ ok from.state → state_after (least_for rule) (type_inner s.now.types.now) (rows_in s.now.before.rows.now) s.now.before.i s.now.part.count s.now.span s.now.part.words.now result.taken ≡ ok result.state }
+    ensures taken_value { GoesOn (type_inner s.now.types.now) (rows_in s.now.before.rows.now) s.now.before.i s.now.part.count s.now.span s.now.part.words.now from result }
 {
-    let start = valid_members_plain::Reached {
+    let start = Reached {
         taken: from.taken,
         state: from_state(s, from),
     };
-    let reached = valid_members_plain::plain_members(both, s, start);
-    let uniform = uniform_from(both, reached.state.uniform, from.state.uniform);
+    let reached = valid_members_plain::plain_members(s, start);
+    let uniform = valid_members_plain::uniform_so_far(reached.state.uniform, from.state.uniform);
     Reached {
         taken: reached.taken,
         state: carried(
@@ -309,27 +294,22 @@ fn plain_from(both: bool, s: &StructType, from: Reached) -> Reached
 }
 
 // The members of struct i from `taken` on, up to the first that needs every rule or another loop. They are taken alike by either rule.
-fn together(s: &StructType, from: Reached) -> Reached
+fn together(s: &StructType, from: Reached<State>) -> Reached<State>
     requires { from.taken ≤ s.now.part.count }
     ensures taken_le_taken { from.taken ≤ result.taken }
     ensures taken_le_count { result.taken ≤ s.now.part.count }
-    ensures taken_value { (rule : rule.UniformRule) → state_after (least_for rule) (type_inner s.now.types.now) (rows_in s.now.before.rows.now) s.now.before.i s.now.part.count s.now.span s.now.part.words.now from.taken ≡ ok from.state → state_after (least_for rule) (type_inner s.now.types.now) (rows_in s.now.before.rows.now) s.now.before.i s.now.part.count s.now.span s.now.part.words.now result.taken ≡ ok result.state }
+    ensures taken_value { GoesOn (type_inner s.now.types.now) (rows_in s.now.before.rows.now) s.now.before.i s.now.part.count s.now.span s.now.part.words.now from result }
 {
-    let way = way_of(
-        s.part.count - from.taken,
-        from.state.uniform,
-        from.state.storage,
-    );
-    // Kept: three loops that go on in turn, from state to state; a closure for each would have one place that calls it.
-    match way {
-        Way::Ordered => ordered_members(s, from),
-        Way::Plain => plain_from(true, s, from),
-        Way::Storage => plain_from(false, s, from),
+    let left = s.part.count - from.taken;
+    if are_plain(left, from.state.uniform, from.state.storage) {
+        plain_from(s, from)
+    } else {
+        ordered_members(s, from)
     }
 }
 
 // The next member by every rule.
-fn step(rule: UniformRule, s: &StructType, at: Reached) -> Result<State, TypeRefusal>
+fn step(rule: UniformRule, s: &StructType, at: Reached<State>) -> Result<State, TypeRefusal>
     requires { state_after (least_for rule) (type_inner s.now.types.now) (rows_in s.now.before.rows.now) s.now.before.i s.now.part.count s.now.span s.now.part.words.now at.taken ≡ ok at.state }
     ensures { judged result ≡ state_after (least_for rule) (type_inner s.now.types.now) (rows_in s.now.before.rows.now) s.now.before.i s.now.part.count s.now.span s.now.part.words.now (at.taken + 1) }
 {
@@ -347,7 +327,11 @@ fn step(rule: UniformRule, s: &StructType, at: Reached) -> Result<State, TypeRef
 
 // The members of struct i from `taken` on, whose rows are in part; rows has those of the types before it. After one that takes every rule,
 // the next are taken together again.
-pub fn members_of(rule: UniformRule, s: &StructType, from: Reached) -> Result<State, TypeRefusal>
+pub fn members_of(
+    rule: UniformRule,
+    s: &StructType,
+    from: Reached<State>,
+) -> Result<State, TypeRefusal>
     requires taken_le_count { from.taken ≤ s.now.part.count }
     requires taken_value { state_after (least_for rule) (type_inner s.now.types.now) (rows_in s.now.before.rows.now) s.now.before.i s.now.part.count s.now.span s.now.part.words.now from.taken ≡ ok from.state }
     ensures { judged result ≡ state_after (least_for rule) (type_inner s.now.types.now) (rows_in s.now.before.rows.now) s.now.before.i s.now.part.count s.now.span s.now.part.words.now s.now.part.count }

@@ -100,9 +100,9 @@ storage_only r offset e =
     }
 
 -- what either loop keeps of the storage verdict
-pub storage_kept : (both : Bool) (r : Row) (offset : ℕ) → keeps both r offset ≡ true → StorageKept r offset
-storage_kept true r offset e = let k = kept r offset e in record { storage_ok = k.storage_ok; immediates = k.immediates; storage = k.storage }
-storage_kept false r offset e = storage_only r offset e
+pub storage_kept : (uniform : Option ℕ) (r : Row) (offset : ℕ) → keeps uniform r offset ≡ true → StorageKept r offset
+storage_kept (Some alignment) r offset e = let k = kept r offset e in record { storage_ok = k.storage_ok; immediates = k.immediates; storage = k.storage }
+storage_kept None r offset e = storage_only r offset e
 
 -- ---- each rule
 module _ (this : TypeInner) (r : Row) (i count span j t offset : ℕ) (before : Option PreviousStruct) (s : PlainState) (plain : is_plain r.flags ≡ true) where
@@ -144,10 +144,10 @@ module _ (this : TypeInner) (r : Row) (i count span j t offset : ℕ) (before : 
   bounds-step a within fits =
       rw (is-data, is-sized, is_resolved, le-leb s.end offset a.clear, le-leb (offset + r.size) most (omega arith), le-leb (offset + r.size) span within, a.within) refl
 
-  uniform_step : (rule : UniformRule) → Apart s.end offset i j before → Kept r offset
-      → member_uniform (least_for rule) i j t offset before r (ok_verdict s.uniform) ≡ ok_verdict (max s.uniform (alignment_in r.uniform))
+  uniform_step : (rule : UniformRule) (alignment : ℕ) → Apart s.end offset i j before → Kept r offset
+      → member_uniform (least_for rule) i j t offset before r (ok_verdict alignment) ≡ ok_verdict (max alignment (alignment_in r.uniform))
   unfolding share_verdict member_verdict unsized_verdict
-  uniform_step rule a k = rw (is-sized, is_shareable, a.verdict rule, k.uniform_ok, k.uniform) refl
+  uniform_step rule alignment a k = rw (is-sized, is_shareable, a.verdict rule, k.uniform_ok, k.uniform) refl
 
   -- a uniform verdict that has failed stays
   uniform_stays : (rule : UniformRule) (u : Verdict) → is_ok u ≡ false → Apart s.end offset i j before
@@ -160,7 +160,12 @@ module _ (this : TypeInner) (r : Row) (i count span j t offset : ℕ) (before : 
   unfolding share_verdict member_verdict
   storage_step fine aligned = rw (is_shareable, fine, aligned) refl
 
-  pub uniform_by : (both : Bool) (rule : UniformRule) (u : Verdict) → HasFailed both u → Apart s.end offset i j before → keeps both r offset ≡ true
-      → member_uniform (least_for rule) i j t offset before r (uniform_so_far both s.uniform u) ≡ uniform_so_far both (alignment_after both s.uniform (alignment_in r.uniform)) u
-  uniform_by true rule u failed a e = uniform_step rule a (kept r offset e)
-  uniform_by false rule u failed a e = uniform_stays rule u failed a
+  pub uniform_by : (uniform : Option ℕ) (rule : UniformRule) (u : Verdict) → HasFailed uniform u → Apart s.end offset i j before → keeps uniform r offset ≡ true
+      → member_uniform (least_for rule) i j t offset before r (uniform_so_far uniform u) ≡ uniform_so_far (alignment_after uniform (alignment_in r.uniform)) u
+  uniform_by (Some alignment) rule u failed a e = uniform_step rule alignment a (kept r offset e)
+  uniform_by None rule u failed a e = uniform_stays rule u failed a
+
+-- a uniform verdict that has failed stays so
+pub still_failed : (uniform : Option ℕ) (own : ℕ) (u : Verdict) → HasFailed uniform u → HasFailed (alignment_after uniform own) u
+still_failed (Some alignment) own u failed = tt
+still_failed None own u failed = failed

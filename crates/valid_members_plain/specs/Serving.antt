@@ -2,7 +2,7 @@
 -- 01, 'The result row': members of a struct one after the other, as long as none breaks a rule, by the rules of one member (valid_member_rules:
 -- MemberRules). `rows` are the rows of the types before type i.
 -- Assumes nothing.
-use Rattle.std.specs.Prelude.{Option, Some, None, Bool, true, false, ◌&&◌, List, ◌≡◌, ℕ, ◌+◌, max, eqb}
+use Rattle.std.specs.Prelude.{Option, Some, None, Bool, false, ◌&&◌, List, ◌≡◌, ℕ, ◌+◌, max, eqb}
 use Rattle.ir_records.specs.Result.{ok}
 use Rattle.ir_records.specs.declared.TypeInner.{TypeInner}
 use Rattle.proc_alignment.specs.Alignment.{is_mask, is_aligned, round_up}
@@ -33,24 +33,25 @@ abbrev pub keeps_storage : Row → (offset : ℕ) → Bool
 keeps_storage r offset =
     (is_ok r.storage && eqb r.immediates 0) && (is_mask (alignment_in r.storage) && is_aligned (alignment_in r.storage) offset)
 
--- ---- the loops keep both verdicts Ok, or the storage verdict alone, where the uniform one has failed and stays
-abbrev pub keeps : (both : Bool) → Row → (offset : ℕ) → Bool
-keeps true r offset = keeps_verdicts r offset
-keeps false r offset = keeps_storage r offset
+-- ---- the loop keeps both verdicts Ok, or the storage verdict alone, where the uniform one has failed and stays
+-- uniform: the alignment in the uniform verdict so far; none where it has failed
+abbrev pub keeps : (uniform : Option ℕ) → Row → (offset : ℕ) → Bool
+keeps (Some alignment) r offset = keeps_verdicts r offset
+keeps None r offset = keeps_storage r offset
 
--- the alignment in the uniform verdict after a member with this one
-abbrev pub alignment_after : (both : Bool) → (so_far own : ℕ) → ℕ
-alignment_after true so_far own = max so_far own
-alignment_after false so_far own = so_far
+-- the same after a member with this one
+abbrev pub alignment_after : (uniform : Option ℕ) → (own : ℕ) → Option ℕ
+alignment_after (Some alignment) own = Some (max alignment own)
+alignment_after None own = None
 
 -- the uniform verdict so far: Ok with this alignment, or the one that has failed
-abbrev pub uniform_so_far : (both : Bool) → (alignment : ℕ) → (failed : Verdict) → Verdict
-uniform_so_far true alignment failed = ok_verdict alignment
-uniform_so_far false alignment failed = failed
+abbrev pub uniform_so_far : (uniform : Option ℕ) → (failed : Verdict) → Verdict
+uniform_so_far (Some alignment) failed = ok_verdict alignment
+uniform_so_far None failed = failed
 
-abbrev pub HasFailed : (both : Bool) → Verdict → Type 0
-HasFailed true u = Unit {0}
-HasFailed false u = is_ok u ≡ false
+abbrev pub HasFailed : (uniform : Option ℕ) → Verdict → Type 0
+HasFailed (Some alignment) u = Unit {0}
+HasFailed None u = is_ok u ≡ false
 
 -- the running end and the flags
 abbrev pub plain_bounds : PlainState → Bounds
@@ -58,14 +59,15 @@ plain_bounds s = record { end = s.end; flags = s.flags }
 
 -- what is taken as a plain member is the member's step, by each rule; nothing is said of a member that is passed on.
 -- u: the uniform verdict that has failed, where one has; this: what the record of its type says
-abbrev pub Stepped : (both : Bool) (least : ℕ) (u : Verdict) (this : TypeInner) (r : Row) (i count span j t offset : ℕ) → Option PreviousStruct → PlainState → Option PlainState → Type 0
-Stepped both least u this r i count span j t offset before s (Some next) =
+abbrev pub Stepped : (least : ℕ) (u : Verdict) (this : TypeInner) (r : Row) (i count span j t offset : ℕ) → Option PreviousStruct → PlainState → Option PlainState → Type 0
+Stepped least u this r i count span j t offset before s (Some next) =
     (member_bounds count span before this offset j r.size r.flags (plain_bounds s) ≡ ok (plain_bounds next))
-    × (member_uniform least i j t offset before r (uniform_so_far both s.uniform u) ≡ uniform_so_far both next.uniform u)
+    × (member_uniform least i j t offset before r (uniform_so_far s.uniform u) ≡ uniform_so_far next.uniform u)
+    × HasFailed next.uniform u
     × (member_storage i j t offset r (ok_verdict s.storage) ≡ ok_verdict next.storage)
     × (r.immediates ≡ 0)
     × (least_of next.end (struct_at this offset) ≡ next.least)
-Stepped both least u this r i count span j t offset before s None = Unit {0}
+Stepped least u this r i count span j t offset before s None = Unit {0}
 
 -- what is known after j members: the uniform verdict u, the immediates word, the rest in s
 abbrev pub PlainAfter : (least : ℕ) (inner : ℕ → TypeInner) (rows : ℕ → Row) (i count span : ℕ) (members : List ℕ) (j : ℕ) (u : Verdict) (immediates : ℕ) → PlainState → Type 0

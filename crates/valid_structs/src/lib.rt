@@ -1,4 +1,7 @@
 // validate_type of naga's valid/type.rs: the row of a struct, and of any type by its kind, with numbers 2 to 7 of its record before it.
+// Kept: `types`, `members`, `rows`, `i`, `w`: the tables that a caller lends, and the type whose row is made, as in ir_records and proc_layouter.
+// Kept: `capabilities`, `rule`, `types`: handed on to the functions below, which part: plain types ask the capabilities alone, verdicts the rule alone.
+// Kept: `i * 14 + 14 ≤ length rows.old`, `i * 6 + 6 ≤ length types.now`: as in proc_layouter.
 #![tactic(auto)]
 
 ghost use Rattle.std.specs.Prelude.{◌≡◌, false, ℕ, ◌+◌, ◌*◌, ◌≤◌, ◌<◌, length, take, drop};
@@ -13,7 +16,7 @@ ghost use Rattle.valid_types.specs.ValidateType.{judge};
 ghost use Rattle.valid_types.specs.Serving.{Settled};
 ghost use Rattle.valid_types.specs.Serving.{words_row, record_row};
 
-use ir_records::{Fault, Members, TypeRefusal, Words};
+use ir_records::{Fault, Kind, Members, TypeRefusal, Words};
 use ir_rows::Earlier;
 use proc_type_alignment::Located;
 use valid_member_bounds::Bounds;
@@ -30,9 +33,11 @@ fn members_of(rule: UniformRule, s: &StructType) -> Result<State, TypeRefusal>
         taken: 0,
         state: valid_members_plain::start(rule),
     };
-    let reached = valid_members_plain::plain_members(true, s, start);
+    let reached = valid_members_plain::plain_members(s, start);
     let plain = reached.state;
-    let uniform = valid_type_info::ok_verdict(plain.uniform);
+    // None has failed: it began with both verdicts Ok.
+    let none = valid_type_info::ok_verdict(0);
+    let uniform = valid_members_plain::uniform_so_far(plain.uniform, none);
     if reached.taken == s.part.count {
         return Ok(State {
             bounds: Bounds {
@@ -46,7 +51,7 @@ fn members_of(rule: UniformRule, s: &StructType) -> Result<State, TypeRefusal>
         });
     }
     let state = valid_members::carried(s.types, s.part.words, reached, uniform, 0);
-    let from = valid_members::Reached {
+    let from = Reached {
         taken: reached.taken,
         state,
     };
@@ -86,7 +91,7 @@ fn members_row(
                 located.sourced,
                 capabilities,
                 types,
-                before,
+                |t| ir_rows::row_word(before.rows, t, ir_rows::FLAGS as u32),
                 part,
                 state.bounds.flags,
             )?;
@@ -127,9 +132,7 @@ fn struct_row(
     requires i_in_bounds_2 { i * 6 ≤ length types.now }
     ensures { (n : ℕ) → Settled result (i * 14) rows.old rows.new (require (sources_located (take (w.b * member_words) (drop (w.a * member_words) members.now))) 2 0 0 (words_row (least_for rule) capabilities (member_count members.now) n (type_inner types.now) (take (i * 14) rows.old) i struct_kind w.a w.b w.c w.d w.e (take (w.b * member_words) (drop (w.a * member_words) members.now)))) }
 {
-    if !ir_fields::struct_fields(ir_records::member_count(members), w) {
-        return Err(TypeRefusal::of(Fault::FieldOutside));
-    }
+    ir_fields::struct_fields(ir_records::member_count(members), w)?;
     let part = ir_records::member_part(members, w.a, w.b);
     let located = proc_type_alignment::members_alignment(Earlier::of(rows, i), part)?;
     members_row(capabilities, rule, located, types, part, rows, i, w.c)
@@ -149,11 +152,11 @@ pub fn record_row(
     ensures { Settled result (i * 14) rows.old rows.new (record_row (least_for rule) capabilities types.now members.now (take (i * 14) rows.old) i) }
 {
     let w = ir_records::own_record(types, i);
-    let kind = w.kind;
-    if kind == ir_records::STRUCT_KIND {
+    // Kept: the kind is asked again in `valid_types::judge_plain`: what these two have takes the rows with `&mut`, and the twelve kinds there none.
+    if w.is(Kind::Struct) {
         return struct_row(capabilities, rule, types, members, rows, i, w);
     }
-    if kind == ir_records::ARRAY_KIND {
+    if w.is(Kind::Array) {
         let least = valid_type_info::least_for(rule);
         return valid_types::array_row(least, rows, i, w);
     }

@@ -1,12 +1,15 @@
 -- 01, 'The result row': verdicts (naga's LayoutCompatibility), and the rules that make them.
 -- i is the type that is judged; `least` is the minimum alignment: 1 for storage verdicts, for uniform ones by the rule that the caller chose.
 -- Assumes nothing.
-use Rattle.std.specs.Prelude.{Bool, true, ◌&&◌, ◌||◌, List, ℕ, zero, suc, ◌+◌, ◌-◌, max, eqb, leb}
+use Rattle.std.specs.Prelude.{◌≡◌, ◌<◌, Result, MatchResult, Bool, true, ◌&&◌, ◌||◌, List, ℕ, zero, suc, ◌+◌, ◌-◌, max, eqb, leb}
 use Rattle.ir_records.specs.Result.{pick}
 use Rattle.ir_records.specs.Record.{member_type, member_offset}
 use Rattle.ir_records.specs.declared.TypeInner.{TypeInner}
 use Rattle.ir_records.specs.declared.TypeInner.TheVariants.{Plain, Array, RuntimeArray, Struct, Other}
 use Rattle.proc_alignment.specs.Alignment.{is_aligned, round_up, most}
+use Rattle.ir_records.specs.declared.Fault.TheVariants.{TableLength}
+use Rattle.ir_records.specs.declared.Refusal.{Refusal}
+use Rattle.ir_records.specs.Refusal.{refusal}
 use Rattle.valid_type_info.specs.declared.Verdict.{Verdict}
 use Rattle.valid_type_info.specs.declared.UniformRule.{UniformRule}
 use Rattle.valid_type_info.specs.declared.UniformRule.TheVariants.{Older, Newer}
@@ -25,6 +28,15 @@ min_storage = 1
 abbrev pub least_for : UniformRule → ℕ
 least_for Older = min_uniform
 least_for Newer = min_storage
+
+-- the word that stands for a rule
+abbrev pub rule_number : UniformRule → ℕ
+rule_number Older = 0
+rule_number Newer = 1
+
+-- the rule with this word, or number 1 for a word above both
+abbrev pub NamesRule : ℕ → Result UniformRule Refusal → Type 0
+NamesRule word named = MatchResult named (λ rule. rule_number rule ≡ word) (λ r. (r ≡ refusal TableLength 0 0 0) × (1 < word))
 
 -- ---- the codes. Code 0 Ok puts the alignment in the second word
 abbrev pub ok_verdict : (alignment : ℕ) → Verdict

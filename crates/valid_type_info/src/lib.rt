@@ -5,10 +5,10 @@ ghost use Rattle.std.specs.Prelude.{◌≡◌, Bool, true, ℕ, ◌*◌, ◌≤�
 ghost use Rattle.ir_records.specs.Record.{member_type};
 ghost use Rattle.valid_type_info.specs.declared.Verdict as verdict;
 ghost use Rattle.valid_type_info.specs.declared.UniformRule as rule;
-ghost use Rattle.valid_type_info.specs.Verdict.{min_uniform, least_for, ok_verdict, array_verdict, share_verdict, offset_verdict, member_verdict, distance_verdict, distance_ok, unsized_verdict, span_verdict};
+ghost use Rattle.valid_type_info.specs.Verdict.{NamesRule, is_ok, min_uniform, least_for, ok_verdict, array_verdict, share_verdict, offset_verdict, member_verdict, distance_verdict, distance_ok, unsized_verdict, span_verdict};
 ghost use Rattle.valid_type_info.specs.Serving.{after_distance, is_within};
 
-use ir_records::Members;
+use ir_records::{Fault, Members, Refusal};
 use ir_rows::Earlier;
 
 // naga's LayoutCompatibility: code 0 is Ok, with the alignment in ty.
@@ -33,11 +33,27 @@ pub struct Row {
     pub immediates: u32,
 }
 
-// The rule by which uniform verdicts are worked out: naga 30.0.1's, or the storage rules.
+/// The rule by which uniform verdicts are worked out: naga 30.0.1's, or the storage rules.
 #[derive(Clone, Copy, Debug, PartialEq, Eq)]
 pub enum UniformRule {
-    Older,
-    Newer,
+    Older = 0,
+    Newer = 1,
+}
+
+impl TryFrom<u32> for UniformRule {
+    type Error = Refusal;
+
+    ghost try_from_gives = { NamesRule };
+
+    /// Number 1 for a word of no rule.
+    // Kept: these arms by number are the conversion.
+    fn try_from(word: u32) -> Result<Self, Refusal> {
+        match word {
+            0 => Ok(UniformRule::Older),
+            1 => Ok(UniformRule::Newer),
+            _ => Err(Refusal::of(Fault::TableLength)),
+        }
+    }
 }
 
 /// A member that a verdict may name: member j of struct i, of type t, at this offset.
@@ -57,7 +73,7 @@ pub struct PreviousStruct {
 }
 
 /// A struct whose members are earlier types, with what its rules read: the type records, the rows of the types before it, its member rows, its span.
-#[derive(Clone, Copy)]
+#[derive(Clone, Copy, Debug, PartialEq, Eq)]
 pub struct StructType<'t, 'r, 'm> {
     pub types: &'t [u32],
     pub before: Earlier<'r>,
@@ -80,6 +96,15 @@ pub const MIN_UNIFORM: u32 = 16;
 
 pub const MIN_STORAGE: u32 = 1;
 
+impl Verdict {
+    /// Whether nothing has failed: a verdict that has is passed on.
+    pub fn is_ok(self) -> bool
+        ensures { result ≡ is_ok self }
+    {
+        self.code == 0
+    }
+}
+
 pub fn ok_verdict(alignment: u32) -> Verdict
     ensures { result ≡ ok_verdict alignment }
 {
@@ -96,19 +121,12 @@ pub fn ok_verdict(alignment: u32) -> Verdict
 pub fn array_verdict(least: u32, i: u32, stride: u32, alignment: u32, base: Verdict) -> Verdict
     ensures { result ≡ array_verdict least i stride alignment base }
 {
-    let code = base.code;
-    if code != 0 {
+    if !base.is_ok() {
         return base;
     }
     let a = base.ty.max(alignment).max(least);
     if proc_alignment::is_aligned(a, stride) {
-        Verdict {
-            code: 0,
-            ty: a,
-            index: 0,
-            value: 0,
-            bound: 0,
-        }
+        ok_verdict(a)
     } else {
         Verdict {
             code: 1,
@@ -127,8 +145,7 @@ pub fn share_verdict(shareable: bool, t: u32, so_far: Verdict) -> Verdict
     if shareable {
         return so_far;
     }
-    let code = so_far.code;
-    if code != 0 {
+    if !so_far.is_ok() {
         return so_far;
     }
     Verdict {
@@ -160,12 +177,10 @@ pub fn offset_verdict(m: MemberAt, so_far: u32, alignment: u32) -> Verdict
 pub fn member_verdict(m: MemberAt, so_far: Verdict, member: Verdict) -> Verdict
     ensures { result ≡ member_verdict m.i m.j m.offset so_far member }
 {
-    let code = so_far.code;
-    if code != 0 {
+    if !so_far.is_ok() {
         return so_far;
     }
-    let member_code = member.code;
-    if member_code != 0 {
+    if !member.is_ok() {
         return member;
     }
     offset_verdict(m, so_far.ty, member.ty)
@@ -195,8 +210,7 @@ pub fn distance_to(previous: Option<PreviousStruct>, offset: u32) -> Distance
             if proc_alignment::MOST < expected {
                 return Distance::Overflow;
             }
-            let bound = expected as u32;
-            Distance::Short(bound)
+            Distance::Short(expected as u32)
         }
     }
 }
@@ -216,20 +230,14 @@ pub fn after_distance(least: u32, d: Distance, m: MemberAt, so_far: Verdict) -> 
     ensures { result ≡ after_distance least d m.i m.j m.offset so_far }
 {
     match d {
-        Distance::Enough => so_far,
-        Distance::Short(expected) => {
-            if least <= MIN_STORAGE {
-                return so_far;
-            }
-            Verdict {
-                code: 4,
-                ty: m.i,
-                index: m.j,
-                value: m.offset,
-                bound: expected,
-            }
-        }
-        Distance::Overflow => so_far,
+        Distance::Short(expected) if MIN_STORAGE < least => Verdict {
+            code: 4,
+            ty: m.i,
+            index: m.j,
+            value: m.offset,
+            bound: expected,
+        },
+        Distance::Enough | Distance::Short(_) | Distance::Overflow => so_far,
     }
 }
 
@@ -240,8 +248,7 @@ pub fn unsized_verdict(sized: bool, m: MemberAt, so_far: Verdict) -> Verdict
     if sized {
         return so_far;
     }
-    let code = so_far.code;
-    if code != 0 {
+    if !so_far.is_ok() {
         return so_far;
     }
     Verdict {

@@ -12,13 +12,7 @@ use valid_type_info::{MemberAt, Row, Verdict};
 fn empty_row() -> Row
     ensures { result ≡ empty_row }
 {
-    let none = Verdict {
-        code: 0,
-        ty: 0,
-        index: 0,
-        value: 0,
-        bound: 0,
-    };
+    let none = valid_type_info::ok_verdict(0);
     Row {
         size: 0,
         alignment: 0,
@@ -63,6 +57,7 @@ pub fn row_at(rows: &[u32], k: u32) -> Row
 }
 
 // Writes the row of type i.
+// Kept: `i * 14 + 14 ≤ length rows.old`: of rows that each type writes in turn, as in proc_layouter.
 pub fn put(rows: &mut [u32], i: u32, row: Row)
     requires { i * 14 + 14 ≤ length rows.old }
     ensures { rows.new ≡ with_row rows.old (i * 14) (words_of row) }
@@ -92,8 +87,7 @@ pub fn member_verdict_at(rows: &[u32], w: usize, m: MemberAt, so_far: Verdict) -
     requires { m.t * 14 + (w + 4) < length rows.now }
     ensures { result ≡ member_verdict m.i m.j m.offset so_far (verdict_in rows.now m.t w) }
 {
-    let code = so_far.code;
-    if code != 0 {
+    if !so_far.is_ok() {
         return so_far;
     }
     if ir_rows::own_word(rows, m.t, w) != 0 {

@@ -6,36 +6,19 @@ use mathlib.Core.List.{List}
 use Prim.Native.Nat.{ℕ}
 use lib.Dec.{eqb}
 use Rattle.ir_records.specs.Result.{Result, ok, pick, require, and_then}
-use Rattle.ir_records.specs.declared.Leaf.{Leaf}
-use Rattle.ir_records.specs.declared.NonData.{NonData}
 use Rattle.ir_records.specs.declared.TypeInner.{TypeInner}
 use Rattle.proc_type_alignment.specs.declared.TypeLayout.{TypeLayout}
-use Rattle.ir_records.specs.declared.TypeInner.TheVariants.{Plain, Array, RuntimeArray, Other}
+use Rattle.ir_records.specs.declared.TypeInner.TheVariants.{Array, RuntimeArray}
 use Rattle.valid_flags.specs.Flags.{array_flags, runtime_array_flags, is_sized_data}
-use Rattle.valid_type_flags.specs.TypeFlags.{leaf_flags}
 use Rattle.valid_type_info.specs.declared.Row.{Row}
-use Rattle.valid_type_info.specs.TypeInfo.{row_flags}
-use Rattle.valid_types.specs.ValidateType.{non_data_flags, flags_of, leaf_verdict_alignment, leaf_immediates, uniform_of, storage_of, immediates_of, row_of, judge}
-use Rattle.valid_types.specs.Serving.{plain_judged, array_row, array_of}
+use Rattle.valid_types.specs.ValidateType.{flags_of, uniform_of, storage_of, immediates_of, row_of, judge}
+use Rattle.valid_types.specs.Serving.{array_row, array_of}
 
 -- what follows a value that a test lets through
 pub require_then {ℓ κ} : {A : Type ℓ} {B : Type κ} (b : Bool) (n m d : ℕ) (a : A) (f : A → Result B)
     → and_then (require b n m d (ok a)) f ≡ require b n m d (f a)
 require_then true n m d a f = refl
 require_then false n m d a f = refl
-
-module _ (least c : ℕ) (inner : ℕ → TypeInner) (rows : ℕ → Row) (i : ℕ) (layout : TypeLayout) (part : List ℕ) (this : TypeInner) (verdict : ℕ) where
-  -- where a record says a leaf, it is judged by the leaf's flags
-  pub leaf_judged : (leaf : Leaf) → this ≡ Plain leaf → verdict ≡ leaf_verdict_alignment leaf
-      → plain_judged layout verdict (leaf_immediates leaf) (leaf_flags c leaf) ≡ judge least c inner rows i layout this part
-  unfolding judge flags_of row_of uniform_of storage_of immediates_of
-  leaf_judged leaf says is = rw (says, is) refl
-
-  -- where it says what is no data, by the flags of that
-  pub other_judged : (n : NonData) → this ≡ Other n → verdict ≡ 1
-      → plain_judged layout verdict 0 (non_data_flags c inner (row_flags rows) n) ≡ judge least c inner rows i layout this part
-  unfolding judge flags_of row_of uniform_of storage_of immediates_of
-  other_judged n says is = rw (says, is) refl
 
 -- an array is judged by its form
 pub array_judged : (least c : ℕ) (inner : ℕ → TypeInner) (rows : ℕ → Row) (i : ℕ) (layout : TypeLayout) (part : List ℕ) (this : TypeInner)

@@ -2,6 +2,8 @@
 -- Assumes nothing.
 use Rattle.std.specs.Prelude as std
 use Rattle.ir_records.specs.declared.TypeRefusal.{TypeRefusal}
+use Rattle.ir_records.specs.declared.Words.{Words}
+use Rattle.ir_records.specs.Refusal.{judged, number_of}
 use mathlib.Core.Path.{◌≡◌, refl, sym, ◌∙◌, ap}
 use mathlib.Core.Bool.{false}
 use mathlib.Core.List.{List}
@@ -10,9 +12,8 @@ use Rattle.ir_records.specs.Result.{Result, err, ok, require, and_then}
 use Rattle.ir_records.specs.Record.{array_kind, inner_of}
 use Rattle.ir_records.specs.Fields.{fields_ok, base_within}
 use Rattle.ir_records.specs.declared.Leaf.{Leaf}
-use Rattle.ir_records.specs.declared.NonData.{NonData}
 use Rattle.ir_records.specs.declared.TypeInner.{TypeInner}
-use Rattle.ir_records.specs.declared.TypeInner.TheVariants.{Plain, Other}
+use Rattle.ir_records.specs.declared.TypeInner.TheVariants.{Plain}
 use Rattle.ir_records.proofs.ResultLaws.{required}
 use Rattle.proc_type_alignment.specs.declared.TypeLayout.{TypeLayout}
 use Rattle.proc_type_alignment.specs.TypeAlignment.{leaf_width, leaf_factor, alignment_of}
@@ -21,13 +22,12 @@ use Rattle.proc_type_alignment.proofs.AcceptedAlignment.{leaf_accepted}
 use Rattle.proc_type_layout.specs.TypeLayout.{layout_of}
 use Rattle.proc_type_layout.specs.Serving.{words_layout}
 use Rattle.proc_type_layout.proofs.AcceptedParts.{layout_parts}
-use Rattle.valid_type_flags.specs.TypeFlags.{leaf_flags}
-use Rattle.valid_type_info.specs.TypeInfo.{rows_in, row_flags}
+use Rattle.valid_type_info.specs.TypeInfo.{rows_in, row_sizes, row_flags}
 use Rattle.valid_types.specs.declared.PlainRow.{PlainRow}
-use Rattle.valid_types.specs.ValidateType.{non_data_flags, leaf_verdict_alignment, leaf_immediates, judge}
-use Rattle.valid_types.specs.Serving.{plain_judged, plain_result, array_of}
+use Rattle.valid_types.specs.ValidateType.{flags_of, row_of, judge}
+use Rattle.valid_types.specs.Serving.{plain_row, array_of, RowIn}
 use Rattle.valid_types.specs.Serving.{words_row}
-use Rattle.valid_types.proofs.RowParts.{leaf_judged, other_judged, array_judged}
+use Rattle.valid_types.proofs.RowParts.{array_judged}
 
 -- what follows a result may differ where there is none
 pub and_then_same {ℓ κ} : {A : Type ℓ} {B : Type κ} (o : Result A) (f g : A → Result B) → ((a : A) → o ≡ ok a → f a ≡ g a) → and_then o f ≡ and_then o g
@@ -44,32 +44,38 @@ leaf_alignment_in m n i layouts kind a b c d e members leaf says l w =
     let parts = layout_parts layouts i (Plain leaf) members l (rw says at q.1) in
     sym (leaf_accepted leaf l.alignment parts.1).1
 
--- a record with these words, laid out, that is neither array nor struct
-module _ (least c m n : ℕ) (inner : ℕ → TypeInner) (words : List ℕ) (i : ℕ) (members : List ℕ) (kind a b d e f : ℕ) (r : std.Result PlainRow TypeRefusal) (o : Result TypeLayout)
-    (laid : o ≡ words_layout m n (layouts_in words) i kind a b d e f members) (verdict : ℕ) where
-  same_row : (immediates : ℕ) (flags : Result ℕ) → plain_result r ≡ and_then o (λ l. plain_judged l verdict immediates flags)
-      → ((l : TypeLayout) → o ≡ ok l → plain_judged l verdict immediates flags ≡ judge least c inner (rows_in words) i l (inner_of kind a b d e f) members)
-      → plain_result r ≡ words_row least c m n inner words i kind a b d e f members
-  same_row immediates flags one each =
-      one
-      ∙ and_then_same o (λ l. plain_judged l verdict immediates flags) (λ l. judge least c inner (rows_in words) i l (inner_of kind a b d e f) members) each
-      ∙ ap (λ (x : Result TypeLayout). and_then x (λ l. judge least c inner (rows_in words) i l (inner_of kind a b d e f) members)) laid
+-- a record of this kind with the words w, by its layout and its flags
+module _ (c n : ℕ) (inner : ℕ → TypeInner) (words : List ℕ) (kind : ℕ) (w : Words) (laid : std.Result TypeLayout TypeRefusal)
+    (told : (m i : ℕ) (members : List ℕ) → judged laid ≡ words_layout m n (layouts_in words) i kind w.a w.b w.c w.d w.e members) where
+  -- of which the layout is refused
+  pub layout_refused : (e : TypeRefusal) → laid ≡ std.Err e → (r : std.Result PlainRow TypeRefusal) → r ≡ std.Err e → RowIn r c n inner words kind w
+  layout_refused e was r same =
+      λ least m i members.
+      let layout : words_layout m n (layouts_in words) i kind w.a w.b w.c w.d w.e members ≡ err (number_of e.fault) e.member e.detail =
+      sym (told m i members) ∙ ap judged was in
+      rw (same, layout) refl
 
-  -- a leaf
-  pub leaf_row : (leaf : Leaf) → inner_of kind a b d e f ≡ Plain leaf → ((l : TypeLayout) → o ≡ ok l → verdict ≡ leaf_verdict_alignment leaf)
-      → plain_result r ≡ and_then o (λ l. plain_judged l verdict (leaf_immediates leaf) (leaf_flags c leaf))
-      → plain_result r ≡ words_row least c m n inner words i kind a b d e f members
-  leaf_row leaf says is one =
-      same_row (leaf_immediates leaf) (leaf_flags c leaf) one
-      (λ l x. leaf_judged least c inner (rows_in words) i l members (inner_of kind a b d e f) verdict leaf says (is l x))
+  module _ (l : TypeLayout) (was : laid ≡ std.Ok l) (flags : std.Result ℕ TypeRefusal)
+      (by : (members : List ℕ) → judged flags ≡ flags_of c inner (row_sizes (rows_in words)) (row_flags (rows_in words)) (inner_of kind w.a w.b w.c w.d w.e) members) where
+    laid_out : (m i : ℕ) (members : List ℕ) → words_layout m n (layouts_in words) i kind w.a w.b w.c w.d w.e members ≡ ok l
+    laid_out m i members = sym (told m i members) ∙ ap judged was
 
-  -- what is no data
-  pub other_row : (other : NonData) → inner_of kind a b d e f ≡ Other other → verdict ≡ 1
-      → plain_result r ≡ and_then o (λ l. plain_judged l verdict 0 (non_data_flags c inner (row_flags (rows_in words)) other))
-      → plain_result r ≡ words_row least c m n inner words i kind a b d e f members
-  other_row other says is one =
-      same_row 0 (non_data_flags c inner (row_flags (rows_in words)) other) one
-      (λ l x. other_judged least c inner (rows_in words) i l members (inner_of kind a b d e f) verdict other says is)
+    -- of which the flags are
+    pub flags_refused : (e : TypeRefusal) → flags ≡ std.Err e → (r : std.Result PlainRow TypeRefusal) → r ≡ std.Err e → RowIn r c n inner words kind w
+    unfolding judge
+    flags_refused e is r same =
+        λ least m i members. rw (same, laid_out m i members, sym (by members) ∙ ap judged is) refl
+
+    -- of which none is
+    pub row_made : (f : ℕ) → flags ≡ std.Ok f → (row : PlainRow)
+        → ((least m i : ℕ) (members : List ℕ) → words_layout m n (layouts_in words) i kind w.a w.b w.c w.d w.e members ≡ ok l
+        → plain_row row.layout row.verdict row.immediates row.flags ≡ row_of least inner (rows_in words) i l (inner_of kind w.a w.b w.c w.d w.e) members f)
+        → RowIn (std.Ok row) c n inner words kind w
+    unfolding judge
+    row_made f is row made =
+        λ least m i members.
+        let layout = laid_out m i members in
+        rw (layout, sym (by members) ∙ ap judged is) (ap ok (made least m i members layout))
 
 -- no kind: number 2
 pub no_row : (least c m n : ℕ) (inner : ℕ → TypeInner) (words : List ℕ) (i : ℕ) (members : List ℕ) (kind a b d e f : ℕ) → fields_ok m kind a b d e f ≡ false

@@ -3,6 +3,7 @@
 use Rattle.std.specs.Prelude as std
 use Rattle.ir_records.specs.Refusal.{judged, number_of}
 use Rattle.ir_records.specs.declared.TypeRefusal.{TypeRefusal}
+use Rattle.ir_records.specs.declared.Words.{Words}
 use Rattle.valid_types.specs.declared.PlainRow.{PlainRow}
 use Rattle.std.specs.Prelude.{List, ◌≡◌, ℕ, eqb}
 use Rattle.ir_records.specs.Result.{Result, err, ok, pick, require, and_then}
@@ -29,10 +30,6 @@ plain_row layout alignment immediates flags =
       storage = ok_verdict alignment;
       immediates = immediates;
     }
-
--- that row, or the refusal of its flags
-abbrev pub plain_judged : TypeLayout → (alignment immediates : ℕ) → (flags : Result ℕ) → Result Row
-plain_judged layout alignment immediates flags = and_then flags (λ f. ok (plain_row layout alignment immediates f))
 
 abbrev pub plain_result : std.Result PlainRow TypeRefusal → Result Row
 plain_result (std.Ok p) = ok (plain_row p.layout p.verdict p.immediates p.flags)
@@ -66,6 +63,14 @@ abbrev pub words_row : (least c m n : ℕ) (inner : ℕ → TypeInner) (words : 
 words_row least c m n inner words i kind a b d e f members =
     and_then (words_layout m n (layouts_in words) i kind a b d e f members)
     (λ l. judge least c inner (rows_in words) i l (inner_of kind a b d e f) members)
+
+-- what judging a record of this kind with the words w gave, after types with these rows, in an arena of n types that say `inner`; and in any arena
+abbrev pub RowIn : std.Result PlainRow TypeRefusal → (c n : ℕ) (inner : ℕ → TypeInner) (words : List ℕ) (kind : ℕ) → Words → Type 0
+RowIn result c n inner words kind w =
+    (least m i : ℕ) (members : List ℕ) → plain_result result ≡ words_row least c m n inner words i kind w.a w.b w.c w.d w.e members
+
+abbrev pub RowTold : std.Result PlainRow TypeRefusal → (c kind : ℕ) → Words → Type 0
+RowTold result c kind w = (n : ℕ) (inner : ℕ → TypeInner) (words : List ℕ) → RowIn result c n inner words kind w
 
 -- the same of record i
 unfoldable pub record_row : (least c : ℕ) (ts ms words : List ℕ) → ℕ → Result Row

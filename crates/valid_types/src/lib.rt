@@ -2,18 +2,16 @@
 // has them, in the same choice by its kind.
 #![tactic(auto)]
 
-ghost use Rattle.std.specs.Prelude.{◌≡◌, List, ℕ, ◌+◌, ◌*◌, ◌≤◌, ◌<◌, eqb, length, take};
-ghost use Rattle.ir_records.specs.Result.{ok, pick, and_then};
+ghost use Rattle.std.specs.Prelude.{◌≡◌, List, ℕ, ◌+◌, ◌*◌, ◌≤◌, length, take};
+ghost use Rattle.ir_records.specs.Kinds.{kind_number};
 ghost use Rattle.ir_records.specs.Record.{scalar_kind, vector_kind, matrix_kind, cooperative_matrix_kind, atomic_kind, pointer_kind, value_pointer_kind, array_kind, struct_kind, image_kind, sampler_kind, acceleration_structure_kind, ray_query_kind, binding_array_kind, type_count, type_inner};
 ghost use Rattle.ir_records.specs.declared.TypeInner as inner;
-ghost use Rattle.valid_flags.specs.Flags.{starting_flags, scalar_flags, array_flags, runtime_array_flags};
+ghost use Rattle.valid_flags.specs.Flags.{starting_flags, scalar_flags};
 ghost use Rattle.valid_width.specs.Width.{check_width};
-ghost use Rattle.proc_type_alignment.specs.declared.TypeLayout as layout;
 ghost use Rattle.ir_records.specs.Refusal.{judged};
 ghost use Rattle.valid_type_flags.specs.TypeFlags.{with_width};
 ghost use Rattle.valid_type_info.specs.TypeInfo.{rows_in};
-ghost use Rattle.valid_types.specs.Serving.{plain_judged, plain_result, array_of, Settled};
-ghost use Rattle.valid_types.specs.Serving.{words_row};
+ghost use Rattle.valid_types.specs.Serving.{array_of, words_row, RowIn, RowTold, Settled};
 
 use ir_records::{Fault, Kind, TypeRefusal, Words};
 use proc_type_alignment::TypeLayout;
@@ -28,166 +26,158 @@ pub struct PlainRow {
     pub immediates: u32,
 }
 
-// The alignment in a layout.
-fn alignment_in(laid: Result<TypeLayout, TypeRefusal>) -> u32
-    ensures { (l : layout.TypeLayout) → judged laid ≡ ok l → result ≡ l.alignment }
+// Of a type without a width: its alignment is 1.
+fn handle(layout: TypeLayout, flags: u32) -> PlainRow
+    ensures { result ≡ record { layout = layout; flags = flags; verdict = 1; immediates = 0 } }
 {
-    match laid {
-        Ok(l) => l.alignment,
-        Err(_) => 0,
+    PlainRow {
+        layout,
+        flags,
+        verdict: 1,
+        immediates: 0,
     }
 }
 
-// The refusal of the layout, then that of the flags; else the row.
-fn joined(
-    laid: Result<TypeLayout, TypeRefusal>,
-    flagged: Result<u32, TypeRefusal>,
-    verdict: u32,
-    immediates: u32,
-) -> Result<PlainRow, TypeRefusal>
-    ensures { plain_result result ≡ and_then (judged laid) (λ l. plain_judged l verdict immediates (judged flagged)) }
-{
-    let layout = laid?;
-    let flags = flagged?;
-    Ok(PlainRow {
-        layout,
-        flags,
-        verdict,
-        immediates,
-    })
-}
-
-// The flags of a scalar or a vector.
+/// The flags of a scalar or a vector: those of its kind, as far as its scalar has them.
 pub fn numeric_flags(
     capabilities: u32,
-    kind: usize,
+    kind: Kind,
     scalar_kind: u32,
     width: u32,
 ) -> Result<u32, TypeRefusal>
-    requires { kind < 14 }
-    ensures { judged result ≡ with_width (check_width capabilities scalar_kind width) (scalar_flags scalar_kind (starting_flags kind)) }
+    ensures { judged result ≡ with_width (check_width capabilities scalar_kind width) (scalar_flags scalar_kind (starting_flags (kind_number kind))) }
 {
-    valid_type_flags::with_width(
-        valid_width::check_width(capabilities, scalar_kind, width),
-        valid_flags::scalar_flags(scalar_kind, valid_flags::starting_flags(kind)),
-    )
+    valid_width::check_width(capabilities, scalar_kind, width)?;
+    Ok(valid_flags::scalar_flags(scalar_kind, valid_flags::starting_flags(kind)))
 }
 
-// By its kind, a record with the words w.
-// Kept: some of these are alike in form, but each has its kind's fields, flags and size, and its contract names the kind.
+// By its kind, a record with the words w: numbers 2 to 7, then those of the flags.
 fn scalar_row(capabilities: u32, w: Words) -> Result<PlainRow, TypeRefusal>
-    ensures { (least m n i : ℕ) (inner : ℕ → inner.TypeInner) (words members : List ℕ) → plain_result result ≡ words_row least capabilities m n inner words i scalar_kind w.a w.b w.c w.d w.e members }
+    ensures { RowTold result capabilities scalar_kind w }
 {
-    let laid = proc_type_layout::scalar_layout(w);
-    let flagged = numeric_flags(capabilities, valid_flags::SCALAR_KIND, w.a, w.b);
-    joined(laid, flagged, w.b, valid_width::immediates_word(w.a, w.b))
+    let layout = proc_type_layout::scalar_layout(w)?;
+    let flags = numeric_flags(capabilities, Kind::Scalar, w.a, w.b)?;
+    Ok(PlainRow {
+        layout,
+        flags,
+        verdict: w.b,
+        immediates: valid_width::immediates_word(w.a, w.b),
+    })
 }
 
 fn vector_row(capabilities: u32, w: Words) -> Result<PlainRow, TypeRefusal>
-    ensures { (least m n i : ℕ) (inner : ℕ → inner.TypeInner) (words members : List ℕ) → plain_result result ≡ words_row least capabilities m n inner words i vector_kind w.a w.b w.c w.d w.e members }
+    ensures { RowTold result capabilities vector_kind w }
 {
-    let laid = proc_type_layout::vector_layout(w);
-    let flagged = numeric_flags(capabilities, valid_flags::VECTOR_KIND, w.b, w.c);
-    joined(
-        laid,
-        flagged,
-        alignment_in(laid),
-        valid_width::immediates_word(w.b, w.c),
-    )
+    let layout = proc_type_layout::vector_layout(w)?;
+    let flags = numeric_flags(capabilities, Kind::Vector, w.b, w.c)?;
+    Ok(PlainRow {
+        layout,
+        flags,
+        verdict: layout.alignment,
+        immediates: valid_width::immediates_word(w.b, w.c),
+    })
 }
 
 fn matrix_row(capabilities: u32, w: Words) -> Result<PlainRow, TypeRefusal>
-    ensures { (least m n i : ℕ) (inner : ℕ → inner.TypeInner) (words members : List ℕ) → plain_result result ≡ words_row least capabilities m n inner words i matrix_kind w.a w.b w.c w.d w.e members }
+    ensures { RowTold result capabilities matrix_kind w }
 {
-    let laid = proc_type_layout::matrix_layout(w);
-    let flagged = valid_type_flags::matrix_flags(capabilities, w.c, w.d);
-    joined(
-        laid,
-        flagged,
-        alignment_in(laid),
-        valid_width::immediates_word(w.c, w.d),
-    )
+    let layout = proc_type_layout::matrix_layout(w)?;
+    let flags = valid_type_flags::matrix_flags(capabilities, w.c, w.d)?;
+    Ok(PlainRow {
+        layout,
+        flags,
+        verdict: layout.alignment,
+        immediates: valid_width::immediates_word(w.c, w.d),
+    })
 }
 
-// Kept: as above.
+// The alignment in the verdicts is that of the width, and not that of the layout.
+// Kept: alike in form to atomics, but laid out and flagged by the functions of its kind (other fields, another capability): only closures could share it.
 fn cooperative_row(capabilities: u32, w: Words) -> Result<PlainRow, TypeRefusal>
-    ensures { (least m n i : ℕ) (inner : ℕ → inner.TypeInner) (words members : List ℕ) → plain_result result ≡ words_row least capabilities m n inner words i cooperative_matrix_kind w.a w.b w.c w.d w.e members }
+    ensures { RowTold result capabilities cooperative_matrix_kind w }
 {
-    let laid = proc_type_layout::cooperative_layout(w);
-    let flagged = valid_type_flags::cooperative_flags(capabilities, w.c, w.d);
-    joined(laid, flagged, w.d, 0)
+    let layout = proc_type_layout::cooperative_layout(w)?;
+    let flags = valid_type_flags::cooperative_flags(capabilities, w.c, w.d)?;
+    Ok(PlainRow {
+        layout,
+        flags,
+        verdict: w.d,
+        immediates: 0,
+    })
 }
 
+// An atomic has the layout of its scalar.
 fn atomic_row(capabilities: u32, w: Words) -> Result<PlainRow, TypeRefusal>
-    ensures { (least m n i : ℕ) (inner : ℕ → inner.TypeInner) (words members : List ℕ) → plain_result result ≡ words_row least capabilities m n inner words i atomic_kind w.a w.b w.c w.d w.e members }
+    ensures { RowTold result capabilities atomic_kind w }
 {
-    let laid = proc_type_layout::scalar_layout(w);
-    let flagged = valid_type_flags::atomic_flags(capabilities, w.a, w.b);
-    joined(laid, flagged, w.b, 0)
+    let layout = proc_type_layout::scalar_layout(w)?;
+    let flags = valid_type_flags::atomic_flags(capabilities, w.a, w.b)?;
+    Ok(PlainRow {
+        layout,
+        flags,
+        verdict: w.b,
+        immediates: 0,
+    })
 }
 
 fn pointer_row(types: &[u32], rows: &[u32], w: Words) -> Result<PlainRow, TypeRefusal>
-    ensures { (least k m i : ℕ) (members : List ℕ) → plain_result result ≡ words_row least k m (type_count types.now) (type_inner types.now) rows.now i pointer_kind w.a w.b w.c w.d w.e members }
+    ensures { (k : ℕ) → RowIn result k (type_count types.now) (type_inner types.now) rows.now pointer_kind w }
 {
-    let within = (w.a as usize) < types.len() / ir_records::TYPE_WORDS;
-    let laid = proc_type_layout::based_layout(ir_fields::pointer_fields(w), within, 4);
-    let flagged = valid_type_flags::pointer_to(ir_rows::row_word(rows, w.a, 2), w.b);
-    joined(laid, flagged, 1, 0)
+    let layout = proc_type_layout::pointer_layout(types, w)?;
+    let base = ir_rows::row_word(rows, w.a, 2);
+    let flags = valid_type_flags::pointer_to(base, w.b)?;
+    Ok(handle(layout, flags))
 }
 
-// Kept: as above.
+// Kept: value pointers and images, and below acceleration structures and ray queries, are alike in form; each is laid out and flagged by its kind's
+// functions, and its contract names the kind. One function would be handed both as closures, and its contract would have to say both of theirs again.
 fn value_pointer_row(capabilities: u32, w: Words) -> Result<PlainRow, TypeRefusal>
-    ensures { (least m n i : ℕ) (inner : ℕ → inner.TypeInner) (words members : List ℕ) → plain_result result ≡ words_row least capabilities m n inner words i value_pointer_kind w.a w.b w.c w.d w.e members }
+    ensures { RowTold result capabilities value_pointer_kind w }
 {
-    let laid = proc_type_layout::handle_layout(ir_fields::value_pointer_fields(w), 4);
-    let flagged = valid_type_flags::value_pointer_flags(capabilities, w.a, w.b, w.c);
-    joined(laid, flagged, 1, 0)
+    let layout = proc_type_layout::value_pointer_layout(w)?;
+    let flags = valid_type_flags::value_pointer_flags(capabilities, w.a, w.b, w.c)?;
+    Ok(handle(layout, flags))
 }
 
 fn image_row(capabilities: u32, w: Words) -> Result<PlainRow, TypeRefusal>
-    ensures { (least m n i : ℕ) (inner : ℕ → inner.TypeInner) (words members : List ℕ) → plain_result result ≡ words_row least capabilities m n inner words i image_kind w.a w.b w.c w.d w.e members }
+    ensures { RowTold result capabilities image_kind w }
 {
-    let laid = proc_type_layout::handle_layout(ir_fields::image_fields(w), 0);
-    let flagged = valid_type_flags::image_flags(capabilities, w.a, w.b, w.c);
-    joined(laid, flagged, 1, 0)
+    let layout = proc_type_layout::image_layout(w)?;
+    let flags = valid_type_flags::image_flags(capabilities, w.a, w.b, w.c)?;
+    Ok(handle(layout, flags))
 }
 
 fn sampler_row(w: Words) -> Result<PlainRow, TypeRefusal>
-    ensures { (least k m n i : ℕ) (inner : ℕ → inner.TypeInner) (words members : List ℕ) → plain_result result ≡ words_row least k m n inner words i sampler_kind w.a w.b w.c w.d w.e members }
+    ensures { (k : ℕ) → RowTold result k sampler_kind w }
 {
-    let laid = proc_type_layout::handle_layout(ir_fields::sampler_fields(w), 0);
-    joined(laid, valid_type_flags::sampler_flags(), 1, 0)
+    let layout = proc_type_layout::sampler_layout(w)?;
+    Ok(handle(layout, valid_flags::starting_flags(Kind::Sampler)))
 }
 
-// Kept: as above.
+// Kept: as value pointers: each by its kind's functions; a ray query asks for another capability, and is data.
 fn acceleration_row(capabilities: u32, w: Words) -> Result<PlainRow, TypeRefusal>
-    ensures { (least m n i : ℕ) (inner : ℕ → inner.TypeInner) (words members : List ℕ) → plain_result result ≡ words_row least capabilities m n inner words i acceleration_structure_kind w.a w.b w.c w.d w.e members }
+    ensures { RowTold result capabilities acceleration_structure_kind w }
 {
-    let laid = proc_type_layout::handle_layout(ir_fields::acceleration_fields(w), 0);
-    let flagged = valid_type_flags::acceleration_flags(capabilities, w.a);
-    joined(laid, flagged, 1, 0)
+    let layout = proc_type_layout::acceleration_layout(w)?;
+    let flags = valid_type_flags::acceleration_flags(capabilities, w.a)?;
+    Ok(handle(layout, flags))
 }
 
 fn ray_query_row(capabilities: u32, w: Words) -> Result<PlainRow, TypeRefusal>
-    ensures { (least m n i : ℕ) (inner : ℕ → inner.TypeInner) (words members : List ℕ) → plain_result result ≡ words_row least capabilities m n inner words i ray_query_kind w.a w.b w.c w.d w.e members }
+    ensures { RowTold result capabilities ray_query_kind w }
 {
-    let laid = proc_type_layout::handle_layout(ir_fields::acceleration_fields(w), 0);
-    let flagged = valid_type_flags::ray_query_flags(capabilities, w.a);
-    joined(laid, flagged, 1, 0)
+    let layout = proc_type_layout::ray_query_layout(w)?;
+    let flags = valid_type_flags::ray_query_flags(capabilities, w.a)?;
+    Ok(handle(layout, flags))
 }
 
 fn binding_array_row(types: &[u32], rows: &[u32], w: Words) -> Result<PlainRow, TypeRefusal>
-    ensures { (least k m i : ℕ) (members : List ℕ) → plain_result result ≡ words_row least k m (type_count types.now) (type_inner types.now) rows.now i binding_array_kind w.a w.b w.c w.d w.e members }
+    ensures { (k : ℕ) → RowIn result k (type_count types.now) (type_inner types.now) rows.now binding_array_kind w }
 {
-    let within = (w.a as usize) < types.len() / ir_records::TYPE_WORDS;
-    let laid = proc_type_layout::based_layout(ir_fields::binding_array_fields(w), within, 0);
-    let flagged = valid_type_flags::binding_array_of(
-        types,
-        w.a,
-        ir_rows::row_word(rows, w.a, 2),
-        w.b,
-    );
-    joined(laid, flagged, 1, 0)
+    let layout = proc_type_layout::binding_array_layout(types, w)?;
+    let base = ir_rows::row_word(rows, w.a, 2);
+    let flags = valid_type_flags::binding_array_of(types, w.a, base, w.array_size())?;
+    Ok(handle(layout, flags))
 }
 
 // A type whose record has the words w and is neither array nor struct.
@@ -199,7 +189,7 @@ fn judge_plain(
 ) -> Result<PlainRow, TypeRefusal>
     requires fact { w.kind ≡ array_kind → ⊥ }
     requires fact_2 { w.kind ≡ struct_kind → ⊥ }
-    ensures { (least m i : ℕ) (members : List ℕ) → plain_result result ≡ words_row least capabilities m (type_count types.now) (type_inner types.now) rows.now i w.kind w.a w.b w.c w.d w.e members }
+    ensures { RowIn result capabilities (type_count types.now) (type_inner types.now) rows.now w.kind w }
 {
     match Kind::try_from(w.kind)? {
         Kind::Scalar => scalar_row(capabilities, w),
@@ -215,7 +205,7 @@ fn judge_plain(
         Kind::RayQuery => ray_query_row(capabilities, w),
         Kind::BindingArray => binding_array_row(types, rows, w),
         // The caller has taken these.
-        Kind::Array | Kind::Struct => Err(TypeRefusal::of(Fault::FieldOutside)),
+        Kind::Array | Kind::Struct => unreachable!(),
     }
 }
 
@@ -251,16 +241,6 @@ pub fn plain_row(
     Ok(())
 }
 
-// The flags of an array over a base with these, by its form: 0 for one of a count, else a runtime array.
-fn flags_by_form(form: u32, base: u32) -> u32
-    ensures { result ≡ pick (eqb form 0) (array_flags base) (runtime_array_flags base) }
-{
-    if form == 0 {
-        return valid_flags::array_flags(base);
-    }
-    valid_flags::runtime_array_flags(base)
-}
-
 // The row of array i, a record with these words, by its layout; `least` is the minimum alignment in its uniform verdict.
 fn array_over(
     least: u32,
@@ -286,7 +266,7 @@ fn array_over(
         alignment,
         element.storage,
     );
-    let flags = flags_by_form(w.b, element.flags);
+    let flags = valid_flags::flags_over_base(Kind::Array, w.array_size(), element.flags);
     valid_type_rows::put(
         rows,
         i,

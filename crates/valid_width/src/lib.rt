@@ -1,16 +1,18 @@
 // check_width of naga's valid/type.rs, and the widths of atomics.
-// Kept: `capabilities`, `kind`, `width`: kind and width are two words of a record, at places that differ by its kind; as a struct they would be put
-// together at each call for one test of each.
+// Kept: `capabilities`, `kind`, `width`: kind and width are naga's Scalar, but a record has them as words a and b, b and c, or c and d: with a struct
+// of both, each call would say `Scalar { kind: w.b, width: w.c }` for `w.b, w.c`, and no contract would get shorter, since none has a fact of the two.
 #![tactic(auto)]
 
-ghost use Rattle.std.specs.Prelude.{◌≡◌, ◌+◌, ◌≤◌};
-ghost use Rattle.valid_width.specs.Width.{allowed_with, allowed_only, integer_width, integer_atomic, float_width, check_width, atomic_width, immediates_word};
-ghost use Rattle.ir_records.specs.Refusal.{judged, number_of};
+ghost use Rattle.std.specs.Prelude.{◌≡◌, ◌<◌};
+ghost use Rattle.valid_flags.specs.Flags.{bit};
+ghost use Rattle.valid_width.specs.Width.{allowed_with, check_width, integer_atomic, atomic_width, immediates_word};
+ghost use Rattle.valid_width.specs.Serving.{number_width};
+ghost use Rattle.ir_records.specs.Refusal.{judged};
 
 use ir_records::{Fault, ScalarKind, TypeRefusal};
 
 // 01's capability bits.
-// Kept: numbers, as the caller's word and the detail of number 8 have them.
+// Kept: numbers: a bit is what shifts the caller's word, and what number 8 gives as its detail; naga's capabilities are constants of bits too.
 pub const FLOAT64: u32 = 0;
 
 pub const SHADER_FLOAT16: u32 = 1;
@@ -39,118 +41,84 @@ pub const RAY_HIT_VERTEX_POSITION: u32 = 12;
 
 pub const DUAL_SOURCE_BLENDING: u32 = 13;
 
-// The scalar kinds that are tested for one at a time.
-pub const UINT: u32 = ScalarKind::Uint as u32;
-
-pub const FLOAT: u32 = ScalarKind::Float as u32;
-
-pub const BOOL: u32 = ScalarKind::Bool as u32;
-
-// Allowed where the capability is there, else number 8 with its bit.
-fn with_capability(capable: bool, bit: u32) -> Result<(), TypeRefusal>
-    ensures { judged result ≡ allowed_with capable bit }
+/// Number 8 with the capability's bit, where the caller has not allowed it.
+pub fn require_type_capability(capabilities: u32, b: u32) -> Result<(), TypeRefusal>
+    requires { b < 32 }
+    ensures { judged result ≡ allowed_with (bit capabilities b) b }
 {
-    if capable {
+    if valid_flags::capable(capabilities, b) {
         Ok(())
     } else {
-        Err(TypeRefusal::with_detail(Fault::MissingCapability, bit))
+        Err(TypeRefusal::with_detail(Fault::MissingCapability, b))
     }
 }
 
-// Allowed where the width is the only one left, else refused with this number.
-fn only(right: bool, fault: Fault) -> Result<(), TypeRefusal>
-    ensures { judged result ≡ allowed_only right (number_of fault) }
+// Of an integer or a float: 4, or 2 and 8 with the capability for it.
+// Kept: these arms are bytes and no kinds: naga matches a width in the same way and has no names for them.
+fn number_width(capabilities: u32, half: u32, double: u32, width: u32) -> Result<(), TypeRefusal>
+    requires half_bit { half < 32 }
+    requires double_bit { double < 32 }
+    ensures { judged result ≡ number_width capabilities half double width }
 {
-    if right {
-        Ok(())
-    } else {
-        Err(TypeRefusal::of(fault))
+    match width {
+        2 => require_type_capability(capabilities, half),
+        4 => Ok(()),
+        8 => require_type_capability(capabilities, double),
+        _ => Err(TypeRefusal::of(Fault::InvalidWidth)),
     }
 }
 
-fn integer_width(capabilities: u32, width: u32) -> Result<(), TypeRefusal>
-    ensures { judged result ≡ integer_width capabilities width }
-{
-    if width == 2 {
-        return with_capability(
-            valid_flags::capable(capabilities, SHADER_INT16),
-            SHADER_INT16,
-        );
-    }
-    if width == 8 {
-        return with_capability(
-            valid_flags::capable(capabilities, SHADER_INT64),
-            SHADER_INT64,
-        );
-    }
-    only(width == 4, Fault::InvalidWidth)
-}
-
-fn float_width(capabilities: u32, width: u32) -> Result<(), TypeRefusal>
-    ensures { judged result ≡ float_width capabilities width }
-{
-    if width == 8 {
-        return with_capability(valid_flags::capable(capabilities, FLOAT64), FLOAT64);
-    }
-    if width == 2 {
-        return with_capability(
-            valid_flags::capable(capabilities, SHADER_FLOAT16),
-            SHADER_FLOAT16,
-        );
-    }
-    only(width == 4, Fault::InvalidWidth)
-}
-
+#[tactic(auto, unfolding(crate::specs::Width::check_width, crate::specs::Width::integer_width))]
 pub fn check_width(capabilities: u32, kind: u32, width: u32) -> Result<(), TypeRefusal>
     ensures { judged result ≡ check_width capabilities kind width }
 {
-    if kind <= UINT {
-        return integer_width(capabilities, width);
+    match ScalarKind::try_from(kind) {
+        Ok(ScalarKind::Sint | ScalarKind::Uint) => number_width(
+            capabilities,
+            SHADER_INT16,
+            SHADER_INT64,
+            width,
+        ),
+        Ok(ScalarKind::Float) => number_width(capabilities, SHADER_FLOAT16, FLOAT64, width),
+        Ok(ScalarKind::Bool) if width == 1 => Ok(()),
+        Ok(ScalarKind::Bool) => Err(TypeRefusal::of(Fault::InvalidWidth)),
+        _ => Err(TypeRefusal::of(Fault::AbstractScalar)),
     }
-    if kind == FLOAT {
-        return float_width(capabilities, width);
-    }
-    if kind == BOOL {
-        return only(width == 1, Fault::InvalidWidth);
-    }
-    Err(TypeRefusal::of(Fault::AbstractScalar))
 }
 
+// Kept: as number_width, the arms are bytes.
+#[tactic(auto, unfolding(crate::specs::Width::integer_atomic))]
 fn integer_atomic(capabilities: u32, width: u32) -> Result<(), TypeRefusal>
     ensures { judged result ≡ integer_atomic capabilities width }
 {
-    if width == 8 {
-        let min_max = valid_flags::capable(capabilities, SHADER_INT64_ATOMIC_MIN_MAX);
-        let all_ops = valid_flags::capable(capabilities, SHADER_INT64_ATOMIC_ALL_OPS);
-        return with_capability(min_max | all_ops, SHADER_INT64_ATOMIC_ALL_OPS);
+    match width {
+        4 => Ok(()),
+        // Either of two capabilities will do; naga names the second.
+        8 if valid_flags::capable(capabilities, SHADER_INT64_ATOMIC_MIN_MAX) => Ok(()),
+        8 => require_type_capability(capabilities, SHADER_INT64_ATOMIC_ALL_OPS),
+        _ => Err(TypeRefusal::of(Fault::InvalidAtomicWidth)),
     }
-    only(width == 4, Fault::InvalidAtomicWidth)
 }
 
+#[tactic(auto, unfolding(crate::specs::Width::atomic_width))]
 pub fn atomic_width(capabilities: u32, kind: u32, width: u32) -> Result<(), TypeRefusal>
     ensures { judged result ≡ atomic_width capabilities kind width }
 {
-    if kind <= UINT {
-        return integer_atomic(capabilities, width);
+    match ScalarKind::try_from(kind) {
+        Ok(ScalarKind::Sint | ScalarKind::Uint) => integer_atomic(capabilities, width),
+        Ok(ScalarKind::Float) if width == 4 => {
+            require_type_capability(capabilities, SHADER_FLOAT32_ATOMIC)
+        }
+        _ => Err(TypeRefusal::of(Fault::InvalidAtomicWidth)),
     }
-    if (kind == FLOAT) & (width == 4) {
-        return with_capability(
-            valid_flags::capable(capabilities, SHADER_FLOAT32_ATOMIC),
-            SHADER_FLOAT32_ATOMIC,
-        );
-    }
-    Err(TypeRefusal::of(Fault::InvalidAtomicWidth))
 }
 
 // 0, or 1 plus the scalar kind for an integer or float of width 2.
 pub fn immediates_word(kind: u32, width: u32) -> u32
     ensures { result ≡ immediates_word kind width }
 {
-    if width != 2 {
-        return 0;
+    match ScalarKind::try_from(kind) {
+        Ok(ScalarKind::Sint | ScalarKind::Uint | ScalarKind::Float) if width == 2 => 1 + kind,
+        _ => 0,
     }
-    if FLOAT < kind {
-        return 0;
-    }
-    1 + kind
 }

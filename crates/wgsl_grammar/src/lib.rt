@@ -59,20 +59,21 @@ pub struct Number {
     pub at: usize,
 }
 
-// The fault that a problem is.
-fn fault_of(problem: Problem) -> Fault
-    ensures { result ≡ fault_of problem }
-{
-    match problem {
-        Problem::UnknownType | Problem::RepeatedType | Problem::RepeatedMember => Fault::Name,
-        Problem::LargeNumber
-        | Problem::ZeroCount
-        | Problem::LargeArray
-        | Problem::Align
-        | Problem::Size
-        | Problem::LargeStruct => Fault::Attribute,
-        Problem::TypesFull | Problem::MembersFull => Fault::TableLength,
-        _ => Fault::Grammar,
+impl From<Problem> for Fault {
+    ghost from_gives = { λ problem result. result ≡ fault_of problem };
+
+    fn from(problem: Problem) -> Fault {
+        match problem {
+            Problem::UnknownType | Problem::RepeatedType | Problem::RepeatedMember => Fault::Name,
+            Problem::LargeNumber
+            | Problem::ZeroCount
+            | Problem::LargeArray
+            | Problem::Align
+            | Problem::Size
+            | Problem::LargeStruct => Fault::Attribute,
+            Problem::TypesFull | Problem::MembersFull => Fault::TableLength,
+            _ => Fault::Grammar,
+        }
     }
 }
 
@@ -82,7 +83,7 @@ impl Refusal {
         ensures { result ≡ refusal_of problem at }
     {
         Refusal {
-            fault: fault_of(problem),
+            fault: Fault::from(problem),
             at,
             why: Why::Other(problem),
         }
@@ -95,7 +96,7 @@ pub fn expect(s: &[u8], at: usize, byte: u8) -> Result<usize, Refusal>
     ensures { expect byte (from s.now at) ≡ next_read s.now result }
 {
     match wgsl_tokens::next_token(s, at) {
-        Lexed::Mark { byte: c, end } if c == byte => Ok(end),
+        Ok(Some(Lexed::Mark { byte: c, end })) if c == byte => Ok(end),
         _ => Err(Refusal {
             fault: Fault::Grammar,
             at,
@@ -116,7 +117,7 @@ pub fn name_at(s: &[u8], at: usize) -> Result<Span, Refusal>
     ensures { NameRead s.now at result }
 {
     match wgsl_tokens::next_token(s, at) {
-        Lexed::Word { start, end } if !wgsl_names::is_keyword(&s[start..end]) => {
+        Ok(Some(Lexed::Word { start, end })) if !wgsl_names::is_keyword(&s[start..end]) => {
             Ok(Span { start, end })
         }
         _ => Err(Refusal::of(Problem::NoName, at)),
@@ -128,8 +129,8 @@ pub fn number_at(s: &[u8], at: usize) -> Result<Number, Refusal>
     ensures { number_of (from s.now at) ≡ number_read s.now result }
 {
     match wgsl_tokens::next_token(s, at) {
-        Lexed::Number { value, end } => Ok(Number { value, at: end }),
-        Lexed::Large(_) => Err(Refusal::of(Problem::LargeNumber, at)),
+        Ok(Some(Lexed::Number { value, end })) => Ok(Number { value, at: end }),
+        Ok(Some(Lexed::Large(_))) => Err(Refusal::of(Problem::LargeNumber, at)),
         _ => Err(Refusal::of(Problem::NoNumber, at)),
     }
 }

@@ -1,6 +1,7 @@
 -- One induction over the grammar: what holds of the records of scalars, with what they denote, of vectors, matrices and atomics, of arrays of what it holds of, and of
 -- structs whose members it holds of, holds of every record of an accepted text.
 -- Assumes nothing.
+use Rattle.std.specs.Prelude as std
 use mathlib.Core.Path.{◌≡◌, refl, sym, ap, subst, ◌∙◌}
 use mathlib.Core.Bool.{Bool, true, false, not}
 use mathlib.Core.List.{List, [], ◌∷◌, ◌++◌, append_assoc, append-nil}
@@ -22,14 +23,13 @@ use Rattle.wgsl_names.specs.declared.Template.{Template}
 use Rattle.wgsl_grammar.specs.Grammar.{Reading, refused, read, and_then, demand, expect, skipping, Name, name_of}
 use Rattle.wgsl_placement.specs.Placement.{shape, align_of_template, size_of_template, array_fits, array_shape, words_of, scalar_record, template_record, array_record, struct_record}
 use Rattle.wgsl_placement.specs.declared.Shape.{Shape}
-use Rattle.wgsl_placement.specs.declared.Count.{Count}
+use Rattle.wgsl_placement.specs.Placement.{Count}
 use Rattle.wgsl_tables.specs.Tables.{Records, Named, is_one_of, lookup}
 use Rattle.wgsl_types.specs.Types.{most_depth, Closing, stopped, full, closed, make_type, or_struct, known_type, scalar_type, scalar_of, close_template, template_of, template_type, Counted, count_of, close_array, array_of, arguments_of, type_named, type_after, type_of}
 use Rattle.wgsl_names.specs.declared.TypeName.{TypeName}
 use Rattle.wgsl_names.specs.declared.TypeName.TheVariants as name
 use Rattle.wgsl_members.specs.Members.{Members, Rooms, Attributed, attributes, attributes_of, attributes_fit, member_record, with_member, placed, typed_member, named_member, member_of}
 use Rattle.wgsl_members.specs.declared.Attributes.{Attributes}
-use Rattle.wgsl_members.specs.declared.Given.TheVariants.{Absent}
 use Rattle.wgsl_structs.specs.Structs.{MemberEnd, stops, closes, goes, member_end, with_rest, after_member, members_of, Declared, start_of, span_of, with_struct, close_struct, is_unknown, struct_body, struct_of, Declaration, finished, wrong, further, declared_by, past, declaration_of, after_declaration, declarations_of}
 use Rattle.wgsl_read.specs.Text.{rooms_in, no_records, text_of}
 use Rattle.w3c_agreement.specs.Plain as plain
@@ -201,15 +201,15 @@ module _ (P S : Claim) (laws : Laws P S) where
 
     named_typed : (inner : Records → List Token → Closing) (innerTree : List Token → Reading TreeAt)
         → ((t : Records) (ts : List Token) → So t → Closes (inner t ts) (Is (innerTree ts) t))
-        → (left : ℕ) (t : Records) (k : TypeName) (o : Option Shape) (z : Option (Option WgslType)) (ts : List Token) → So t → Found o z (P t m)
+        → (left : ℕ) (t : Records) (k : std.Option TypeName) (o : Option Shape) (z : Option (Option WgslType)) (ts : List Token) → So t → Found o z (P t m)
         → Closes (type_named inner room left t (or_struct k o) ts) (Is (type_read innerTree left k z ts) t)
-    named_typed inner innerTree holds left t (name.OfScalar s) o z ts h f = scalar_typed t s ts h
-    named_typed inner innerTree holds left t (name.OfTemplate x) o z ts h f =
+    named_typed inner innerTree holds left t (std.Some (name.OfScalar s)) o z ts h f = scalar_typed t s ts h
+    named_typed inner innerTree holds left t (std.Some (name.OfTemplate x)) o z ts h f =
         closes_then (expect 60 ts) (λ ts. template_type room left t x ts) (Is (and_then (expect 60 ts) (λ ts. template_read left x ts)) t)
         (λ ts₁ e.
         same_reading (and_then (expect 60 ts) (λ ts. template_read left x ts)) (template_read left x ts₁) t (template_type room left t x ts₁)
         (ap (λ (z : Reading (List Token)). and_then z (λ ts. template_read left x ts)) e) (template_typed left t x ts₁ h))
-    named_typed inner innerTree holds left t name.Array o z ts h f =
+    named_typed inner innerTree holds left t (std.Some name.Array) o z ts h f =
         closes_then (expect 60 ts) (λ ts. arguments_of room (inner t ts)) (Is (and_then (expect 60 ts) (λ ts. and_then (innerTree ts) (λ e. array_read e.tree e.rest))) t)
         (λ ts₁ is.
         same_reading (and_then (expect 60 ts) (λ ts. and_then (innerTree ts) (λ e. array_read e.tree e.rest))) (and_then (innerTree ts₁) (λ e. array_read e.tree e.rest)) t
@@ -218,10 +218,10 @@ module _ (P S : Claim) (laws : Laws P S) where
         (λ e made rest p.
         later (and_then (innerTree ts₁) (λ e. array_read e.tree e.rest)) (array_read p.denoted rest) t made (array_of room e made rest)
         (ap (λ (z : Reading TreeAt). and_then z (λ e. array_read e.tree e.rest)) p.reads) p.more (array_typed e p.denoted made rest p.held p.holds))))
-    named_typed inner innerTree holds left t name.Unknown none none ts h f = tt
-    named_typed inner innerTree holds left t name.Unknown none (some x) ts h f = absurd f
-    named_typed inner innerTree holds left t name.Unknown (some e) none ts h f = absurd f
-    named_typed inner innerTree holds left t name.Unknown (some e) (some x) ts h f =
+    named_typed inner innerTree holds left t std.None none none ts h f = tt
+    named_typed inner innerTree holds left t std.None none (some x) ts h f = absurd f
+    named_typed inner innerTree holds left t std.None (some e) none ts h f = absurd f
+    named_typed inner innerTree holds left t std.None (some e) (some x) ts h f =
         record { denoted = x; reads = refl; holds = f; more = extends_same t.words; held = h }
 
     type_typed : (left : ℕ) (t : Records) (ts : List Token) → So t → Closes (type_of room left structs t ts) (Is (type_tree left trees ts) t)
@@ -304,7 +304,7 @@ module _ (P S : Claim) (laws : Laws P S) where
     member-added : (turns : ℕ) → Held P S m.types m.members structs trees → After (member_of turns rooms structs m) (Added structs trees (field_tree turns trees m.rest) m)
     unfolding member_of field_tree
     member-added turns h =
-        after_any (attributes_of turns (attributes Absent Absent) m.rest) (λ a. named_member rooms structs m a.given a.rest) (Added structs trees (field_tree turns trees m.rest) m)
+        after_any (attributes_of turns (attributes (std.Ok std.None) (std.Ok std.None)) m.rest) (λ a. named_member rooms structs m a.given a.rest) (Added structs trees (field_tree turns trees m.rest) m)
         (λ a e.
         same_added (field_tree turns trees m.rest) (named_field trees a.given a.rest) (named_member rooms structs m a.given a.rest)
         (ap (λ (z : Reading Attributed). and_then z (λ a. named_field trees a.given a.rest)) e) (named_added a.given a.rest h))

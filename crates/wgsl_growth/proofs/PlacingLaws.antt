@@ -16,9 +16,8 @@ use Rattle.proc_alignment.proofs.RoundLaws.{round_up_multiple, round_up_next}
 use Rattle.proc_alignment.proofs.MaskLaws.{power_of_mask}
 use Rattle.w3c_agreement.proofs.LeastLaws.{next_least}
 use Rattle.wgsl_placement.specs.declared.Shape.{Shape}
-use Rattle.wgsl_members.specs.Members.{Members, given_or, align_fits, size_fits, attributes_fit, with_member}
-use Rattle.wgsl_members.specs.declared.Given.{Given}
-use Rattle.wgsl_members.specs.declared.Given.TheVariants.{Absent, Once, Twice}
+use Rattle.wgsl_members.specs.Members.{Given, Members, given_or, align_fits, size_fits, attributes_fit, with_member}
+use Rattle.std.specs.Prelude.{Ok, Err, Some, None}
 use Rattle.wgsl_members.specs.declared.Attributes.{Attributes}
 use Rattle.wgsl_growth.specs.Written.{Each, Written, align_of, size_of, placed_after, offsets_after}
 
@@ -82,7 +81,7 @@ module _ (a : Attributes) (e : Shape) (fits : attributes_fit a e ≡ true) where
   pub size-fits : T (size_fits a.size e)
   size-fits = and_right (align_fits a.align e) (size_fits a.size e) (true_T fits)
 
-pub once_power : (k : ℕ) (e : Shape) → T (align_fits (Once k) e) → Power k × (e.align ∣ k)
+pub once_power : (k : ℕ) (e : Shape) → T (align_fits (Ok (Some k)) e) → Power k × (e.align ∣ k)
 once_power k e t =
     let both = and_left (ltb 0 k && is_mask k) (is_aligned e.align k) t in
     let positive = and_left (ltb 0 k) (is_mask k) both in
@@ -92,9 +91,9 @@ once_power k e t =
     )
 
 given_power : (g : Given) (e : Shape) → T (align_fits g e) → Power e.align → Power (given_or g e.align)
-given_power Absent e t p = p
-given_power (Once k) e t p = (once_power k e t).0
-given_power Twice e t p = p
+given_power (Ok None) e t p = p
+given_power (Ok (Some k)) e t p = (once_power k e t).0
+given_power (Err x) e t p = p
 
 -- AlignOfMember is a power of two where AlignOf of the type is
 pub written_power : (w : Written) → attributes_fit w.attributes w.shape ≡ true → Power w.shape.align → Power (align_of w)

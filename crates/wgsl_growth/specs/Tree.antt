@@ -2,6 +2,7 @@
 -- not have, a matrix of no float or an atomic of no integer, denotes no type, and neither does what it is part of.
 -- Assumes nothing.
 use Rattle.std.specs.Prelude.{List, [], ◌∷◌, ℕ, zero, suc, ◌+◌, eqb, length}
+use Rattle.std.specs.Prelude as std
 use Rattle.std.proofs.Math.Option.{Option, none, some}
 use Rattle.ir_records.specs.Result.{pick}
 use Rattle.w3c_agreement.specs.Plain as plain
@@ -18,12 +19,9 @@ use Rattle.wgsl_names.specs.declared.Template.TheVariants.{Vector, Matrix, Atomi
 use Rattle.wgsl_names.specs.declared.TypeName.{TypeName}
 use Rattle.wgsl_names.specs.declared.TypeName.TheVariants as name
 use Rattle.wgsl_grammar.specs.Grammar.{Reading, refused, read, and_then, expect, skipping, name_of}
-use Rattle.wgsl_placement.specs.declared.Count.{Count}
-use Rattle.wgsl_placement.specs.declared.Count.TheVariants.{Of, Runtime}
+use Rattle.wgsl_placement.specs.Placement.{Count}
 use Rattle.wgsl_types.specs.Types.{most_depth, scalar_of, count_of}
-use Rattle.wgsl_members.specs.Members.{attributes, attributes_of}
-use Rattle.wgsl_members.specs.declared.Given.{Given}
-use Rattle.wgsl_members.specs.declared.Given.TheVariants.{Absent, Once, Twice}
+use Rattle.wgsl_members.specs.Members.{Given, attributes, attributes_of}
 use Rattle.wgsl_members.specs.declared.Attributes.{Attributes}
 use Rattle.wgsl_structs.specs.Structs.{MemberEnd, stops, closes, goes, member_end}
 
@@ -65,14 +63,14 @@ template_tree (Matrix columns rows) s = mapped (λ f. wgsl.plain (plain.matrix (
 template_tree Atomic s = mapped (λ i. wgsl.plain (plain.atomic i)) (integer_of s)
 
 abbrev pub array_tree : Count → Option WgslType → Option WgslType
-array_tree (Of n) x = mapped (λ type. wgsl.array type n) x
-array_tree Runtime x = mapped (λ type. wgsl.runtime_array type) x
+array_tree (std.Some n) x = mapped (λ type. wgsl.array type n) x
+array_tree std.None x = mapped (λ type. wgsl.runtime_array type) x
 
 -- k where the attribute is given once
 abbrev pub option_of : Given → Option ℕ
-option_of Absent = none
-option_of (Once k) = some k
-option_of Twice = none
+option_of (std.Ok std.None) = none
+option_of (std.Ok (std.Some k)) = some k
+option_of (std.Err x) = none
 
 -- the last member, and one before others
 abbrev pub last_tree : Attributes → Option WgslType → Option wgsl.Members
@@ -111,12 +109,12 @@ template_read (suc left) t ts = and_then (name_of ts) (λ n. template_of_tree t 
 unfoldable pub array_read : Option WgslType → List Token → Reading TreeAt
 array_read x ts = and_then (count_of ts) (λ c. read (tree_at (array_tree c.count x) c.rest))
 
-abbrev pub type_read : (inner : List Token → Reading TreeAt) → (left : ℕ) → TypeName → Option (Option WgslType) → List Token → Reading TreeAt
-type_read inner left (name.OfScalar s) found ts = read (tree_at (some (wgsl.plain (plain.scalar (scalar_tree s)))) ts)
-type_read inner left (name.OfTemplate t) found ts = and_then (expect 60 ts) (λ ts. template_read left t ts)
-type_read inner left name.Array found ts = and_then (expect 60 ts) (λ ts. and_then (inner ts) (λ e. array_read e.tree e.rest))
-type_read inner left name.Unknown (some x) ts = read (tree_at x ts)
-type_read inner left name.Unknown none ts = refused 32
+abbrev pub type_read : (inner : List Token → Reading TreeAt) → (left : ℕ) → std.Option TypeName → Option (Option WgslType) → List Token → Reading TreeAt
+type_read inner left (std.Some (name.OfScalar s)) found ts = read (tree_at (some (wgsl.plain (plain.scalar (scalar_tree s)))) ts)
+type_read inner left (std.Some (name.OfTemplate t)) found ts = and_then (expect 60 ts) (λ ts. template_read left t ts)
+type_read inner left (std.Some name.Array) found ts = and_then (expect 60 ts) (λ ts. and_then (inner ts) (λ e. array_read e.tree e.rest))
+type_read inner left std.None (some x) ts = read (tree_at x ts)
+type_read inner left std.None none ts = refused 32
 
 unfoldable pub type_tree : (left : ℕ) → List NamedTree → List Token → Reading TreeAt
 type_tree zero trees ts = refused 31
@@ -135,7 +133,7 @@ unfoldable pub named_field : List NamedTree → Attributes → List Token → Re
 named_field trees a ts = and_then (name_of ts) (λ n. and_then (expect 58 n.rest) (λ ts. typed_field trees a ts))
 
 unfoldable pub field_tree : (turns : ℕ) → List NamedTree → List Token → Reading FieldAt
-field_tree turns trees ts = and_then (attributes_of turns (attributes Absent Absent) ts) (λ a. named_field trees a.given a.rest)
+field_tree turns trees ts = and_then (attributes_of turns (attributes (std.Ok std.None) (std.Ok std.None)) ts) (λ a. named_field trees a.given a.rest)
 
 pub record FieldsAt : Type 0 where
   pub tree : Option wgsl.Members

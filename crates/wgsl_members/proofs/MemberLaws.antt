@@ -1,6 +1,6 @@
 -- Laws of the reading of members: attributes one by one, a member placed in the tables, and what is kept. Assumes nothing.
 use mathlib.Core.Path.{◌≡◌, refl, sym, ap}
-use mathlib.Core.Bool.{◌&&◌}
+use mathlib.Core.Bool.{Bool, true, false, ◌&&◌}
 use mathlib.Core.List.{List, [], ◌∷◌}
 use Prim.Native.Nat.{ℕ, suc, ◌+◌, ◌-◌, ◌*◌, ◌≤◌, ◌<◌, max, min}
 use native.Mathlib.Omega.{arith}
@@ -11,12 +11,21 @@ use Rattle.ir_rows.specs.Rows.{with_part}
 use Rattle.proc_alignment.specs.Alignment.{round_up, most}
 use Rattle.program_words.specs.declared.Span.{Span}
 use Rattle.wgsl_tokens.specs.Tokens.{Token, from}
-use Rattle.wgsl_grammar.specs.Grammar.{read, and_then, expect}
+use Rattle.std.specs.Prelude.{Result, Ok, Err, MatchResult, IsErrAnd}
+use Rattle.ir_records.specs.Result.{pick}
+use Rattle.ir_records.specs.Refusal.{number_of}
+use Rattle.wgsl_grammar.specs.Grammar.{refused, read, and_then, demand, expect}
+use Rattle.wgsl_grammar.specs.declared.Refusal.{Refusal}
+use Rattle.wgsl_types.specs.Types.{Closing}
+use Rattle.wgsl_types.specs.Serving.{TypeRead}
+use Rattle.wgsl_types.specs.declared.Closed.{Closed}
+use Rattle.wgsl_types.specs.declared.Unclosed.{Unclosed}
+use Rattle.wgsl_types.specs.declared.Unclosed.TheVariants.{Refused, Full}
 use Rattle.wgsl_placement.specs.declared.Shape.{Shape}
 use Rattle.wgsl_tables.specs.Tables.{records_in, name_in}
 use Rattle.wgsl_tables.proofs.TableLaws.{one_name, one_record}
-use Rattle.wgsl_members.specs.Members.{attribute_of, after_at, attributes_of, align_of_member, size_of_member, Rooms, with_member}
-use Rattle.wgsl_members.specs.Serving.{Tables, tables, members_in, Bounds, Kept, PlacedIn}
+use Rattle.wgsl_members.specs.Members.{attribute_of, after_at, attributes_of, align_of_member, size_of_member, Members, Rooms, with_member, placed}
+use Rattle.wgsl_members.specs.Serving.{Unplaced, Tables, tables, members_in, Bounds, Kept, PlacedIn}
 use Rattle.wgsl_members.specs.declared.Attributes.{Attributes}
 use Rattle.wgsl_members.specs.declared.Body.{Body}
 
@@ -26,6 +35,23 @@ pub attributes_step : (turns turn : ℕ) (a : Attributes) (ts : List Token) → 
     ≡ after_at (expect 64 ts) (read (record { given = a; rest = ts })) (λ ts. and_then (attribute_of a ts) (λ b. attributes_of (turns - (turn + 1)) b.given b.rest))
 unfolding attributes_of
 attributes_step turns turn a ts h = let one : turns - turn ≡ suc (turns - (turn + 1)) = omega arith in ap (λ (k : ℕ). attributes_of k a ts) one
+
+-- ---- the type of a member: it has closed, or the member is refused
+abbrev pub MemberType : List ℕ → (room before : ℕ) → (was is : List ℕ) → Closing → Attributes → Result Closed Refusal → Type 0
+MemberType s room before was is c a (Ok x) = TypeRead s room before was is c (Ok x)
+MemberType s room before was is c a (Err r) = (rooms : Rooms) (m : Members) (name : List ℕ) → placed rooms m a name c ≡ refused (number_of r.fault)
+
+fits_first : (b : Bool) → demand {A = Members} b 33 (refused 1) ≡ refused (pick b 1 33)
+fits_first true = refl
+fits_first false = refl
+
+pub member_type : (s : List ℕ) (room made : ℕ) (was is : List ℕ) (c : Closing) (a : Attributes) (said : Unclosed → Refusal → Type 0)
+    → ((e : Unclosed) (r : Refusal) → said e r → Unplaced a e r) → (x : Result Closed Unclosed) (y : Result Closed Refusal)
+    → MatchResult x (λ v. y ≡ Ok v) (λ e. IsErrAnd y (λ r. said e r)) → TypeRead s room made was is c x → MemberType s room made was is c a y
+member_type s room made was is c a said tells (Ok v) y m t = rw m t
+member_type s room made was is c a said tells (Err (Refused q)) (Err r) m t = let u = tells (Refused q) r m in λ rooms ms name. rw (t, u) refl
+member_type s room made was is c a said tells (Err (Full e close)) (Err r) m t = let u = tells (Full e close) r m in λ rooms ms name. rw (t, u) (fits_first _)
+member_type s room made was is c a said tells (Err e) (Ok v) m t = absurd m
 
 -- ---- a member in its place
 module _ (s words : List ℕ) (names : List Span) (members : List ℕ) (b : Body) (a : Attributes) (e : Shape) (types : ℕ) (name : Span) (at : ℕ) where

@@ -1,6 +1,7 @@
 -- 02, E7: a member of a struct in WGSL text: its attributes, its name and its type, and where the standard places it.
 -- Assumes nothing.
-use Rattle.std.specs.Prelude.{Bool, true, false, not, ◌&&◌, List, [], ◌∷◌, ◌++◌, ℕ, zero, suc, ◌+◌, max, min, leb, ltb}
+use Rattle.std.specs.Prelude.{Bool, true, false, not, ◌&&◌, List, [], ◌∷◌, ◌++◌, Option, Some, None, Result, Ok, Err, ℕ, zero, suc, ◌+◌, max, min, leb, ltb}
+use Rattle.ir_records.specs.declared.Records as counts
 use Rattle.proc_alignment.specs.Alignment.{is_aligned, is_mask, round_up, most}
 use Rattle.wgsl_tokens.specs.Tokens.{Token}
 use Rattle.wgsl_names.specs.Names.{same, align_word, size_word}
@@ -8,20 +9,22 @@ use Rattle.wgsl_grammar.specs.Grammar.{Reading, refused, read, and_then, demand,
 use Rattle.wgsl_placement.specs.declared.Shape.{Shape}
 use Rattle.wgsl_tables.specs.Tables.{Records, is_one_of, Named}
 use Rattle.wgsl_types.specs.Types.{most_depth, Closing, stopped, full, closed, type_of}
-use Rattle.wgsl_members.specs.declared.Given.{Given}
-use Rattle.wgsl_members.specs.declared.Given.TheVariants.{Absent, Once, Twice}
+use Rattle.wgsl_members.specs.declared.Twice.{Twice}
 use Rattle.wgsl_members.specs.declared.Attributes.{Attributes}
-use Rattle.wgsl_members.specs.declared.Room.{Room}
 
 -- ---- attributes
+-- the number of one of a kind, where it stands; an error where it stands twice
+abbrev pub Given : Type 0
+Given = Result (Option ℕ) Twice
+
 abbrev pub attributes : (align size : Given) → Attributes
 attributes align size = record { align = align; size = size }
 
 -- one more of a kind
 abbrev pub again : Given → ℕ → Given
-again Absent k = Once k
-again (Once j) k = Twice
-again Twice k = Twice
+again (Ok None) k = Ok (Some k)
+again (Ok (Some j)) k = Err (record {})
+again (Err x) k = Err x
 
 pub record Attributed : Type 0 where
   pub given : Attributes
@@ -62,24 +65,24 @@ attributes_of (suc left) a ts =
 
 -- '@align(k): k is positive and a power of two, and a multiple of RequiredAlignOf(T, C)', as for storage: AlignOf(T); at most once
 abbrev pub align_fits : Given → Shape → Bool
-align_fits Absent e = true
-align_fits (Once k) e = ltb 0 k && is_mask k && is_aligned e.align k
-align_fits Twice e = false
+align_fits (Ok None) e = true
+align_fits (Ok (Some k)) e = ltb 0 k && is_mask k && is_aligned e.align k
+align_fits (Err x) e = false
 
 -- '@size(k): k is at least SizeOf(T), and T has a creation-fixed footprint'; at most once
 abbrev pub size_fits : Given → Shape → Bool
-size_fits Absent e = true
-size_fits (Once k) e = leb e.size k && e.fixed
-size_fits Twice e = false
+size_fits (Ok None) e = true
+size_fits (Ok (Some k)) e = leb e.size k && e.fixed
+size_fits (Err x) e = false
 
 abbrev pub attributes_fit : Attributes → Shape → Bool
 attributes_fit a e = align_fits a.align e && size_fits a.size e
 
 -- k where there is an attribute, else what the type has
 abbrev pub given_or : Given → ℕ → ℕ
-given_or Absent own = own
-given_or (Once k) own = k
-given_or Twice own = own
+given_or (Ok None) own = own
+given_or (Ok (Some k)) own = k
+given_or (Err x) own = own
 
 -- ---- the members read so far
 pub record Members : Type 0 where
@@ -96,7 +99,7 @@ pub record Members : Type 0 where
 
 -- how many type and member records there may be
 abbrev pub Rooms : Type 0
-Rooms = Room
+Rooms = counts.Records
 
 -- AlignOfMember(S, i): k where the member has @align(k), else AlignOf of its type
 abbrev pub align_of_member : Attributes → Shape → ℕ
@@ -147,4 +150,4 @@ named_member rooms structs m a ts =
 -- turns: how many attributes there may be
 unfoldable pub member_of : (turns : ℕ) → Rooms → List Named → Members → Reading Members
 member_of turns rooms structs m =
-    and_then (attributes_of turns (attributes Absent Absent) m.rest) (λ a. named_member rooms structs m a.given a.rest)
+    and_then (attributes_of turns (attributes (Ok None) (Ok None)) m.rest) (λ a. named_member rooms structs m a.given a.rest)

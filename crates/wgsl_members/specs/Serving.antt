@@ -2,7 +2,7 @@
 -- What the functions over positions answer, as the readings of the tokens from there on. The members read so far, by the code's numbers and the words
 -- of its tables.
 -- Assumes nothing.
-use Rattle.std.specs.Prelude.{◌≡◌, List, ℕ, ◌+◌, ◌*◌, ◌≤◌, ◌<◌, length, take, drop, Result, Ok, Err}
+use Rattle.std.specs.Prelude.{◌≡◌, true, false, List, ℕ, ◌+◌, ◌*◌, ◌≤◌, ◌<◌, length, take, drop, Result, Ok, Err}
 use Rattle.ir_records.specs.Record.{type_words, member_words}
 use Rattle.ir_records.specs.Refusal.{number_of}
 use Rattle.program_words.specs.declared.Span.{Span}
@@ -12,7 +12,11 @@ use Rattle.wgsl_grammar.specs.declared.Refusal.{Refusal}
 use Rattle.wgsl_placement.specs.declared.Shape.{Shape}
 use Rattle.wgsl_tables.specs.Tables.{records_in, name_in, names_in}
 use Rattle.wgsl_types.specs.Serving.{Room}
-use Rattle.wgsl_members.specs.Members.{Attributed, Members, Rooms, with_member}
+use Rattle.wgsl_members.specs.Members.{attributes_fit, align_of_member, size_of_member, Attributed, Members, Rooms, with_member}
+use Rattle.wgsl_members.specs.declared.Fit.{Fit}
+use Rattle.wgsl_types.specs.declared.Unclosed.{Unclosed}
+use Rattle.wgsl_types.specs.declared.Unclosed.TheVariants.{Refused as RefusedType, Full}
+use Rattle.ir_records.specs.Result.{pick}
 use Rattle.wgsl_members.specs.declared.Attributes.{Attributes}
 use Rattle.wgsl_members.specs.declared.AttributesAt.{AttributesAt}
 use Rattle.wgsl_members.specs.declared.Body.{Body}
@@ -20,6 +24,16 @@ use Rattle.wgsl_members.specs.declared.Body.{Body}
 abbrev pub attributes_read : List ℕ → Result AttributesAt Refusal → Reading Attributed
 attributes_read s (Ok a) = read (record { given = a.attributes; rest = from s a.at })
 attributes_read s (Err r) = refused (number_of r.fault)
+
+-- a member's alignment and size with its attributes, or that one of them does not fit
+abbrev pub Fits : Attributes → Shape → Result Fit Refusal → Type 0
+Fits a e (Ok f) = (attributes_fit a e ≡ true) × (f.align ≡ align_of_member a e) × (f.size ≡ size_of_member a e)
+Fits a e (Err r) = (attributes_fit a e ≡ false) × (number_of r.fault ≡ 33)
+
+-- a type that is refused, or that has closed with no room for its record: the attributes are tested first
+abbrev pub Unplaced : Attributes → Unclosed → Refusal → Type 0
+Unplaced a (RefusedType q) r = r ≡ q
+Unplaced a (Full e close) r = number_of r.fault ≡ pick (attributes_fit a e) 1 33
 
 -- the three tables that a member fills
 pub record Tables : Type 0 where

@@ -1,41 +1,39 @@
 // A member of a struct in WGSL text: attributes, a name, a type; and where it is placed.
 #![tactic(auto)]
 
-ghost use Rattle.std.specs.Prelude.{◌≡◌, ◌&&◌, ltb, min, length};
+ghost use Rattle.std.specs.Prelude.{◌≡◌, ◌&&◌, Ok, None, Some, ltb, min, length};
 ghost use Rattle.proc_alignment.specs.Alignment.{is_mask};
 ghost use Rattle.ir_records.specs.Result.{pick};
 ghost use Rattle.ir_records.specs.Refusal.{number_of};
 ghost use Rattle.wgsl_tokens.specs.Tokens.{from};
 ghost use Rattle.wgsl_grammar.specs.Serving.{number_read};
 ghost use Rattle.wgsl_tables.specs.Tables.{name_in, structs_in};
-ghost use Rattle.wgsl_members.specs.Members.{attributes, again, value_of, attribute_of, attributes_of, align_fits, size_fits, attributes_fit, given_or, typed_member, named_member, member_of};
-ghost use Rattle.wgsl_members.specs.Serving.{attributes_read, tables, members_in, Bounds, MemberRead, Placeable, PlacedIn};
+ghost use Rattle.wgsl_members.specs.Members.{attributes, again, value_of, attribute_of, attributes_of, align_fits, size_fits, attributes_fit, align_of_member, size_of_member, typed_member, named_member, member_of};
+ghost use Rattle.wgsl_members.specs.Serving.{attributes_read, tables, members_in, Bounds, MemberRead, Placeable, PlacedIn, Fits, Unplaced};
 
+use ir_records::Records;
 use program_words::Span;
 use wgsl_grammar::{Number, Problem, Refusal};
 use wgsl_placement::Shape;
 use wgsl_tables::NamedShape;
-use wgsl_types::Unclosed;
+use wgsl_types::{Closed, Unclosed};
 
-/// How many type and member records there may be.
+/// An attribute stands twice at one member.
 #[derive(Clone, Copy, Debug, PartialEq, Eq)]
-pub struct Room {
-    pub types: u32,
-    pub members: u32,
-}
+pub struct Twice;
 
-// How often an attribute was given.
-#[derive(Clone, Copy, Debug, PartialEq, Eq)]
-pub enum Given {
-    Absent,
-    Once(u32),
-    Twice,
-}
-
+/// The number that each attribute gives, where it stands.
 #[derive(Clone, Copy, Debug, PartialEq, Eq)]
 pub struct Attributes {
-    pub align: Given,
-    pub size: Given,
+    pub align: Result<Option<u32>, Twice>,
+    pub size: Result<Option<u32>, Twice>,
+}
+
+// AlignOf and SizeOf of a member, with its attributes.
+#[derive(Clone, Copy, Debug, PartialEq, Eq)]
+pub struct Fit {
+    pub align: u32,
+    pub size: u32,
 }
 
 // The attributes of a member, and where the text goes on after them.
@@ -58,7 +56,8 @@ pub struct Body {
     pub at: usize,
 }
 
-const MOST_DEPTH: u32 = 32;
+/// So deep may types stand inside types, a member's own type being 1.
+pub const MOST_DEPTH: u32 = 32;
 
 // `(`, a number, perhaps a comma, `)`.
 #[tactic(auto, unfolding(crate::specs::Members::value_of))]
@@ -75,13 +74,14 @@ fn value_at(s: &[u8], at: usize) -> Result<Number, Refusal>
     })
 }
 
-fn again(given: Given, k: u32) -> Given
+// One more of a kind.
+// Kept: the Result is what is known of an attribute so far, and no outcome that is handed on; a second one is refused where the type closes.
+fn again(given: Result<Option<u32>, Twice>, k: u32) -> Result<Option<u32>, Twice>
     ensures { result ≡ again given k }
 {
-    match given {
-        Given::Absent => Given::Once(k),
-        Given::Once(_) => Given::Twice,
-        Given::Twice => Given::Twice,
+    match given? {
+        None => Ok(Some(k)),
+        Some(_) => Err(Twice),
     }
 }
 
@@ -119,11 +119,11 @@ fn attribute_at(s: &[u8], given: Attributes, at: usize) -> Result<AttributesAt, 
 
 // Any number of attributes.
 fn attributes_at(s: &[u8], at: usize) -> Result<AttributesAt, Refusal>
-    ensures { attributes_read s.now result ≡ attributes_of (length s.now) (attributes Given.Absent Given.Absent) (from s.now at) }
+    ensures { attributes_read s.now result ≡ attributes_of (length s.now) (attributes (Ok None) (Ok None)) (from s.now at) }
 {
     let mut given = Attributes {
-        align: Given::Absent,
-        size: Given::Absent,
+        align: Ok(None),
+        size: Ok(None),
     };
     let mut next = at;
     for _turn in 0..s.len() {
@@ -143,17 +143,8 @@ fn attributes_at(s: &[u8], at: usize) -> Result<AttributesAt, Refusal>
     })
 }
 
-fn align_fits(given: Given, e: Shape) -> bool
-    ensures { result ≡ align_fits given e }
-{
-    match given {
-        Given::Absent => true,
-        Given::Once(k) => is_power(k) & proc_alignment::is_aligned(e.align, k),
-        Given::Twice => false,
-    }
-}
-
-// Kept: `is_power_of_two` counts digits, and no law of the library ties their count to the definition's test.
+// Kept: `is_power_of_two` counts digits, and no law of the library ties their count to the definition's test; `proc_alignment::power_of_two` is a
+// test of widths, up to 128.
 fn is_power(k: u32) -> bool
     ensures { result ≡ (ltb 0 k && is_mask k) }
 {
@@ -163,24 +154,35 @@ fn is_power(k: u32) -> bool
     k & (k - 1) == 0
 }
 
-fn size_fits(given: Given, e: Shape) -> bool
-    ensures { result ≡ size_fits given e }
+// AlignOfMember; none where `@align` does not fit.
+fn align_of(attributes: Attributes, shape: Shape) -> Option<u32>
+    ensures { result ≡ pick (align_fits attributes.align shape) (Some (align_of_member attributes shape)) None }
 {
-    match given {
-        Given::Absent => true,
-        Given::Once(k) => (e.size <= k) & e.fixed,
-        Given::Twice => false,
+    match attributes.align {
+        Ok(None) => Some(shape.align),
+        Ok(Some(k)) if is_power(k) & proc_alignment::is_aligned(shape.align, k) => Some(k),
+        _ => None,
     }
 }
 
-fn given_or(given: Given, own: u32) -> u32
-    ensures { result ≡ given_or given own }
+// SizeOfMember; none where `@size` does not fit.
+fn size_of(attributes: Attributes, shape: Shape) -> Option<u32>
+    ensures { result ≡ pick (size_fits attributes.size shape) (Some (size_of_member attributes shape)) None }
 {
-    match given {
-        Given::Absent => own,
-        Given::Once(k) => k,
-        Given::Twice => own,
+    match attributes.size {
+        Ok(None) => Some(shape.size),
+        Ok(Some(k)) if (shape.size <= k) & shape.fixed => Some(k),
+        _ => None,
     }
+}
+
+// A member's alignment and size, or which of its attributes does not fit. `close`: a position before the token at which its type closes.
+fn fitted(attributes: Attributes, shape: Shape, close: usize) -> Result<Fit, Refusal>
+    ensures { Fits attributes shape result }
+{
+    let align = align_of(attributes, shape).ok_or(Refusal::of(Problem::Align, close))?;
+    let size = size_of(attributes, shape).ok_or(Refusal::of(Problem::Size, close))?;
+    Ok(Fit { align, size })
 }
 
 // An offset as a record has it: one above the limit, which the struct's close refuses, is written as the limit.
@@ -195,56 +197,45 @@ fn place_member(
     names: &mut [Span],
     members: &mut [u32],
     body: Body,
-    attributes: Attributes,
-    shape: Shape,
-    types: u32,
+    fit: Fit,
+    closed: Closed,
     name: Span,
-    at: usize,
 ) -> Body
     requires { Placeable names.old members.old body }
-    ensures { PlacedIn names.old names.new members.old members.new body attributes shape types name at result }
+    ensures { (a : Attributes) → fit.align ≡ align_of_member a closed.shape → fit.size ≡ size_of_member a closed.shape → PlacedIn names.old names.new members.old members.new body a closed.shape closed.made name closed.at result }
 {
-    let align = given_or(attributes.align, shape.align);
-    let size = given_or(attributes.size, shape.size);
-    let offset = wgsl_placement::round_up(align, body.end);
+    let shape = closed.shape;
+    let offset = wgsl_placement::round_up(fit.align, body.end);
     wgsl_tables::put_member(members, body.members, shape.number, written(offset));
     names[body.names as usize] = name;
     Body {
         names: body.names + 1,
-        end: offset + u64::from(size),
-        align: body.align.max(align),
+        end: offset + u64::from(fit.size),
+        align: body.align.max(fit.align),
         fixed: body.fixed & shape.fixed,
-        types,
+        types: closed.made,
         members: body.members + 1,
-        at,
+        at: closed.at,
     }
-}
-
-// Which of the attributes does not fit.
-fn misfit(attributes: Attributes, shape: Shape, close: usize) -> Refusal
-    ensures { number_of result.fault ≡ 33 }
-{
-    if align_fits(attributes.align, shape) {
-        Refusal::of(Problem::Size, close)
-    } else {
-        Refusal::of(Problem::Align, close)
-    }
-}
-
-fn attributes_fit(attributes: Attributes, shape: Shape) -> bool
-    ensures { result ≡ attributes_fit attributes shape }
-{
-    align_fits(attributes.align, shape) & size_fits(attributes.size, shape)
 }
 
 // A type that closes with no room for its record: the attributes are tested first.
 fn full_refusal(attributes: Attributes, shape: Shape, close: usize) -> Refusal
     ensures { number_of result.fault ≡ pick (attributes_fit attributes shape) 1 33 }
 {
-    if attributes_fit(attributes, shape) {
-        Refusal::of(Problem::TypesFull, close)
-    } else {
-        misfit(attributes, shape, close)
+    match fitted(attributes, shape, close) {
+        Ok(_) => Refusal::of(Problem::TypesFull, close),
+        Err(refusal) => refusal,
+    }
+}
+
+// The refusal for a member whose type has not closed, or has closed with no room.
+fn refused(unclosed: Unclosed, attributes: Attributes) -> Refusal
+    ensures { Unplaced attributes unclosed result }
+{
+    match unclosed {
+        Unclosed::Refused(refusal) => refusal,
+        Unclosed::Full { shape, close } => full_refusal(attributes, shape, close),
     }
 }
 
@@ -258,7 +249,7 @@ fn typed_member(
     names: &mut [Span],
     types: &mut [u32],
     members: &mut [u32],
-    room: Room,
+    room: Records,
     body: Body,
     attributes: Attributes,
     name: Span,
@@ -268,27 +259,12 @@ fn typed_member(
     ensures { MemberRead s.now room (tables names.old types.old members.old) (tables names.new types.new members.new) body (typed_member room (structs_in s.now structs.now) (members_in s.now (tables names.old types.old members.old) body) attributes (name_in s.now name.start name.end) (from s.now at)) result }
 {
     let read = wgsl_types::read_type(s, structs, types, room.types, body.types, at, MOST_DEPTH);
-    let closed = match read {
-        Ok(closed) => closed,
-        Err(Unclosed::Refused(refusal)) => return Err(refusal),
-        Err(Unclosed::Full { shape, close }) => return Err(full_refusal(attributes, shape, close)),
-    };
-    if !attributes_fit(attributes, closed.shape) {
-        return Err(misfit(attributes, closed.shape, closed.close));
-    }
+    let closed = read.map_err(|unclosed| refused(unclosed, attributes))?;
+    let fit = fitted(attributes, closed.shape, closed.close)?;
     if room.members <= body.members {
         return Err(Refusal::of(Problem::MembersFull, closed.close));
     }
-    Ok(place_member(
-        names,
-        members,
-        body,
-        attributes,
-        closed.shape,
-        closed.made,
-        name,
-        closed.at,
-    ))
+    Ok(place_member(names, members, body, fit, closed, name))
 }
 
 // A member from its name on.
@@ -299,7 +275,7 @@ fn named_member(
     names: &mut [Span],
     types: &mut [u32],
     members: &mut [u32],
-    room: Room,
+    room: Records,
     body: Body,
     attributes: Attributes,
     at: usize,
@@ -326,7 +302,7 @@ pub fn read_member(
     names: &mut [Span],
     types: &mut [u32],
     members: &mut [u32],
-    room: Room,
+    room: Records,
     body: Body,
 ) -> Result<Body, Refusal>
     requires { Bounds room (tables names.old types.old members.old) body }

@@ -1,6 +1,6 @@
 -- What is said of a WGSL text that is refused.
 -- Assumes nothing.
-use Rattle.std.specs.Prelude.{List, [], ◌∷◌, ◌++◌, ℕ, ◌-◌, min, eqb, ltb, length, take, drop}
+use Rattle.std.specs.Prelude.{List, [], ◌∷◌, ◌++◌, Option, Some, None, Result, Ok, Err, ℕ, ◌-◌, min, eqb, ltb, length, take, drop}
 use Rattle.ir_records.specs.Result.{pick}
 use Rattle.program_output.specs.Bytes.{ascii, named}
 use Rattle.program_output.specs.Answers.{numbered_line}
@@ -9,7 +9,8 @@ use Rattle.wgsl_grammar.specs.declared.Problem.TheVariants.{OpenComment, NotAsci
 use Rattle.wgsl_grammar.specs.declared.Why.{Why}
 use Rattle.wgsl_grammar.specs.declared.Why.TheVariants.{Mark, Other}
 use Rattle.wgsl_tokens.specs.declared.Lexed.{Lexed}
-use Rattle.wgsl_tokens.specs.declared.Lexed.TheVariants as lexed
+use Rattle.wgsl_tokens.specs.Lexed.{end_of}
+use Rattle.wgsl_tokens.specs.declared.BadToken.{BadToken}
 use Rattle.wgsl_messages.specs.Position.{line_of, column_of}
 
 -- the lines of the problems, numbered from 0 on
@@ -60,18 +61,15 @@ unfoldable pub token_text : List ℕ → (start end : ℕ) → List ℕ
 token_text text start end =
     pick (ltb end start) [] (pick (ltb (length text) end) [] ((96 ∷ []) ++ take (end - start) (drop start text) ++ ascii "`: "))
 
-abbrev pub found_text : List ℕ → (start : ℕ) → Lexed → List ℕ
-found_text text start (lexed.Word from end) = token_text text start end
-found_text text start (lexed.Number value end) = token_text text start end
-found_text text start (lexed.Large end) = token_text text start end
-found_text text start (lexed.Mark byte end) = token_text text start end
-found_text text start lexed.Bad = ascii "no word, number or mark: "
-found_text text start lexed.End = ascii "the end of the text: "
+abbrev pub found_text : List ℕ → (start : ℕ) → Result (Option Lexed) BadToken → List ℕ
+found_text text start (Ok (Some token)) = token_text text start (end_of token)
+found_text text start (Ok None) = ascii "the end of the text: "
+found_text text start (Err bad) = ascii "no word, number or mark: "
 
 -- a comment that is no text of WGSL: a byte that is no ASCII, or no end
 abbrev pub broken_text : List ℕ → (byte : ℕ) → List ℕ
 broken_text text byte = position_text text byte ++ pick (ltb byte (length text)) (sentence NotAscii) (sentence OpenComment)
 
 -- the place, what stands there, and what is wrong
-abbrev pub message_text : List ℕ → Why → (start : ℕ) → Lexed → List ℕ
+abbrev pub message_text : List ℕ → Why → (start : ℕ) → Result (Option Lexed) BadToken → List ℕ
 message_text text why start token = position_text text start ++ found_text text start token ++ reason_text why

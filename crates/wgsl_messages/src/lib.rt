@@ -9,7 +9,7 @@ ghost use Rattle.wgsl_messages.specs.Says.{Says};
 
 use program_output::Output;
 use wgsl_grammar::{Problem, Refusal, Why};
-use wgsl_tokens::Lexed;
+use wgsl_tokens::{BadToken, Lexed};
 
 // Both count from 1, columns in bytes.
 #[derive(Clone, Copy, Debug, PartialEq, Eq)]
@@ -18,14 +18,10 @@ pub struct Position {
     pub column: usize,
 }
 
-const LINE_FEED: u8 = 10;
-
-const RETURN: u8 = 13;
-
 fn breaks_line(c: u8, next: u8) -> bool
     ensures { result ≡ breaks_line c next }
 {
-    (LINE_FEED <= c) & (c <= RETURN) & !((c == RETURN) & (next == LINE_FEED))
+    wgsl_tokens::ends_line(c) & !((c == b'\r') & (next == b'\n'))
 }
 
 // Line and column of a byte; past the end of the text, those of its end.
@@ -59,21 +55,20 @@ fn put_token(out: &mut Output, text: &[u8], start: usize, end: usize)
 }
 
 // The token that was found at a place.
-fn put_found(out: &mut Output, text: &[u8], start: usize, token: Lexed)
+fn put_found(out: &mut Output, text: &[u8], start: usize, token: Result<Option<Lexed>, BadToken>)
     ensures { Adds out.old (found_text text.now start token) out.new }
 {
-    match token {
-        Lexed::Word { end, .. }
-        | Lexed::Number { end, .. }
-        | Lexed::Large(end)
-        | Lexed::Mark { end, .. } => put_token(out, text, start, end),
-        Lexed::Bad => out.put_text(b"no word, number or mark: "),
-        Lexed::End => out.put_text(b"the end of the text: "),
+    let Ok(found) = token else {
+        out.put_text(b"no word, number or mark: ");
+        return;
+    };
+    match found {
+        Some(lexed) => put_token(out, text, start, lexed.end()),
+        None => out.put_text(b"the end of the text: "),
     }
 }
 
-// The line of a problem, from 0 on.
-// Kept: a `From` stands beside its type, and the lines are those of this crate.
+// The line of a problem, from 0 on: the problems stand in the order of their lines.
 fn line_number(problem: Problem) -> u32
     ensures { result ≡ line_number problem }
 {

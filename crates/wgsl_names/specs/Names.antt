@@ -1,6 +1,6 @@
 -- 02, E7: the names that WGSL has: its keywords, and the types that are declared before any text. Words are compared byte by byte.
 -- Assumes nothing.
-use Rattle.std.specs.Prelude.{Bool, true, false, ◌&&◌, ◌||◌, List, [], ◌∷◌, ℕ, eqb}
+use Rattle.std.specs.Prelude.{Bool, true, false, ◌&&◌, ◌||◌, List, [], ◌∷◌, Option, Some, None, ℕ, eqb}
 use Rattle.ir_records.specs.Result.{pick}
 use Rattle.wgsl_names.specs.declared.Scalar.{Scalar}
 use Rattle.wgsl_names.specs.declared.Scalar.TheVariants.{Bool as BoolScalar, I32, U32, F32, F16}
@@ -8,7 +8,7 @@ use Rattle.wgsl_names.specs.declared.Dimension.{Dimension}
 use Rattle.wgsl_names.specs.declared.Dimension.TheVariants.{Two, Three, Four}
 use Rattle.wgsl_names.specs.declared.Template.TheVariants.{Vector, Matrix, Atomic}
 use Rattle.wgsl_names.specs.declared.TypeName.{TypeName}
-use Rattle.wgsl_names.specs.declared.TypeName.TheVariants.{OfScalar, OfTemplate, Array, Unknown}
+use Rattle.wgsl_names.specs.declared.TypeName.TheVariants.{OfScalar, OfTemplate, Array}
 
 unfoldable pub same : List ℕ → List ℕ → Bool
 same [] [] = true
@@ -73,37 +73,37 @@ size_word = 115 ∷ 105 ∷ 122 ∷ 101 ∷ []
 
 -- ---- types
 -- mat2x2, mat2x3, mat2x4, mat3x2, mat3x3, mat3x4, mat4x2, mat4x3, mat4x4
-unfoldable pub matrix_named : List ℕ → TypeName
+unfoldable pub matrix_named : List ℕ → Option TypeName
 matrix_named w =
-    pick (same w (109 ∷ 97 ∷ 116 ∷ 50 ∷ 120 ∷ 50 ∷ [])) (OfTemplate (Matrix Two Two))
-    (pick (same w (109 ∷ 97 ∷ 116 ∷ 50 ∷ 120 ∷ 51 ∷ [])) (OfTemplate (Matrix Two Three))
-    (pick (same w (109 ∷ 97 ∷ 116 ∷ 50 ∷ 120 ∷ 52 ∷ [])) (OfTemplate (Matrix Two Four))
-    (pick (same w (109 ∷ 97 ∷ 116 ∷ 51 ∷ 120 ∷ 50 ∷ [])) (OfTemplate (Matrix Three Two))
-    (pick (same w (109 ∷ 97 ∷ 116 ∷ 51 ∷ 120 ∷ 51 ∷ [])) (OfTemplate (Matrix Three Three))
-    (pick (same w (109 ∷ 97 ∷ 116 ∷ 51 ∷ 120 ∷ 52 ∷ [])) (OfTemplate (Matrix Three Four))
-    (pick (same w (109 ∷ 97 ∷ 116 ∷ 52 ∷ 120 ∷ 50 ∷ [])) (OfTemplate (Matrix Four Two))
-    (pick (same w (109 ∷ 97 ∷ 116 ∷ 52 ∷ 120 ∷ 51 ∷ [])) (OfTemplate (Matrix Four Three))
-    (pick (same w (109 ∷ 97 ∷ 116 ∷ 52 ∷ 120 ∷ 52 ∷ [])) (OfTemplate (Matrix Four Four))
-    (Unknown)))))))))
+    pick (same w (109 ∷ 97 ∷ 116 ∷ 50 ∷ 120 ∷ 50 ∷ [])) (Some (OfTemplate (Matrix Two Two)))
+    (pick (same w (109 ∷ 97 ∷ 116 ∷ 50 ∷ 120 ∷ 51 ∷ [])) (Some (OfTemplate (Matrix Two Three)))
+    (pick (same w (109 ∷ 97 ∷ 116 ∷ 50 ∷ 120 ∷ 52 ∷ [])) (Some (OfTemplate (Matrix Two Four)))
+    (pick (same w (109 ∷ 97 ∷ 116 ∷ 51 ∷ 120 ∷ 50 ∷ [])) (Some (OfTemplate (Matrix Three Two)))
+    (pick (same w (109 ∷ 97 ∷ 116 ∷ 51 ∷ 120 ∷ 51 ∷ [])) (Some (OfTemplate (Matrix Three Three)))
+    (pick (same w (109 ∷ 97 ∷ 116 ∷ 51 ∷ 120 ∷ 52 ∷ [])) (Some (OfTemplate (Matrix Three Four)))
+    (pick (same w (109 ∷ 97 ∷ 116 ∷ 52 ∷ 120 ∷ 50 ∷ [])) (Some (OfTemplate (Matrix Four Two)))
+    (pick (same w (109 ∷ 97 ∷ 116 ∷ 52 ∷ 120 ∷ 51 ∷ [])) (Some (OfTemplate (Matrix Four Three)))
+    (pick (same w (109 ∷ 97 ∷ 116 ∷ 52 ∷ 120 ∷ 52 ∷ [])) (Some (OfTemplate (Matrix Four Four)))
+    None))))))))
 
 -- vec2, vec3, vec4, and those above
-unfoldable pub vector_named : List ℕ → TypeName
+unfoldable pub vector_named : List ℕ → Option TypeName
 vector_named w =
-    pick (same w (118 ∷ 101 ∷ 99 ∷ 50 ∷ [])) (OfTemplate (Vector Two))
-    (pick (same w (118 ∷ 101 ∷ 99 ∷ 51 ∷ [])) (OfTemplate (Vector Three))
-    (pick (same w (118 ∷ 101 ∷ 99 ∷ 52 ∷ [])) (OfTemplate (Vector Four))
+    pick (same w (118 ∷ 101 ∷ 99 ∷ 50 ∷ [])) (Some (OfTemplate (Vector Two)))
+    (pick (same w (118 ∷ 101 ∷ 99 ∷ 51 ∷ [])) (Some (OfTemplate (Vector Three)))
+    (pick (same w (118 ∷ 101 ∷ 99 ∷ 52 ∷ [])) (Some (OfTemplate (Vector Four)))
     (matrix_named w)))
 
 -- bool, i32, u32, f32, f16, atomic, array, and those above
-unfoldable pub predeclared : List ℕ → TypeName
+unfoldable pub predeclared : List ℕ → Option TypeName
 predeclared w =
-    pick (same w (98 ∷ 111 ∷ 111 ∷ 108 ∷ [])) (OfScalar BoolScalar)
-    (pick (same w (105 ∷ 51 ∷ 50 ∷ [])) (OfScalar I32)
-    (pick (same w (117 ∷ 51 ∷ 50 ∷ [])) (OfScalar U32)
-    (pick (same w (102 ∷ 51 ∷ 50 ∷ [])) (OfScalar F32)
-    (pick (same w (102 ∷ 49 ∷ 54 ∷ [])) (OfScalar F16)
-    (pick (same w (97 ∷ 116 ∷ 111 ∷ 109 ∷ 105 ∷ 99 ∷ [])) (OfTemplate Atomic)
-    (pick (same w (97 ∷ 114 ∷ 114 ∷ 97 ∷ 121 ∷ [])) Array
+    pick (same w (98 ∷ 111 ∷ 111 ∷ 108 ∷ [])) (Some (OfScalar BoolScalar))
+    (pick (same w (105 ∷ 51 ∷ 50 ∷ [])) (Some (OfScalar I32))
+    (pick (same w (117 ∷ 51 ∷ 50 ∷ [])) (Some (OfScalar U32))
+    (pick (same w (102 ∷ 51 ∷ 50 ∷ [])) (Some (OfScalar F32))
+    (pick (same w (102 ∷ 49 ∷ 54 ∷ [])) (Some (OfScalar F16))
+    (pick (same w (97 ∷ 116 ∷ 111 ∷ 109 ∷ 105 ∷ 99 ∷ [])) (Some (OfTemplate Atomic))
+    (pick (same w (97 ∷ 114 ∷ 114 ∷ 97 ∷ 121 ∷ [])) (Some Array)
     (vector_named w)))))))
 
 -- ---- what a record says of a scalar, and the bytes that it takes in the standard's placement

@@ -46,11 +46,10 @@ pub enum TypeName {
     OfScalar(Scalar),
     OfTemplate(Template),
     Array,
-    Unknown,
 }
 
 // Whether two words have the same bytes.
-// Kept: `==` with the definition of sameness that the grammar speaks of; at each caller `==` would need the lemma that is used once here.
+// Kept: `==` under the definition of sameness that the grammar speaks of; each of its callers would have to cite the lemma that is cited once here.
 #[tactic(auto, using(crate::proofs::SameLaws::same_bytes))]
 pub fn same(a: &[u8], b: &[u8]) -> bool
     ensures { result ≡ same a.now b.now }
@@ -112,94 +111,98 @@ pub fn is_keyword(w: &[u8]) -> bool
 }
 
 // matCxR: C columns, R rows.
+// Kept: here and in the next two, a test for each name. `match` over byte strings was tried: of an arm only the length of its word is known. So was a
+// table of names with `find`: what stands in the table is not known where it is searched.
 #[tactic(auto, unfolding(crate::specs::Names::matrix_named))]
-fn matrix_named(w: &[u8]) -> TypeName
+fn matrix_named(w: &[u8]) -> Option<TypeName>
     ensures { result ≡ matrix_named w.now }
 {
     if same(w, b"mat2x2") {
-        return TypeName::OfTemplate(Template::Matrix(Dimension::Two, Dimension::Two));
+        return Some(TypeName::OfTemplate(Template::Matrix(Dimension::Two, Dimension::Two)));
     }
     if same(w, b"mat2x3") {
-        return TypeName::OfTemplate(Template::Matrix(Dimension::Two, Dimension::Three));
+        return Some(TypeName::OfTemplate(Template::Matrix(Dimension::Two, Dimension::Three)));
     }
     if same(w, b"mat2x4") {
-        return TypeName::OfTemplate(Template::Matrix(Dimension::Two, Dimension::Four));
+        return Some(TypeName::OfTemplate(Template::Matrix(Dimension::Two, Dimension::Four)));
     }
     if same(w, b"mat3x2") {
-        return TypeName::OfTemplate(Template::Matrix(Dimension::Three, Dimension::Two));
+        return Some(TypeName::OfTemplate(Template::Matrix(Dimension::Three, Dimension::Two)));
     }
     if same(w, b"mat3x3") {
-        return TypeName::OfTemplate(Template::Matrix(Dimension::Three, Dimension::Three));
+        return Some(TypeName::OfTemplate(Template::Matrix(Dimension::Three, Dimension::Three)));
     }
     if same(w, b"mat3x4") {
-        return TypeName::OfTemplate(Template::Matrix(Dimension::Three, Dimension::Four));
+        return Some(TypeName::OfTemplate(Template::Matrix(Dimension::Three, Dimension::Four)));
     }
     if same(w, b"mat4x2") {
-        return TypeName::OfTemplate(Template::Matrix(Dimension::Four, Dimension::Two));
+        return Some(TypeName::OfTemplate(Template::Matrix(Dimension::Four, Dimension::Two)));
     }
     if same(w, b"mat4x3") {
-        return TypeName::OfTemplate(Template::Matrix(Dimension::Four, Dimension::Three));
+        return Some(TypeName::OfTemplate(Template::Matrix(Dimension::Four, Dimension::Three)));
     }
     if same(w, b"mat4x4") {
-        return TypeName::OfTemplate(Template::Matrix(Dimension::Four, Dimension::Four));
+        return Some(TypeName::OfTemplate(Template::Matrix(Dimension::Four, Dimension::Four)));
     }
-    TypeName::Unknown
+    None
 }
 
 // vecN, or a matrix.
 #[tactic(auto, unfolding(crate::specs::Names::vector_named))]
-fn vector_named(w: &[u8]) -> TypeName
+fn vector_named(w: &[u8]) -> Option<TypeName>
     ensures { result ≡ vector_named w.now }
 {
     if same(w, b"vec2") {
-        return TypeName::OfTemplate(Template::Vector(Dimension::Two));
+        return Some(TypeName::OfTemplate(Template::Vector(Dimension::Two)));
     }
     if same(w, b"vec3") {
-        return TypeName::OfTemplate(Template::Vector(Dimension::Three));
+        return Some(TypeName::OfTemplate(Template::Vector(Dimension::Three)));
     }
     if same(w, b"vec4") {
-        return TypeName::OfTemplate(Template::Vector(Dimension::Four));
+        return Some(TypeName::OfTemplate(Template::Vector(Dimension::Four)));
     }
     matrix_named(w)
 }
 
-// The type that a name stands for before any struct is declared.
+// The type that a name stands for before any struct is declared; none where it is to be declared.
 #[tactic(auto, unfolding(crate::specs::Names::predeclared))]
-pub fn predeclared(w: &[u8]) -> TypeName
+pub fn predeclared(w: &[u8]) -> Option<TypeName>
     ensures { result ≡ predeclared w.now }
 {
     if same(w, b"bool") {
-        return TypeName::OfScalar(Scalar::Bool);
+        return Some(TypeName::OfScalar(Scalar::Bool));
     }
     if same(w, b"i32") {
-        return TypeName::OfScalar(Scalar::I32);
+        return Some(TypeName::OfScalar(Scalar::I32));
     }
     if same(w, b"u32") {
-        return TypeName::OfScalar(Scalar::U32);
+        return Some(TypeName::OfScalar(Scalar::U32));
     }
     if same(w, b"f32") {
-        return TypeName::OfScalar(Scalar::F32);
+        return Some(TypeName::OfScalar(Scalar::F32));
     }
     if same(w, b"f16") {
-        return TypeName::OfScalar(Scalar::F16);
+        return Some(TypeName::OfScalar(Scalar::F16));
     }
     if same(w, b"atomic") {
-        return TypeName::OfTemplate(Template::Atomic);
+        return Some(TypeName::OfTemplate(Template::Atomic));
     }
     if same(w, b"array") {
-        return TypeName::Array;
+        return Some(TypeName::Array);
     }
     vector_named(w)
 }
 
-pub fn kind_of(scalar: Scalar) -> ScalarKind
-    ensures { scalar_number result ≡ kind_of scalar }
-{
-    match scalar {
-        Scalar::Bool => ScalarKind::Bool,
-        Scalar::I32 => ScalarKind::Sint,
-        Scalar::U32 => ScalarKind::Uint,
-        Scalar::F32 | Scalar::F16 => ScalarKind::Float,
+impl From<Scalar> for ScalarKind {
+    ghost from_gives = { λ scalar result. scalar_number result ≡ kind_of scalar };
+
+    fn from(scalar: Scalar) -> ScalarKind {
+        match scalar {
+            Scalar::Bool => ScalarKind::Bool,
+            Scalar::I32 => ScalarKind::Sint,
+            Scalar::U32 => ScalarKind::Uint,
+            Scalar::F32 | Scalar::F16 => ScalarKind::Float,
+        }
     }
 }
 

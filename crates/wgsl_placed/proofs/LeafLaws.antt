@@ -21,8 +21,8 @@ use Rattle.wgsl_names.specs.declared.Template.{Template}
 use Rattle.wgsl_names.specs.declared.Template.TheVariants.{Vector, Matrix, Atomic}
 use Rattle.wgsl_placement.specs.Placement.{shape, align_of_vector, size_of_vector, align_of_template, size_of_template, array_shape, scalar_record, template_record, array_record}
 use Rattle.wgsl_placement.specs.declared.Shape.{Shape}
-use Rattle.wgsl_placement.specs.declared.Count.{Count}
-use Rattle.wgsl_placement.specs.declared.Count.TheVariants.{Of, Runtime}
+use Rattle.std.specs.Prelude.{Some, None}
+use Rattle.wgsl_placement.specs.Placement.{Count}
 use Rattle.wgsl_growth.specs.Tree.{scalar_tree, dimension_tree, template_tree, array_tree}
 use Rattle.wgsl_placed.specs.Denoted.{Measured, MeasuredTree}
 
@@ -122,9 +122,9 @@ module _ (types : ℕ → Decoded) (number : ℕ) where
   pub array_measured : (c : Count) (e : Shape) (x : Option WgslType) → (types number).inner ≡ inner_in (array_record c e) → MeasuredTree types e x
       → MeasuredTree types (array_shape number c e) (array_tree c x)
   unfolding inner_of IsPlaced placement wgsl.size_of wgsl.align_of wgsl.WellFormed
-  array_measured (Of n) e none inner m = tt
-  array_measured (Of n) e (some type) inner m =
+  array_measured (Some n) e none inner m = tt
+  array_measured (Some n) e (some type) inner m =
       record { is = (e.number, rw (m.align, m.size) inner, m.is); formed = m.formed; size = rw (m.align, m.size); align = m.align; fixed = λ t. tt }
-  array_measured Runtime e none inner m = tt
-  array_measured Runtime e (some type) inner m =
+  array_measured None e none inner m = tt
+  array_measured None e (some type) inner m =
       record { is = (e.number, rw (m.align, m.size) inner, m.is); formed = m.formed; size = rw (m.align, m.size); align = m.align; fixed = λ t. absurd t }

@@ -17,9 +17,8 @@ use Rattle.w3c_agreement.specs.Wgsl.{WgslType, max_over, offset_by}
 use Rattle.w3c_agreement.specs.Placed.{IsPlaced, IsMember}
 use Rattle.w3c_agreement.specs.Placement.{placement, place_at}
 use Rattle.wgsl_placement.specs.declared.Shape.{Shape}
-use Rattle.wgsl_members.specs.Members.{given_or, align_fits, size_fits, attributes_fit}
-use Rattle.wgsl_members.specs.declared.Given.{Given}
-use Rattle.wgsl_members.specs.declared.Given.TheVariants.{Absent, Once, Twice}
+use Rattle.wgsl_members.specs.Members.{Given, given_or, align_fits, size_fits, attributes_fit}
+use Rattle.std.specs.Prelude.{Ok, Err, Some, None}
 use Rattle.wgsl_growth.specs.Tree.{option_of, last_tree, member_tree}
 use Rattle.wgsl_growth.specs.Written.{Each, Written, align_of, size_of, fields_of}
 use Rattle.wgsl_growth.proofs.PlacingLaws.{round_zero, end_from, align_from, offsets_from, align-fits, size-fits, once_power}
@@ -55,21 +54,21 @@ max_last f (suc n) = omega arith
 
 -- ---- the tree of members that are measured
 given_same : (g : Given) (x y : ℕ) → x ≡ y → wgsl.given_or (option_of g) x ≡ given_or g y
-given_same Absent x y e = e
-given_same (Once k) x y e = refl
-given_same Twice x y e = e
+given_same (Ok None) x y e = e
+given_same (Ok (Some k)) x y e = refl
+given_same (Err r) x y e = e
 
 align_formed : (g : Given) (e : Shape) (type : WgslType) → T (align_fits g e) → wgsl.align_of type ≡ e.align → wgsl.AlignFits (option_of g) type
-align_formed Absent e type t is = tt
-align_formed (Once k) e type t is = let p = once_power k e t in (p.0, rw is p.1)
-align_formed Twice e type t is = tt
+align_formed (Ok None) e type t is = tt
+align_formed (Ok (Some k)) e type t is = let p = once_power k e t in (p.0, rw is p.1)
+align_formed (Err r) e type t is = tt
 
 size_formed : (g : Given) (e : Shape) (type : WgslType) → T (size_fits g e) → wgsl.size_of type ≡ e.size → (T e.fixed → wgsl.FixedSize type)
     → wgsl.SizeFits (option_of g) type
-size_formed Absent e type t is fixed = tt
-size_formed (Once k) e type t is fixed =
+size_formed (Ok None) e type t is fixed = tt
+size_formed (Ok (Some k)) e type t is fixed =
     (rw is (leb-true e.size k (T_true (leb e.size k) (and_left (leb e.size k) e.fixed t))), fixed (and_right (leb e.size k) e.fixed t))
-size_formed Twice e type t is fixed = tt
+size_formed (Err r) e type t is fixed = tt
 
 module _ (types : ℕ → Decoded) where
   -- a member whose type denotes a WGSL type

@@ -1,7 +1,8 @@
 -- The placement of the W3C WGSL specification, in its words, as the reader of WGSL text works it out: AlignOf, SizeOf and StrideOf of types.
 -- roundUp(k, n) = ⌈n ÷ k⌉ × k is the one of the alignment crate.
 -- Assumes nothing.
-use Rattle.std.specs.Prelude.{Bool, true, false, ◌&&◌, List, [], ◌∷◌, ℕ, ◌*◌, leb}
+use Rattle.std.specs.Prelude.{Bool, true, false, ◌&&◌, List, [], ◌∷◌, Option, Some, None, ℕ, ◌*◌, leb}
+use Rattle.std.specs.Option.{is_some, unwrap_or}
 use Rattle.ir_records.specs.declared.Words.{Words}
 use Rattle.proc_alignment.specs.Alignment.{vector_alignment, round_up, most}
 use Rattle.wgsl_names.specs.Names.{kind_of, width_of, bytes_of, number_of}
@@ -10,8 +11,6 @@ use Rattle.wgsl_names.specs.declared.Dimension.{Dimension}
 use Rattle.wgsl_names.specs.declared.Template.{Template}
 use Rattle.wgsl_names.specs.declared.Template.TheVariants.{Vector, Matrix, Atomic}
 use Rattle.wgsl_placement.specs.declared.Shape.{Shape}
-use Rattle.wgsl_placement.specs.declared.Count.{Count}
-use Rattle.wgsl_placement.specs.declared.Count.TheVariants.{Of, Runtime}
 
 -- the record's number, SizeOf, AlignOf, and whether the footprint is creation-fixed
 abbrev pub shape : (number size align : ℕ) → Bool → Shape
@@ -42,14 +41,16 @@ size_of_template Atomic s = bytes_of s
 abbrev pub stride_of : Shape → ℕ
 stride_of e = round_up e.align e.size
 
--- N; a runtime-sized array measures one element
+-- N; none of a runtime-sized array
+abbrev pub Count : Type 0
+Count = Option ℕ
+
+-- such an array measures one element
 abbrev pub elements : Count → ℕ
-elements (Of n) = n
-elements Runtime = 1
+elements n = unwrap_or n 1
 
 abbrev pub is_counted : Count → Bool
-is_counted (Of n) = true
-is_counted Runtime = false
+is_counted n = is_some n
 
 -- number 33
 abbrev pub array_fits : Count → Shape → Bool
@@ -76,8 +77,8 @@ template_record Atomic s = record_of 4 (kind_of s) (width_of s) 0 0
 
 -- form 0 has a count, form 1 is runtime-sized
 abbrev pub array_words : Count → (element stride : ℕ) → Words
-array_words (Of n) element stride = record_of 7 element 0 n stride
-array_words Runtime element stride = record_of 7 element 1 0 stride
+array_words (Some n) element stride = record_of 7 element 0 n stride
+array_words None element stride = record_of 7 element 1 0 stride
 
 abbrev pub array_record : Count → Shape → Words
 array_record n e = array_words n e.number (stride_of e)

@@ -2,9 +2,8 @@
 -- Assumes nothing.
 use Rattle.std.specs.Prelude.{◌≡◌, true, false, ◌*◌, Option, Some, None}
 use Rattle.wgsl_placement.specs.declared.Shape.{Shape}
-use Rattle.wgsl_placement.specs.declared.Count.{Count}
 use Rattle.wgsl_placement.specs.declared.Measure.{Measure}
-use Rattle.wgsl_placement.specs.Placement.{stride_of, elements, array_fits}
+use Rattle.wgsl_placement.specs.Placement.{Count, stride_of, elements, array_fits}
 
 -- what the code answers of an array: SizeOf and StrideOf, or that they leave 32 bits
 abbrev pub Measured : Count → Shape → Option Measure → Type 0

@@ -5,10 +5,10 @@ ghost use Rattle.std.specs.Prelude.{◌≡◌, true, ◌≤◌, ◌+◌, ◌*◌
 ghost use Rattle.ir_records.specs.Kinds.{kind_number};
 ghost use Rattle.proc_alignment.specs.Alignment.{round_up};
 ghost use Rattle.wgsl_names.specs.Names.{bytes_of, number_of};
-ghost use Rattle.wgsl_placement.specs.Placement.{shape, align_of_vector, size_of_vector, align_of_template, size_of_template, elements, is_counted, record_of, scalar_record, template_record, array_words};
+ghost use Rattle.wgsl_placement.specs.Placement.{shape, align_of_vector, size_of_vector, align_of_template, size_of_template, record_of, scalar_record, template_record, array_words};
 ghost use Rattle.wgsl_placement.specs.Serving.{Measured};
 
-use ir_records::{Kind, Words};
+use ir_records::{Kind, ScalarKind, Words};
 use wgsl_names::{Dimension, Scalar, Template};
 
 // A type that has closed: its record's number, SizeOf, AlignOf, and whether its footprint is creation-fixed.
@@ -20,14 +20,6 @@ pub struct Shape {
     pub fixed: bool,
 }
 
-// Of an array.
-// Kept: a runtime-sized array is no array without a count; `None` would not say so, and naga's ArraySize is an enum too.
-#[derive(Clone, Copy, Debug, PartialEq, Eq)]
-pub enum Count {
-    Of(u32),
-    Runtime,
-}
-
 // SizeOf and StrideOf of an array.
 #[derive(Clone, Copy, Debug, PartialEq, Eq)]
 pub struct Measure {
@@ -36,6 +28,8 @@ pub struct Measure {
 }
 
 // Rounding up as the standard has it: divide, take the ceiling, multiply.
+// Kept: `proc_alignment::round_up` takes 32 bits, as naga's does, and the end of a struct may leave them here; one function for both widths would need
+// a trait of numbers with the laws of their division.
 pub fn round_up(alignment: u32, n: u64) -> u64
     requires { n ≤ 1152921504606846976 }
     ensures { (result ≡ round_up alignment n) × (result ≤ n + alignment) }
@@ -104,7 +98,7 @@ pub fn template_shape(number: u32, template: Template, scalar: Scalar) -> Shape
 pub fn template_record(template: Template, scalar: Scalar) -> Words
     ensures { result ≡ template_record template scalar }
 {
-    let kind = wgsl_names::kind_of(scalar) as u32;
+    let kind = ScalarKind::from(scalar) as u32;
     let width = wgsl_names::width_of(scalar);
     match template {
         Template::Vector(n) => record_of(Kind::Vector as u32, u32::from(n), kind, width, 0),
@@ -134,12 +128,13 @@ pub fn scalar_shape(number: u32, scalar: Scalar) -> Shape
 pub fn scalar_record(scalar: Scalar) -> Words
     ensures { result ≡ scalar_record scalar }
 {
-    let kind = wgsl_names::kind_of(scalar) as u32;
+    let kind = ScalarKind::from(scalar) as u32;
     let width = wgsl_names::width_of(scalar);
     record_of(Kind::Scalar as u32, kind, width, 0, 0)
 }
 
 // A record's kind and the words after it; none has more than four.
+// Kept: the kind by its number: a record may be asked for of any.
 pub fn record_of(kind: u32, a: u32, b: u32, c: u32, d: u32) -> Words
     ensures { result ≡ record_of kind a b c d }
 {
@@ -153,38 +148,20 @@ pub fn record_of(kind: u32, a: u32, b: u32, c: u32, d: u32) -> Words
     }
 }
 
-fn elements(count: Count) -> u32
-    ensures { result ≡ elements count }
-{
-    match count {
-        Count::Of(n) => n,
-        Count::Runtime => 1,
-    }
-}
-
-/// StrideOf, and N of them; nothing where they leave 32 bits.
-pub fn array_measure(count: Count, e: Shape) -> Option<Measure>
+/// StrideOf, and N of them; nothing where they leave 32 bits. No count: a runtime-sized array, which measures one element.
+pub fn array_measure(count: Option<u32>, e: Shape) -> Option<Measure>
     ensures { Measured count e result }
 {
     let stride = u32::try_from(round_up(e.align, u64::from(e.size))).ok()?;
-    let size = elements(count).checked_mul(stride)?;
+    let size = count.unwrap_or(1).checked_mul(stride)?;
     Some(Measure { size, stride })
 }
 
-pub fn array_record(count: Count, element: u32, stride: u32) -> Words
+pub fn array_record(count: Option<u32>, element: u32, stride: u32) -> Words
     ensures { result ≡ array_words count element stride }
 {
     match count {
-        Count::Of(n) => record_of(Kind::Array as u32, element, 0, n, stride),
-        Count::Runtime => record_of(Kind::Array as u32, element, 1, 0, stride),
-    }
-}
-
-pub fn is_counted(count: Count) -> bool
-    ensures { result ≡ is_counted count }
-{
-    match count {
-        Count::Of(_) => true,
-        Count::Runtime => false,
+        Some(n) => record_of(Kind::Array as u32, element, 0, n, stride),
+        None => record_of(Kind::Array as u32, element, 1, 0, stride),
     }
 }

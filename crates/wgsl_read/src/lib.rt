@@ -7,17 +7,12 @@ ghost use Rattle.ir_records.specs.Fields.{most_types, most_members};
 ghost use Rattle.wgsl_read.specs.TextAnswer.{text_answer_of};
 ghost use Rattle.wgsl_read.specs.Text.{text_of, answer_of, types_left, members_left, numbered_by, Filled};
 
-use ir_records::{Fault, Records};
+use ir_records::{Fault, MOST_MEMBERS, MOST_TYPES, Records};
 use program_words::Span;
 use wgsl_grammar::Refusal;
-use wgsl_members::Room;
 use wgsl_placement::Shape;
 use wgsl_structs::State;
 use wgsl_tables::NamedShape;
-
-const MOST_TYPES: usize = 1024;
-
-const MOST_MEMBERS: usize = 4096;
 
 const NO_NAME: Span = Span { start: 0, end: 0 };
 
@@ -36,7 +31,7 @@ const NO_STRUCT: NamedShape = NamedShape {
 fn fill(text: &[u8], types: &mut [u32], members: &mut [u32]) -> Result<State, Refusal>
     ensures { Filled text.now types.old types.new members.old members.new result }
 {
-    let room = Room {
+    let room = Records {
         types: (types.len() / ir_records::TYPE_WORDS).min(MOST_TYPES) as u32,
         members: (members.len() / ir_records::MEMBER_WORDS).min(MOST_MEMBERS) as u32,
     };

@@ -55,6 +55,7 @@ fn say(text: &[u8], refusal: Refusal) {
 }
 
 // With room for so many words.
+// Kept: the parameters are those of `read_at`, which it calls.
 fn refuse_short(text: &[u8], types: &mut [u32], members: &mut [u32]) {
     if let Err(refusal) = wgsl_read::read_at(text, types, members) {
         say(text, refusal);

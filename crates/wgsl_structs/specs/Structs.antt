@@ -10,7 +10,7 @@ use Rattle.wgsl_placement.specs.Placement.{shape, words_of, struct_record}
 use Rattle.wgsl_tables.specs.Tables.{Records, Named}
 use Rattle.wgsl_types.specs.Types.{known_type}
 use Rattle.wgsl_types.specs.declared.Known.{Known}
-use Rattle.wgsl_types.specs.declared.Known.TheVariants.{OfScalar, OfTemplate, Array, Struct, Unknown}
+use Rattle.std.specs.Prelude.{Option, Some, None}
 use Rattle.wgsl_members.specs.Members.{Members, Rooms, member_of}
 
 -- ---- after a member: `}`, or a comma, and perhaps `}`
@@ -75,12 +75,9 @@ abbrev pub close_struct : Rooms → Declared → (name : List ℕ) → Members �
 close_struct rooms d name m =
     demand (leb (span_of m) most) 33 (demand (ltb m.types.made rooms.types) 1 (read (with_struct d name m)))
 
-abbrev pub is_unknown : Known → Bool
-is_unknown (OfScalar s) = false
-is_unknown (OfTemplate t) = false
-is_unknown Array = false
-is_unknown (Struct e) = false
-is_unknown Unknown = true
+abbrev pub is_unknown : Option Known → Bool
+is_unknown (Some known) = false
+is_unknown None = true
 
 -- ---- a struct, after `struct`: a name that no type has yet, members in braces
 unfoldable pub struct_body : (turns : ℕ) → Rooms → Declared → (name : List ℕ) → List Token → Reading Declared

@@ -9,14 +9,13 @@ ghost use Rattle.wgsl_members.specs.Serving.{tables, members_in, Bounds};
 ghost use Rattle.wgsl_structs.specs.Structs.{goes, closes_or, member_end, members_of, struct_body, struct_of, declaration_of, declarations_of};
 ghost use Rattle.wgsl_structs.specs.Serving.{end_read, MembersRead, declarations, declared_in, StateBounds, StructRead, Closable, ClosedIn, first, DeclarationRead};
 
-use ir_records::Kind;
+use ir_records::{Kind, Records};
 use program_words::Span;
 use wgsl_grammar::{Problem, Refusal};
-use wgsl_members::{Body, Room};
+use wgsl_members::Body;
 use wgsl_placement::Shape;
 use wgsl_tables::NamedShape;
 use wgsl_tokens::Lexed;
-use wgsl_types::Known;
 
 // What follows a member: the struct closes, or there is another member.
 #[derive(Clone, Copy, Debug, PartialEq, Eq)]
@@ -44,10 +43,10 @@ pub struct State {
 fn after_comma(s: &[u8], at: usize) -> EndAt
     ensures { end_read s.now (Ok result) ≡ closes_or (expect 125 (from s.now at)) (goes (from s.now at)) }
 {
-    match wgsl_grammar::expect(s, at, b'}') {
-        Ok(end) => EndAt::Closes { at: end, close: at },
-        Err(_) => EndAt::Goes(at),
+    if let Ok(end) = wgsl_grammar::expect(s, at, b'}') {
+        return EndAt::Closes { at: end, close: at };
     }
+    EndAt::Goes(at)
 }
 
 // After a member: `}`, or a comma, and perhaps `}`.
@@ -55,23 +54,22 @@ fn after_comma(s: &[u8], at: usize) -> EndAt
 fn end_at(s: &[u8], at: usize) -> Result<EndAt, Refusal>
     ensures { end_read s.now result ≡ member_end (from s.now at) }
 {
-    match wgsl_grammar::expect(s, at, b'}') {
-        Ok(end) => Ok(EndAt::Closes { at: end, close: at }),
-        Err(_) => {
-            let next = wgsl_grammar::expect(s, at, b',')?;
-            Ok(after_comma(s, next))
-        }
+    if let Ok(end) = wgsl_grammar::expect(s, at, b'}') {
+        return Ok(EndAt::Closes { at: end, close: at });
     }
+    let next = wgsl_grammar::expect(s, at, b',')?;
+    Ok(after_comma(s, next))
 }
 
 // The members of a struct, one at least, and its `}`.
+// Kept: the tables are parameters as in wgsl_members.
 fn read_members(
     s: &[u8],
     structs: &[NamedShape],
     names: &mut [Span],
     types: &mut [u32],
     members: &mut [u32],
-    room: Room,
+    room: Records,
     first: Body,
 ) -> Result<MembersAt, Refusal>
     requires { Bounds room (tables names.old types.old members.old) first }
@@ -141,7 +139,7 @@ fn struct_body(
     names: &mut [Span],
     types: &mut [u32],
     members: &mut [u32],
-    room: Room,
+    room: Records,
     state: State,
     name: Span,
     at: usize,
@@ -173,7 +171,7 @@ fn read_struct(
     names: &mut [Span],
     types: &mut [u32],
     members: &mut [u32],
-    room: Room,
+    room: Records,
     state: State,
     at: usize,
 ) -> Result<State, Refusal>
@@ -182,9 +180,9 @@ fn read_struct(
 {
     let name = wgsl_grammar::name_at(s, at)?;
     let earlier = &structs[..state.structs as usize];
-    let Known::Unknown = wgsl_types::known_type(s, earlier, &s[name.start..name.end]) else {
+    if wgsl_types::known_type(s, earlier, &s[name.start..name.end]).is_some() {
         return Err(Refusal::of(Problem::RepeatedType, at));
-    };
+    }
     let next = wgsl_grammar::expect(s, name.end, b'{')?;
     struct_body(s, structs, names, types, members, room, state, name, next)
 }
@@ -196,16 +194,16 @@ fn declaration_at(
     names: &mut [Span],
     types: &mut [u32],
     members: &mut [u32],
-    room: Room,
+    room: Records,
     state: State,
 ) -> Result<Option<State>, Refusal>
     requires { StateBounds room (declarations structs.old names.old types.old members.old) state }
     ensures { DeclarationRead s.now room (declarations structs.old names.old types.old members.old) (declarations structs.new names.new types.new members.new) state (declaration_of (length s.now) room (declared_in s.now (declarations structs.old names.old types.old members.old) state) (from s.now state.at)) result }
 {
     match wgsl_tokens::next_token(s, state.at) {
-        Lexed::End => Ok(None),
-        Lexed::Mark { byte: b';', end } => Ok(Some(State { at: end, ..state })),
-        Lexed::Word { start, end } if wgsl_names::same(&s[start..end], b"struct") => {
+        Ok(None) => Ok(None),
+        Ok(Some(Lexed::Mark { byte: b';', end })) => Ok(Some(State { at: end, ..state })),
+        Ok(Some(Lexed::Word { start, end })) if wgsl_names::same(&s[start..end], b"struct") => {
             let next = read_struct(s, structs, names, types, members, room, state, end)?;
             Ok(Some(next))
         }
@@ -220,7 +218,7 @@ pub fn read_declarations(
     names: &mut [Span],
     types: &mut [u32],
     members: &mut [u32],
-    room: Room,
+    room: Records,
 ) -> Result<State, Refusal>
     requires { StateBounds room (declarations structs.old names.old types.old members.old) first }
     ensures { StructRead s.now room (declarations structs.old names.old types.old members.old) (declarations structs.new names.new types.new members.new) first (declarations_of (length s.now) (length s.now + 1) room (declared_in s.now (declarations structs.old names.old types.old members.old) first)) result }

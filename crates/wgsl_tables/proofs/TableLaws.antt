@@ -1,23 +1,20 @@
 -- Laws of the tables: what a name is found at, and what one more entry or record adds. Assumes nothing.
 use mathlib.Core.Path.{◌≡◌, refl, ap, ◌∙◌}
-use mathlib.Core.Option.{some}
 use mathlib.Core.Bool.{Bool, true, false, ◌||◌}
-use mathlib.Core.List.{List, [], ◌∷◌, ◌++◌}
-use Prim.Native.Nat.{ℕ, suc, ◌+◌, ◌-◌, ◌*◌, ◌≤◌, ◌<◌}
-use native.Mathlib.Omega.{arith}
+use mathlib.Core.List.{List, [], ◌∷◌, ◌++◌, map, reverse, reverse-cons, map-append}
+use Prim.Native.Nat.{ℕ, ◌+◌, ◌*◌, ◌≤◌}
 use native.Mathlib.Numerals.{add-one}
 use native.Mathlib.Nat.{suc-mul}
-use lib.ListN.{length, get_or, take}
-use lib.Seq.{take-suc}
-use Rattle.ir_records.specs.Result.{pick}
+use lib.ListN.{length, take}
 use Rattle.ir_rows.specs.Rows.{with_part}
 use Rattle.ir_rows.proofs.RowLaws.{take_part}
 use Rattle.program_words.specs.Words.{part}
 use Rattle.program_words.specs.declared.Span.{Span}
 use Rattle.wgsl_tables.specs.declared.NamedShape.{NamedShape}
-use Rattle.std.specs.List.{list_any}
+use Rattle.std.specs.List.{list_any, find}
+use Rattle.std.specs.Option.{option_map}
 use Rattle.wgsl_names.specs.Names.{same}
-use Rattle.wgsl_tables.specs.Tables.{records_in, name_in, names_in, is_one_of, structs_in, lookup}
+use Rattle.wgsl_tables.specs.Tables.{records_in, name_in, names_in, is_one_of, Named, structs_in, lookup, shape_found}
 
 -- ---- one more name
 pub one_name : (s : List ℕ) (names : List Span) (name : Span) → names_in s (names ++ name ∷ []) ≡ name_in s name.start name.end ∷ names_in s names
@@ -56,20 +53,28 @@ unfolding is_one_of names_in
 one_of_any s w [] = refl
 one_of_any s w (n ∷ names) = rw (one_of_last w (name_in s n.start n.end) (names_in s names), one_of_any s w names)
 
--- ---- the last of the first i structs
-module _ (s w : List ℕ) (structs : List NamedShape) (i : ℕ) (d : NamedShape) (positive : 0 < i) (within : i ≤ length structs) where
-  abbrev last : NamedShape
-  last = get_or structs (i - 1) d
+-- ---- the struct of a name: the last one that has it
+module _ (s w : List ℕ) where
+  abbrev named : NamedShape → Named
+  named n = record { name = name_in s n.name.start n.name.end; shape = n.shape }
 
-  last_struct : lookup w (structs_in s (take i structs)) ≡ pick (same w (name_in s last.name.start last.name.end)) (some last.shape) (lookup w (structs_in s (take (i - 1) structs)))
+  abbrev pub has : NamedShape → Bool
+  has n = same w (name_in s n.name.start n.name.end)
+
+  reversed : (structs : List NamedShape) → structs_in s structs ≡ map named (reverse structs)
+  unfolding structs_in
+  reversed [] = refl
+  reversed (n ∷ structs) = rw (reversed structs, reverse-cons n structs, map-append named (reverse structs) (n ∷ [])) refl
+
+  first_named : (structs : List NamedShape) → lookup w (map named structs) ≡ shape_found (option_map (λ (n : NamedShape). n.shape) (find has structs))
   unfolding lookup
-  last_struct =
-      let one : i ≡ suc (i - 1) = omega arith in
-      ap (λ (k : ℕ). lookup w (structs_in s (take k structs))) one
-      ∙ rw (take-suc structs (i - 1) d (omega arith), one_struct s (take (i - 1) structs) last)
+  first_named [] = refl
+  first_named (n ∷ structs) = by (has n) refl (first_named structs)
+    where
+      by : (b : Bool) → has n ≡ b → lookup w (map named structs) ≡ shape_found (option_map (λ (n : NamedShape). n.shape) (find has structs))
+          → lookup w (map named (n ∷ structs)) ≡ shape_found (option_map (λ (n : NamedShape). n.shape) (find has (n ∷ structs)))
+      by true e rest = rw e refl
+      by false e rest = rw e rest
 
-  pub lookup_here : same w (name_in s last.name.start last.name.end) ≡ true → lookup w (structs_in s (take i structs)) ≡ some last.shape
-  lookup_here e = last_struct ∙ rw e
-
-  pub lookup_before : same w (name_in s last.name.start last.name.end) ≡ false → lookup w (structs_in s (take i structs)) ≡ lookup w (structs_in s (take (i - 1) structs))
-  lookup_before e = last_struct ∙ rw e
+  pub lookup_last : (structs : List NamedShape) → lookup w (structs_in s structs) ≡ shape_found (option_map (λ (n : NamedShape). n.shape) (find has (reverse structs)))
+  lookup_last structs = ap (lookup w) (reversed structs) ∙ first_named (reverse structs)

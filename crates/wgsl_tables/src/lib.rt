@@ -1,4 +1,4 @@
-// The tables that the reader of WGSL text fills.
+// The tables that the readers of WGSL text and of SPIR-V fill: type and member records, and the names and shapes of structs.
 #![tactic(auto)]
 
 ghost use Rattle.std.specs.Prelude.{◌≡◌, [], ◌∷◌, ◌≤◌, ◌+◌, ◌*◌, length};
@@ -19,7 +19,7 @@ pub struct NamedShape {
 }
 
 // Writes words from `at` on.
-fn put_words(words: &mut [u32], at: usize, part: &[u32])
+pub fn put_words(words: &mut [u32], at: usize, part: &[u32])
     requires { at + length part.now ≤ length words.old }
     ensures { words.new ≡ with_part (length part.now) words.old at part.now }
 {
@@ -64,11 +64,9 @@ pub fn is_one_of(s: &[u8], w: &[u8], names: &[Span]) -> bool
 pub fn shape_named(s: &[u8], w: &[u8], structs: &[NamedShape]) -> Option<Shape>
     ensures { lookup w.now (structs_in s.now structs.now) ≡ shape_found result }
 {
-    for i in (0..structs.len()).rev() {
-        let named = structs[i];
-        if wgsl_names::same(w, name_in(s, named.name)) {
-            return Some(named.shape);
-        }
-    }
-    None
+    let named = structs
+        .iter()
+        .rev()
+        .find(|named| wgsl_names::same(w, name_in(s, named.name)))?;
+    Some(named.shape)
 }

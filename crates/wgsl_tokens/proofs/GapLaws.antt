@@ -72,9 +72,6 @@ module _ (s : List ℕ) (i : ℕ) where
   pub opens_inside : opens_block (get_or s i 0) (get_or s (i + 1) 0) ≡ true → i + 1 < length s
   opens_inside e = inside s (i + 1) 41 (eqb-true (get_or s (i + 1) 0) 42 (both (eqb (get_or s i 0) 47) (eqb (get_or s (i + 1) 0) 42) e).1)
 
-  pub line_inside : opens_line (get_or s i 0) (get_or s (i + 1) 0) ≡ true → i + 1 < length s
-  line_inside e = inside s (i + 1) 46 (eqb-true (get_or s (i + 1) 0) 47 (both (eqb (get_or s i 0) 47) (eqb (get_or s (i + 1) 0) 47) e).1)
-
   -- ---- between tokens
   module _ (h : i < length s) where
     pub gap_blank : is_blank (get_or s i 0) ≡ true → from s i ≡ from s (i + 1)

@@ -1,3 +1,4 @@
 pub mod TokenLaws
 pub mod GapLaws
 pub mod WordLaws
+pub mod RunLaws

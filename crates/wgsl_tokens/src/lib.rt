@@ -1,16 +1,16 @@
 // WGSL text as tokens: the next one from a position on, after blankspace and comments.
 #![tactic(auto)]
 
-ghost use Rattle.std.specs.Prelude.{◌≡◌, true, false, ◌+◌, ◌≤◌, ◌<◌, length, get_or, drop};
+ghost use Rattle.std.specs.Prelude.{◌≡◌, Bool, ℕ, true, false, ◌+◌, ◌≤◌, ◌<◌, length, get_or, drop};
 ghost use Rattle.program_words.specs.Words.{run_of};
 ghost use Rattle.program_words.specs.Number.{is_digit};
 ghost use Rattle.wgsl_tokens.specs.Tokens.{code, is_blank, ends_line, is_ascii, starts_word, in_word, is_mark, opens_line, opens_block, closes_block, line, block};
-ghost use Rattle.wgsl_tokens.specs.Lexed.{starts_gap, StartAt, TokenAt};
-ghost use Rattle.wgsl_tokens.specs.Serving.{is_in, GapAt, BlockAt};
+ghost use Rattle.wgsl_tokens.specs.Lexed.{starts_gap, end_of, StartAt, LexedAt, TokenAt};
+ghost use Rattle.wgsl_tokens.specs.Serving.{Tells, GapAt, BlockAt};
 
 use program_words::NumberError;
 
-// The next token, and where the text goes on after it.
+// A token, and where the text goes on after it.
 #[derive(Clone, Copy, Debug, PartialEq, Eq)]
 pub enum Lexed {
     Word { start: usize, end: usize },
@@ -18,9 +18,25 @@ pub enum Lexed {
     // A number above 4,294,967,295.
     Large(usize),
     Mark { byte: u8, end: usize },
-    Bad,
-    End,
 }
+
+impl Lexed {
+    /// Where the text goes on after it.
+    pub fn end(self) -> usize
+        ensures { result ≡ end_of self }
+    {
+        match self {
+            Lexed::Word { end, .. }
+            | Lexed::Number { end, .. }
+            | Lexed::Large(end)
+            | Lexed::Mark { end, .. } => end,
+        }
+    }
+}
+
+/// Text that is no token, or a broken comment before it.
+#[derive(Clone, Copy, Debug, PartialEq, Eq)]
+pub struct BadToken;
 
 /// A comment that is no text of WGSL: `at` is a byte in it that is no ASCII, or the end of the text where it is not closed.
 #[derive(Clone, Copy, Debug, PartialEq, Eq)]
@@ -28,19 +44,17 @@ pub struct BrokenComment {
     pub at: usize,
 }
 
+impl From<BrokenComment> for BadToken {
+    fn from(_broken: BrokenComment) -> BadToken {
+        BadToken
+    }
+}
+
 // A byte later in block comments: in how many of them, or after the last one.
 #[derive(Clone, Copy, Debug, PartialEq, Eq)]
 pub enum Block {
     Inside { at: usize, depth: usize },
     Closed(usize),
-}
-
-// What a run consists of.
-// Kept: a closure for the two classes would need clauses of its own at `run_end` and at each call, and says no more than the two names.
-#[derive(Clone, Copy, Debug, PartialEq, Eq)]
-pub enum Run {
-    Name,
-    Digits,
 }
 
 // The byte at a position; 0 past the end.
@@ -53,22 +67,23 @@ pub fn byte_at(s: &[u8], at: usize) -> u8
 fn is_blank(c: u8) -> bool
     ensures { result ≡ is_blank c }
 {
-    (c == b' ') | ((9 <= c) & (c <= 13))
+    matches!(c, b' ' | 9..=13)
 }
 
 // Line feed, vertical tab, form feed, carriage return.
-fn ends_line(c: u8) -> bool
+pub fn ends_line(c: u8) -> bool
     ensures { result ≡ ends_line c }
 {
-    (10 <= c) & (c <= 13)
+    (10..=13).contains(&c)
 }
 
 fn is_ascii(c: u8) -> bool
     ensures { result ≡ is_ascii c }
 {
-    (1 <= c) & (c <= 127)
+    (1..=127).contains(&c)
 }
 
+// Kept: `is_letter` of sheet_identifiers is the rule of C's and Rust's names, not of WGSL's.
 fn starts_word(c: u8) -> bool
     ensures { result ≡ starts_word c }
 {
@@ -90,18 +105,13 @@ fn in_word(c: u8) -> bool
 fn is_mark(c: u8) -> bool
     ensures { result ≡ is_mark c }
 {
-    (c == b'{')
-        | (c == b'}')
-        | (c == b'<')
-        | (c == b'>')
-        | (c == b'(')
-        | (c == b')')
-        | (c == b':')
-        | (c == b',')
-        | (c == b';')
-        | (c == b'@')
+    matches!(
+        c,
+        b'{' | b'}' | b'<' | b'>' | b'(' | b')' | b':' | b',' | b';' | b'@'
+    )
 }
 
+// Kept: here and in the next two, a mark of two bytes under its name, as the definitions have it; one function for all would be the comparison itself.
 fn opens_line(c: u8, next: u8) -> bool
     ensures { result ≡ opens_line c next }
 {
@@ -120,32 +130,21 @@ fn closes_block(c: u8, next: u8) -> bool
     (c == b'*') & (next == b'/')
 }
 
-// Kept: the match is the two tests, each under its name.
-fn is_in(run: Run, c: u8) -> bool
-    ensures { result ≡ is_in run c }
-{
-    match run {
-        Run::Name => in_word(c),
-        Run::Digits => is_digit(c),
-    }
-}
-
-// Where the run that starts at `at` ends.
-// Kept: program_words::run_end has the same loop over other classes; that it names them is said there.
-fn run_end(s: &[u8], at: usize, run: Run) -> usize
-    requires { at ≤ length s.now }
-    ensures value { result ≡ at + run_of (is_in run) (drop at s.now) }
+// Where the run of bytes that pass a test ends, which starts at `at`.
+// Kept: `run_end` of program_words is the same search by classes of bytes, which have names in its definitions.
+fn run_end<F: Fn(u8) -> bool>(s: &[u8], at: usize, in_run: F) -> usize
+    requires callable { F.IsAlwaysCallable in_run }
+    requires within { at ≤ length s.now }
+    ensures value { (test : ℕ → Bool) → Tells (F.post in_run) test → result ≡ at + run_of test (drop at s.now) }
     ensures lower_bound { (at ≤ result) × (result ≤ length s.now) }
 {
-    for i in at..s.len() {
-        if !is_in(run, s[i]) {
-            return i;
-        }
-    }
-    s.len()
+    let rest = &s[at..];
+    let length = rest.iter().position(|c| !in_run(*c)).unwrap_or(rest.len());
+    at + length
 }
 
 // From `at` on in a line comment, which may end with the text.
+// Kept: the loop has two ends, the end of the line and a byte that is no ASCII; after `position` the byte would be looked at again to tell which.
 fn line_end(s: &[u8], at: usize) -> Result<usize, BrokenComment>
     requires { at < length s.now }
     ensures { GapAt line s.now at result }
@@ -196,7 +195,7 @@ fn block_end(s: &[u8], at: usize) -> Result<usize, BrokenComment>
 {
     let mut i = at;
     let mut depth = 1;
-    // Kept: a step is a byte or the two of a mark; no range has such steps.
+    // Kept: a step takes a byte or the two of a mark, and may end the comment or refuse it; an iterator would carry the position and the depth alike.
     while i < s.len() {
         match block_step(s, i, depth)? {
             Block::Closed(end) => {
@@ -245,7 +244,7 @@ pub fn token_start(s: &[u8], at: usize) -> Result<usize, BrokenComment>
     ensures { StartAt s.now at result }
 {
     let mut i = at;
-    // Kept: a step is a whole gap; no range has such steps.
+    // Kept: a step passes a whole gap, or refuses it by `?`; an iterator of gaps would give results to be taken apart here.
     while i < s.len() {
         if !starts_gap(s, i) {
             return Ok(i);
@@ -256,45 +255,42 @@ pub fn token_start(s: &[u8], at: usize) -> Result<usize, BrokenComment>
 }
 
 // A word that starts at a position: never `_` alone, never a start of two underscores.
-fn word_at(s: &[u8], start: usize) -> Lexed
+fn word_at(s: &[u8], start: usize) -> Result<Lexed, BadToken>
     requires { (start < length s.now) × (starts_gap s.now start ≡ false) × (starts_word (get_or s.now start 0) ≡ true) }
-    ensures { TokenAt s.now start result }
+    ensures { LexedAt s.now start result }
 {
-    let end = run_end(s, start + 1, Run::Name);
+    let end = run_end(s, start + 1, in_word);
     let second = byte_at(s, start + 1);
     let long = end - start;
     if (s[start] == b'_') & ((long == 1) | (second == b'_')) {
-        return Lexed::Bad;
+        return Err(BadToken);
     }
-    Lexed::Word { start, end }
+    Ok(Lexed::Word { start, end })
 }
 
 // A number that starts at a position: no leading zero, no suffix, no point.
-fn number_at(s: &[u8], start: usize) -> Lexed
+fn number_at(s: &[u8], start: usize) -> Result<Lexed, BadToken>
     requires { (start < length s.now) × (starts_gap s.now start ≡ false) × (starts_word (get_or s.now start 0) ≡ false) × (is_digit (get_or s.now start 0) ≡ true) }
-    ensures { TokenAt s.now start result }
+    ensures { LexedAt s.now start result }
 {
-    let end = run_end(s, start + 1, Run::Digits);
+    let end = run_end(s, start + 1, is_digit);
     let next = byte_at(s, end);
     let long = end - start;
     if ((s[start] == b'0') & (1 < long)) | in_word(next) | (next == b'.') {
-        return Lexed::Bad;
+        return Err(BadToken);
     }
     match program_words::number_of(&s[start..end]) {
-        Ok(value) => Lexed::Number { value, end },
-        Err(NumberError::TooLarge) => Lexed::Large(end),
-        Err(NumberError::NotANumber) => Lexed::Bad,
+        Ok(value) => Ok(Lexed::Number { value, end }),
+        Err(NumberError::TooLarge) => Ok(Lexed::Large(end)),
+        Err(NumberError::NotANumber) => Err(BadToken),
     }
 }
 
-// The token that starts at a position.
-fn token_at(s: &[u8], start: usize) -> Lexed
-    requires { starts_gap s.now start ≡ false }
-    ensures { TokenAt s.now start result }
+// The token that starts at a position in the text.
+fn lexed_at(s: &[u8], start: usize) -> Result<Lexed, BadToken>
+    requires { (start < length s.now) × (starts_gap s.now start ≡ false) }
+    ensures { LexedAt s.now start result }
 {
-    if s.len() <= start {
-        return Lexed::End;
-    }
     let c = s[start];
     if starts_word(c) {
         return word_at(s, start);
@@ -303,20 +299,22 @@ fn token_at(s: &[u8], start: usize) -> Lexed
         return number_at(s, start);
     }
     if is_mark(c) {
-        return Lexed::Mark {
+        return Ok(Lexed::Mark {
             byte: c,
             end: start + 1,
-        };
+        });
     }
-    Lexed::Bad
+    Err(BadToken)
 }
 
-// The next token from a position on.
-pub fn next_token(s: &[u8], at: usize) -> Lexed
+// The next token from a position on; none at the end of the text.
+pub fn next_token(s: &[u8], at: usize) -> Result<Option<Lexed>, BadToken>
     ensures { TokenAt s.now at result }
 {
-    match token_start(s, at) {
-        Err(_) => Lexed::Bad,
-        Ok(start) => token_at(s, start),
+    let start = token_start(s, at)?;
+    if s.len() <= start {
+        return Ok(None);
     }
+    let token = lexed_at(s, start)?;
+    Ok(Some(token))
 }

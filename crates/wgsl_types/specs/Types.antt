@@ -1,6 +1,7 @@
 -- 02, E7: a type in WGSL text, read from tokens into records. Each type written makes its own record where it closes; a struct's name makes none.
 -- Assumes nothing.
 use Rattle.std.specs.Prelude.{true, not, List, ◌++◌, ℕ, zero, suc, ◌+◌, eqb, ltb}
+use Rattle.std.specs.Prelude as std
 use Rattle.std.proofs.Math.Option.{Option, none, some}
 use Rattle.ir_records.specs.Result.{pick}
 use Rattle.ir_records.specs.declared.Words.{Words}
@@ -11,13 +12,11 @@ use Rattle.wgsl_names.specs.declared.Template.{Template}
 use Rattle.wgsl_names.specs.declared.TypeName.{TypeName}
 use Rattle.wgsl_names.specs.declared.TypeName.TheVariants as name
 use Rattle.wgsl_grammar.specs.Grammar.{Reading, refused, read, and_then, demand, expect, skipping, name_of, number_of}
-use Rattle.wgsl_placement.specs.Placement.{shape, align_of_template, size_of_template, array_fits, array_shape, words_of, scalar_record, template_record, array_record}
+use Rattle.wgsl_placement.specs.Placement.{Count, shape, align_of_template, size_of_template, array_fits, array_shape, words_of, scalar_record, template_record, array_record}
 use Rattle.wgsl_placement.specs.declared.Shape.{Shape}
-use Rattle.wgsl_placement.specs.declared.Count.{Count}
-use Rattle.wgsl_placement.specs.declared.Count.TheVariants.{Of, Runtime}
 use Rattle.wgsl_tables.specs.Tables.{Records, Named, lookup}
 use Rattle.wgsl_types.specs.declared.Known.{Known}
-use Rattle.wgsl_types.specs.declared.Known.TheVariants.{OfScalar, OfTemplate, Array, Struct, Unknown}
+use Rattle.wgsl_types.specs.declared.Known.TheVariants.{Predeclared, Struct}
 
 -- 'to a depth of 32, a member's own type being 1'
 abbrev pub most_depth : ℕ
@@ -47,14 +46,12 @@ make_type room types e w ts =
     pick (ltb types.made room) (closed e (record { made = types.made + 1; words = types.words ++ words_of w }) ts) (full e)
 
 -- ---- names of types
-abbrev pub or_struct : TypeName → Option Shape → Known
-or_struct (name.OfScalar s) found = OfScalar s
-or_struct (name.OfTemplate t) found = OfTemplate t
-or_struct name.Array found = Array
-or_struct name.Unknown (some e) = Struct e
-or_struct name.Unknown none = Unknown
+abbrev pub or_struct : std.Option TypeName → Option Shape → std.Option Known
+or_struct (std.Some name) found = std.Some (Predeclared name)
+or_struct std.None (some e) = std.Some (Struct e)
+or_struct std.None none = std.None
 
-abbrev pub known_type : List ℕ → List Named → Known
+abbrev pub known_type : List ℕ → List Named → std.Option Known
 known_type w structs = or_struct (predeclared w) (lookup w structs)
 
 -- ---- a scalar
@@ -62,11 +59,11 @@ abbrev pub scalar_type : (room : ℕ) → Records → Scalar → List Token → 
 scalar_type room types s ts = make_type room types (shape types.made (bytes_of s) (bytes_of s) true) (scalar_record s) ts
 
 -- ---- a vector, matrix or atomic, after its `<`: 'of no scalar' is 31 whatever else the name is
-abbrev pub scalar_of : TypeName → Option Scalar
-scalar_of (name.OfScalar s) = some s
-scalar_of (name.OfTemplate t) = none
-scalar_of name.Array = none
-scalar_of name.Unknown = none
+abbrev pub scalar_of : std.Option TypeName → Option Scalar
+scalar_of (std.Some (name.OfScalar s)) = some s
+scalar_of (std.Some (name.OfTemplate t)) = none
+scalar_of (std.Some name.Array) = none
+scalar_of std.None = none
 
 abbrev pub close_template : (room : ℕ) → Template → Scalar → Records → List Token → Closing
 close_template room t s types ts =
@@ -89,14 +86,14 @@ pub record Counted : Type 0 where
 
 -- an array that ends here is runtime-sized
 abbrev pub ends_or : Reading (List Token) → Reading Counted → Reading Counted
-ends_or (read ts) other = read (record { count = Runtime; rest = ts })
+ends_or (read ts) other = read (record { count = std.None; rest = ts })
 ends_or (refused n) other = other
 
 unfoldable pub number_count : List Token → Reading Counted
 number_count ts =
     and_then (number_of ts) (λ n.
     demand (not (eqb n.value 0)) 33
-    (and_then (expect 62 (skipping 44 n.rest)) (λ rest. read (record { count = Of n.value; rest = rest }))))
+    (and_then (expect 62 (skipping 44 n.rest)) (λ rest. read (record { count = std.Some n.value; rest = rest }))))
 
 unfoldable pub comma_count : List Token → Reading Counted
 comma_count ts = ends_or (expect 62 ts) (number_count ts)
@@ -116,12 +113,12 @@ abbrev pub arguments_of : (room : ℕ) → (element : Closing) → Closing
 arguments_of room element = inside element (λ e made rest. array_of room e made rest)
 
 -- ---- a type, by its name; inner reads a type one level further in
-abbrev pub type_named : (inner : Records → List Token → Closing) → (room left : ℕ) → Records → Known → List Token → Closing
-type_named inner room left types (OfScalar s) ts = scalar_type room types s ts
-type_named inner room left types (Struct e) ts = closed e types ts
-type_named inner room left types Unknown ts = stopped 32
-type_named inner room left types (OfTemplate t) ts = closing (expect 60 ts) (λ ts. template_type room left types t ts)
-type_named inner room left types Array ts = closing (expect 60 ts) (λ ts. arguments_of room (inner types ts))
+abbrev pub type_named : (inner : Records → List Token → Closing) → (room left : ℕ) → Records → std.Option Known → List Token → Closing
+type_named inner room left types (std.Some (Predeclared (name.OfScalar s))) ts = scalar_type room types s ts
+type_named inner room left types (std.Some (Struct e)) ts = closed e types ts
+type_named inner room left types std.None ts = stopped 32
+type_named inner room left types (std.Some (Predeclared (name.OfTemplate t))) ts = closing (expect 60 ts) (λ ts. template_type room left types t ts)
+type_named inner room left types (std.Some (Predeclared name.Array)) ts = closing (expect 60 ts) (λ ts. arguments_of room (inner types ts))
 
 unfoldable pub type_after : (inner : Records → List Token → Closing) → (room left : ℕ) → List Named → Records → List Token → Closing
 type_after inner room left structs types ts = closing (name_of ts) (λ n. type_named inner room left types (known_type n.name structs) n.rest)

@@ -1,7 +1,7 @@
 // A type in WGSL text: the type reader and the template-argument reader call each other, and the levels left fall.
 #![tactic(auto)]
 
-ghost use Rattle.std.specs.Prelude.{◌≡◌, List, ℕ};
+ghost use Rattle.std.specs.Prelude.{◌≡◌, None, List, ℕ};
 ghost use Rattle.std.proofs.Math.Option.{some};
 ghost use Rattle.ir_records.specs.Record.{type_words};
 ghost use Rattle.wgsl_tokens.specs.Tokens.{Token, from};
@@ -12,23 +12,20 @@ ghost use Rattle.wgsl_types.specs.Serving.{count_read, opened_type, refused_insi
 use ir_records::Words;
 use wgsl_grammar::{Problem, Refusal};
 use wgsl_names::{Scalar, Template, TypeName};
-use wgsl_placement::{Count, Shape};
+use wgsl_placement::Shape;
 use wgsl_tables::NamedShape;
 
 // What a name stands for.
 #[derive(Clone, Copy, Debug, PartialEq, Eq)]
 pub enum Known {
-    OfScalar(Scalar),
-    OfTemplate(Template),
-    Array,
+    Predeclared(TypeName),
     Struct(Shape),
-    Unknown,
 }
 
-// Of an array, and where the text goes on after its `>`. `close`, here and below, is a position before the token at which a type closes.
+// Of an array, none of a runtime-sized one, and where the text goes on after its `>`. `close`, here and below, is a position before the token at which a type closes.
 #[derive(Clone, Copy, Debug, PartialEq, Eq)]
 pub struct CountAt {
-    pub count: Count,
+    pub count: Option<u32>,
     pub at: usize,
     pub close: usize,
 }
@@ -90,18 +87,13 @@ fn refused_inside(inner: Unclosed) -> Refusal
     }
 }
 
-// What a name stands for: a predeclared type, or a struct.
-pub fn known_type(s: &[u8], structs: &[NamedShape], w: &[u8]) -> Known
+// What a name stands for: a predeclared type, or a struct; none where it is still to be declared.
+pub fn known_type(s: &[u8], structs: &[NamedShape], w: &[u8]) -> Option<Known>
     ensures { result ≡ known_type w.now (structs_in s.now structs.now) }
 {
     match wgsl_names::predeclared(w) {
-        TypeName::OfScalar(scalar) => Known::OfScalar(scalar),
-        TypeName::OfTemplate(template) => Known::OfTemplate(template),
-        TypeName::Array => Known::Array,
-        TypeName::Unknown => match wgsl_tables::shape_named(s, w, structs) {
-            Some(shape) => Known::Struct(shape),
-            None => Known::Unknown,
-        },
+        Some(name) => Some(Known::Predeclared(name)),
+        None => wgsl_tables::shape_named(s, w, structs).map(Known::Struct),
     }
 }
 
@@ -111,8 +103,12 @@ fn open_type(s: &[u8], structs: &[NamedShape], at: usize) -> Result<Opened, Refu
     ensures { (inner : Records → List Token → Closing) (room left : ℕ) (types : Records) → type_after inner room left (structs_in s.now structs.now) types (from s.now at) ≡ opened_type inner room left types s.now result }
 {
     let name = wgsl_grammar::name_at(s, at)?;
-    match known_type(s, structs, &s[name.start..name.end]) {
-        Known::OfScalar(scalar) => Ok(Opened::Scalar {
+    let known = known_type(s, structs, &s[name.start..name.end]).ok_or(Refusal::of(
+        Problem::UnknownType,
+        at,
+    ))?;
+    match known {
+        Known::Predeclared(TypeName::OfScalar(scalar)) => Ok(Opened::Scalar {
             scalar,
             at: name.end,
             close: at,
@@ -122,12 +118,11 @@ fn open_type(s: &[u8], structs: &[NamedShape], at: usize) -> Result<Opened, Refu
             at: name.end,
             close: at,
         }),
-        Known::Unknown => Err(Refusal::of(Problem::UnknownType, at)),
-        Known::OfTemplate(template) => {
+        Known::Predeclared(TypeName::OfTemplate(template)) => {
             let at = wgsl_grammar::expect(s, name.end, b'<')?;
             Ok(Opened::Template { template, at })
         }
-        Known::Array => {
+        Known::Predeclared(TypeName::Array) => {
             let at = wgsl_grammar::expect(s, name.end, b'<')?;
             Ok(Opened::Array(at))
         }
@@ -234,12 +229,10 @@ fn template_type(
         return Err(Refusal::of(Problem::TooDeep, at).into());
     }
     let name = wgsl_grammar::name_at(s, at)?;
-    match wgsl_names::predeclared(&s[name.start..name.end]) {
-        TypeName::OfScalar(scalar) => template_of(
-            s, types, room, made, template, scalar, name.end, at,
-        ),
-        _ => Err(Refusal::of(Problem::NoScalar, at).into()),
-    }
+    let Some(TypeName::OfScalar(scalar)) = wgsl_names::predeclared(&s[name.start..name.end]) else {
+        return Err(Refusal::of(Problem::NoScalar, at).into());
+    };
+    template_of(s, types, room, made, template, scalar, name.end, at)
 }
 
 // A count, and the `>` after it.
@@ -254,10 +247,21 @@ fn number_count(s: &[u8], at: usize) -> Result<CountAt, Refusal>
     let close = wgsl_grammar::skipping(s, number.at, b',');
     let end = wgsl_grammar::expect(s, close, b'>')?;
     Ok(CountAt {
-        count: Count::Of(number.value),
+        count: Some(number.value),
         at: end,
         close,
     })
+}
+
+// An array that ends at a `>` is runtime-sized.
+fn runtime_at(at: usize, close: usize) -> CountAt
+    ensures { result ≡ record { count = None; at = at; close = close } }
+{
+    CountAt {
+        count: None,
+        at,
+        close,
+    }
 }
 
 // After the comma of an array.
@@ -265,14 +269,10 @@ fn number_count(s: &[u8], at: usize) -> Result<CountAt, Refusal>
 fn comma_count(s: &[u8], at: usize) -> Result<CountAt, Refusal>
     ensures { count_read s.now result ≡ comma_count (from s.now at) }
 {
-    match wgsl_grammar::expect(s, at, b'>') {
-        Ok(end) => Ok(CountAt {
-            count: Count::Runtime,
-            at: end,
-            close: at,
-        }),
-        Err(_) => number_count(s, at),
+    if let Ok(end) = wgsl_grammar::expect(s, at, b'>') {
+        return Ok(runtime_at(end, at));
     }
+    number_count(s, at)
 }
 
 // After the element of an array.
@@ -280,17 +280,11 @@ fn comma_count(s: &[u8], at: usize) -> Result<CountAt, Refusal>
 fn count_at(s: &[u8], at: usize) -> Result<CountAt, Refusal>
     ensures { count_read s.now result ≡ count_of (from s.now at) }
 {
-    match wgsl_grammar::expect(s, at, b'>') {
-        Ok(end) => Ok(CountAt {
-            count: Count::Runtime,
-            at: end,
-            close: at,
-        }),
-        Err(_) => {
-            let next = wgsl_grammar::expect(s, at, b',')?;
-            comma_count(s, next)
-        }
+    if let Ok(end) = wgsl_grammar::expect(s, at, b'>') {
+        return Ok(runtime_at(end, at));
     }
+    let next = wgsl_grammar::expect(s, at, b',')?;
+    comma_count(s, next)
 }
 
 // An array's record, with its element and its count.
@@ -299,7 +293,7 @@ fn close_array(
     room: u32,
     made: u32,
     element: Shape,
-    count: Count,
+    count: Option<u32>,
     at: usize,
     close: usize,
 ) -> Result<Closed, Unclosed>
@@ -314,7 +308,7 @@ fn close_array(
         number: made,
         size: measure.size,
         align: element.align,
-        fixed: wgsl_placement::is_counted(count) & element.fixed,
+        fixed: count.is_some() & element.fixed,
     };
     let w = wgsl_placement::array_record(count, element.number, measure.stride);
     make_type(types, room, made, shape, w, at, close)

@@ -1,17 +1,4 @@
-use Rattle.immediates_pass.specs.Pass.{Tried}
-use mathlib.Core.Path.{ap}
-use borrow.Author.Tests.{le-leb, lt-leb}
-use Rattle.doors_words.specs.Words.{tried_in}
 use Rattle.doors.proofs.wuldazin_pass_dispatch.Goals as goal
 
-pub returns-then-pass-lt3 : goal.returns-then-pass-lt3
-unfolding tried_in
-returns-then-pass-lt3 c =
-    rw (lt-leb 3 _ c.if-pass-lt3.true) record { missing_after = c.put_one.ensures; answer_after = rw c.short_pass.ensures at c.put_answer.ensures }
-
 pub returns : goal.returns
-unfolding tried_in
-returns c =
-    let r = c.dispatch-tried.ensures in
-    let p = c.pass_of.ensures in
-    rw (le-leb 3 _ c.if-pass-lt3.false) record { missing_after = rw (ap (λ (t : Tried). t.missing) r, p) at c.put_one-2.ensures; answer_after = rw (ap (λ (t : Tried). t.outcome) r, p) at c.put_answer-2.ensures }
+returns c = let r = c.dispatch-outcome.ensures in record { missing_after = r.missing_after; answer_after = rw r.value at c.put_answer.ensures }

@@ -3,5 +3,5 @@ use Rattle.doors.proofs.wuldazin_place.Goals as goal
 
 pub returns : goal.returns
 returns c =
-    let s = rw (c.rule_of-by.ensures, c.capabilities_by-known.ensures) at c.lookup-found.ensures in
-    record { rows_after = s.rows_after; place_after = rw s.value at c.put_place.ensures; answer_after = rw (place_told c.lookup-found.result, s.value) at c.put_answer.ensures }
+    let s = c.place_by-found.ensures in
+    record { rows_after = s.rows_after; place_after = rw s.value at c.put_place.ensures; answer_after = rw (place_told c.place_by-found.result, s.value) at c.put_answer.ensures }

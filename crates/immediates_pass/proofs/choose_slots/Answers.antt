@@ -12,19 +12,19 @@ use Rattle.immediates_slots.proofs.CallLaws.{accepted_sizes, accepted_few}
 use Rattle.immediates_pass.proofs.ChooseLaws.{immediates-word, choose_outside, choose_barred, choose_walked, choose_refused}
 use Rattle.immediates_pass.proofs.choose_slots.Goals as goal
 
-pub returns-then-types-ty : goal.returns-then-types-ty
-returns-then-types-ty c =
+pub returns-then-type_count-ty : goal.returns-then-type_count-ty
+returns-then-type_count-ty c =
     let a = c.args in
     let check = c.check.ensures in
     let accepted = sym check.value ∙ ap outcome_of c.in_ok-check.was in
-    record { value = ap (λ r. slots_answer_of (Err r)) c.of.ensures ∙ sym (choose_outside a.capabilities a.types.now a.members.now a.rows.now accepted a.ty c.if-types-ty.true); rows_after = check.rows_after }
+    record { value = ap (λ r. slots_answer_of (Err r)) c.of.ensures ∙ sym (choose_outside a.capabilities a.types.now a.members.now a.rows.now accepted a.ty (rw c.type_count.ensures at c.if-type_count-ty.true)); rows_after = check.rows_after }
 
 pub returns-then-immediates-ne0 : goal.returns-then-immediates-ne0
 returns-then-immediates-ne0 c =
     let a = c.args in
     let check = c.check.ensures in
     let accepted = sym check.value ∙ ap outcome_of c.in_ok-check.was in
-    let inside : a.ty < type_count a.types.now = omega (arith, c.if-types-ty.false) in
+    let inside : a.ty < type_count a.types.now = omega (arith, c.if-type_count-ty.false) in
     let word = immediates-word a.capabilities a.types.now a.members.now a.rows.now accepted a.ty a.rule inside in
     let read = c.row_word-immediates.ensures ∙ ap (λ w. row_word w a.ty 13) check.rows_after ∙ word in
     record { value = ap (λ r. slots_answer_of (Err r)) c.of-then-immediates-ne0.ensures ∙ sym (choose_barred a.capabilities a.types.now a.members.now a.rows.now accepted a.ty inside (λ z. c.if-immediates-ne0.true (read ∙ z))); rows_after = check.rows_after }
@@ -35,7 +35,7 @@ type_slots-requires c =
     let check = c.check.ensures in
     let accepted = sym check.value ∙ ap outcome_of c.in_ok-check.was in
     let few = accepted_few a.capabilities a.types.now a.members.now a.rows.now accepted in
-    let outside = c.if-types-ty.false in
+    let outside = c.if-type_count-ty.false in
     record { sizes = λ i h. ap (λ w. row_word w i 0) check.rows_after ∙ accepted_sizes a.capabilities a.types.now a.members.now a.rows.now accepted a.rule i (omega (arith, h, outside)); ty_bound = omega (arith, few, outside) }
 
 pub returns : goal.returns
@@ -43,7 +43,7 @@ returns c =
     let a = c.args in
     let check = c.check.ensures in
     let accepted = sym check.value ∙ ap outcome_of c.in_ok-check.was in
-    let inside : a.ty < type_count a.types.now = omega (arith, c.if-types-ty.false) in
+    let inside : a.ty < type_count a.types.now = omega (arith, c.if-type_count-ty.false) in
     let word = immediates-word a.capabilities a.types.now a.members.now a.rows.now accepted a.ty a.rule inside in
     let read = c.row_word-immediates.ensures ∙ ap (λ w. row_word w a.ty 13) check.rows_after ∙ word in
     record { value = c.part_answer.ensures ∙ ap part_answer c.type_slots.ensures ∙ sym (choose_walked a.capabilities a.types.now a.members.now a.rows.now accepted a.ty inside (sym read ∙ c.if-immediates-ne0.false)); rows_after = check.rows_after }

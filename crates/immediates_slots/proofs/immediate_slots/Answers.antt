@@ -8,12 +8,12 @@ use Rattle.std.proofs.Common.{rules, Err}
 use Rattle.immediates_slots.proofs.CallLaws.{accepted_sizes, accepted_few, answer_walked, answer_outside, answer_refused}
 use Rattle.immediates_slots.proofs.immediate_slots.Goals as goal
 
-pub returns-then-types-ty : goal.returns-then-types-ty
-returns-then-types-ty c =
+pub returns-then-type_count-ty : goal.returns-then-type_count-ty
+returns-then-type_count-ty c =
     let a = c.args in
     let check = c.check.ensures in
     let accepted = sym check.value ∙ ap outcome_of c.in_ok-check.was in
-    record { value = ap (λ r. slots_answer_of (Err r)) c.of.ensures ∙ sym (answer_outside a.capabilities a.types.now a.members.now a.rows.now accepted a.ty a.offset c.if-types-ty.true); rows_after = check.rows_after }
+    record { value = ap (λ r. slots_answer_of (Err r)) c.of.ensures ∙ sym (answer_outside a.capabilities a.types.now a.members.now a.rows.now accepted a.ty a.offset (rw c.type_count.ensures at c.if-type_count-ty.true)); rows_after = check.rows_after }
 
 pub type_slots-requires : goal.type_slots-requires
 type_slots-requires c =
@@ -21,7 +21,7 @@ type_slots-requires c =
     let check = c.check.ensures in
     let accepted = sym check.value ∙ ap outcome_of c.in_ok-check.was in
     let few = accepted_few a.capabilities a.types.now a.members.now a.rows.now accepted in
-    let outside = c.if-types-ty.false in
+    let outside = c.if-type_count-ty.false in
     record { sizes = λ i h. ap (λ w. row_word w i 0) check.rows_after ∙ accepted_sizes a.capabilities a.types.now a.members.now a.rows.now accepted a.rule i (omega (arith, h, outside)); ty_bound = omega (arith, few, outside) }
 
 pub returns : goal.returns
@@ -29,7 +29,7 @@ returns c =
     let a = c.args in
     let check = c.check.ensures in
     let accepted = sym check.value ∙ ap outcome_of c.in_ok-check.was in
-    record { value = c.part_answer.ensures ∙ ap part_answer c.type_slots.ensures ∙ sym (answer_walked a.capabilities a.types.now a.members.now a.rows.now accepted a.ty a.offset c.if-types-ty.false); rows_after = check.rows_after }
+    record { value = c.part_answer.ensures ∙ ap part_answer c.type_slots.ensures ∙ sym (answer_walked a.capabilities a.types.now a.members.now a.rows.now accepted a.ty a.offset (rw c.type_count.ensures at c.if-type_count-ty.false)); rows_after = check.rows_after }
 
 pub returns-in_err-check : goal.returns-in_err-check
 returns-in_err-check c =

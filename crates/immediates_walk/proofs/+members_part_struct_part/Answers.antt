@@ -50,19 +50,17 @@ own_part : (ts ms : List ℕ) (ty offset : ℕ) {count : ℕ} {part : Part} → 
     → part ≡ members_part (table no_part (part_step (decoded ts ms)) ty) (struct_members ts ms ty) offset count → part ≡ part_at (decoded ts ms) ty offset
 own_part ts ms ty offset kind count e = rw count at e ∙ sym (part_of_struct ts ms ty offset kind)
 
-pub struct_part-returns-in_err-kept_part-clause-value : goal.struct_part-returns-in_err-kept_part-clause-value
-struct_part-returns-in_err-kept_part-clause-value t c =
+pub struct_part-returns-in_err-part-clause-value : goal.struct_part-returns-in_err-part-clause-value
+struct_part-returns-in_err-part-clause-value t c =
     let a = c.args in
-    let is = sym c.is_kept.ensures ∙ c.if-is_kept.true in
-    let own = c.requires.keeps a.ty (a.offset % 4) (omega arith) is in
-    ap part_found c.from_residual.ensures ∙ moved_found a.types.now a.members.now a.ty a.offset (sym (ap part_found c.in_err-kept_part.was) ∙ c.kept_part.ensures ∙ own)
+    let own = c.requires.keeps a.ty (a.offset % 4) c.in-Some.part (omega arith) (sym c.kept_part.ensures ∙ c.in-Some.is) in
+    ap part_found c.from_residual.ensures ∙ moved_found a.types.now a.members.now a.ty a.offset (sym (ap part_found c.in_err-part.was) ∙ own)
 
-pub struct_part-returns-then-is_kept-clause-value : goal.struct_part-returns-then-is_kept-clause-value
-struct_part-returns-then-is_kept-clause-value t c =
+pub struct_part-returns-in-Some-clause-value : goal.struct_part-returns-in-Some-clause-value
+struct_part-returns-in-Some-clause-value t c =
     let a = c.args in
-    let is = sym c.is_kept.ensures ∙ c.if-is_kept.true in
-    let own = c.requires.keeps a.ty (a.offset % 4) (omega arith) is in
-    c.moved.ensures ∙ moved_found a.types.now a.members.now a.ty a.offset (sym (ap part_found c.in_ok-kept_part.was) ∙ c.kept_part.ensures ∙ own)
+    let own = c.requires.keeps a.ty (a.offset % 4) c.in-Some.part (omega arith) (sym c.kept_part.ensures ∙ c.in-Some.is) in
+    c.moved.ensures ∙ moved_found a.types.now a.members.now a.ty a.offset (sym (ap part_found c.in_ok-part.was) ∙ own)
 
 pub struct_part-invariant_of-walk-clause-so_far : goal.struct_part-invariant_of-walk-clause-so_far
 unfolding members_part
@@ -85,13 +83,13 @@ struct_part-returns-in_err-walked-clause-keeps_2 t c =
     let a = c.args in
     let walk = c.members_part-walked in
     let own = own_part a.types.now a.members.now a.ty (a.offset % 4) c.requires.ty_value c.type_word.ensures walk.ensures.value in
-    let long : a.ty * 16 + 16 ≤ length walk.new.kept = omega (arith, c.requires.ty_in_bounds, walk.auto.kept) in
-    rw c.keep.ensures (keeps_more walk.new.kept a.ty (a.offset % 4) long (omega arith) (part_at (decoded a.types.now a.members.now)) (part_found walk.result) own walk.ensures.keeps_2)
+    let long : a.ty * 4 + 4 ≤ length walk.new.kept = omega (arith, c.requires.ty_in_bounds, walk.auto.kept) in
+    rw c.keep.ensures (keeps_more walk.new.kept a.ty (a.offset % 4) long (omega arith) (part_at (decoded a.types.now a.members.now)) walk.result own walk.ensures.keeps_2)
 
 pub struct_part-returns-clause-keeps_2 : goal.struct_part-returns-clause-keeps_2
 struct_part-returns-clause-keeps_2 t c =
     let a = c.args in
     let walk = c.members_part-walked in
     let own = own_part a.types.now a.members.now a.ty (a.offset % 4) c.requires.ty_value c.type_word.ensures walk.ensures.value in
-    let long : a.ty * 16 + 16 ≤ length walk.new.kept = omega (arith, c.requires.ty_in_bounds, walk.auto.kept) in
-    rw c.keep.ensures (keeps_more walk.new.kept a.ty (a.offset % 4) long (omega arith) (part_at (decoded a.types.now a.members.now)) (part_found walk.result) own walk.ensures.keeps_2)
+    let long : a.ty * 4 + 4 ≤ length walk.new.kept = omega (arith, c.requires.ty_in_bounds, walk.auto.kept) in
+    rw c.keep.ensures (keeps_more walk.new.kept a.ty (a.offset % 4) long (omega arith) (part_at (decoded a.types.now a.members.now)) walk.result own walk.ensures.keeps_2)

@@ -7,7 +7,7 @@ use Rattle.immediates_walk.specs.Parts.{part_at}
 use Rattle.immediates_walk.proofs.nested_in.Goals as goal
 
 pub whole_as_slice-members_part : goal.whole_as_slice-members_part
-whole_as_slice-members_part g c = omega (arith, c.requires.words_bound)
+whole_as_slice-members_part g c = omega (arith, c.requires.parts_bound)
 
 pub members_part-requires-clause-keeps : goal.members_part-requires-clause-keeps
 members_part-requires-clause-keeps g c = keeps_nothing (part_at (decoded c.args.walk.of.types.now c.args.walk.of.members.now)) _ g.row.N refl

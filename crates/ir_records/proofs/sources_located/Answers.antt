@@ -1,22 +1,17 @@
--- `ir_records::sources_located` meets its contract. The invariant: the rows from j on have their locations. Assumes nothing.
-use mathlib.Core.Path.{sym, ◌∙◌}
-use Rattle.ir_records.proofs.RecordLaws.{unlocated_found, located_before, located_none}
+use mathlib.Core.Path.{refl, ◌∙◌, ap}
+use mathlib.Core.Bool.{not}
+use Rattle.std.proofs.Common.{rules, arith}
+use borrow.Author.Tests.{tests}
+use Rattle.std.proofs.lemmas.Iterator.{YieldsList-from_range}
+use Rattle.std.proofs.lemmas.Iterator.Search.{any_from_yields_List}
+use Rattle.ir_records.specs.Record.{member_count}
+use Rattle.ir_records.specs.Fields.{is_unlocated}
+use Rattle.ir_records.proofs.RecordLaws.{any_unlocated}
 use Rattle.ir_records.proofs.sources_located.Goals as goal
-
-pub returns-then-source-location : goal.returns-then-source-location
-returns-then-source-location c =
-    let l = c.loop-j in
-    let a = c.args in
-    sym (l.invariant ∙ unlocated_found a.part.now l.j c.loop-j-test.true (rw (c.own_location-location.ensures, c.own_source-source.ensures) at c.if-source-location.true))
-
-pub loop-j-preserved : goal.loop-j-preserved
-loop-j-preserved c =
-    let l = c.loop-j in
-    let a = c.args in
-    l.invariant ∙ located_before a.part.now l.j c.loop-j-test.true (rw (c.own_location-location.ensures, c.own_source-source.ensures) at c.if-source-location.false)
 
 pub returns : goal.returns
 returns c =
-    let l = c.loop-j in
-    let a = c.args in
-    sym (l.invariant ∙ located_none a.part.now l.j c.loop-j-test.false)
+    let part = c.args.part.now in
+    let f = is_unlocated part in
+    ap not (any_from_yields_List f _ _ c.any.result c.any.ensures.ran (YieldsList-from_range 0 (member_count part) (member_count part) (rw c.member_count.ensures refl) (omega arith)) (λ x b q k. search (rules, tests)))
+    ∙ any_unlocated part (member_count part)

@@ -2,6 +2,7 @@ use mathlib.Core.Path.{◌≡◌, sym, ap, ◌∙◌}
 use Prim.Native.Nat.{◌*◌, ◌≤◌}
 use native.Mathlib.Omega.{arith}
 use lib.ListN.{length, take}
+use lib.Seq.{length-take-le}
 use Rattle.std.proofs.Common.{rules, Err}
 use Rattle.ir_records.specs.Refusal.{outcome_of}
 use Rattle.order_call.specs.Answer.{order_answer_of}
@@ -15,15 +16,31 @@ returns-then-not-has_room c =
     let s = c in
     let a = s.args in
     let e = ordered_short a.rule a.capabilities a.types.now a.n a.members.now a.m a.rows.now a.wanted.now a.span (sym c.has_room.ensures ∙ c.if-not-has_room.true) in
-    record { value = ap (λ r. order_answer_of (Err r)) c.of.ensures ∙ ap (λ (l : Left). l.answer) (sym e); types_after = ap (λ (l : Left). l.types) (sym e); members_after = ap (λ (l : Left). l.members) (sym e); rows_after = ap (λ (l : Left). l.rows) (sym e) }
+    record { places = tt; value = ap (λ r. order_answer_of (Err r)) c.of.ensures ∙ ap (λ (l : Left). l.answer) (sym e); types_after = ap (λ (l : Left). l.types) (sym e); members_after = ap (λ (l : Left). l.members) (sym e); rows_after = ap (λ (l : Left). l.rows) (sym e) }
 
-pub check_first-requires : goal.check_first-requires
-check_first-requires c =
-    let s = c in
-    let a = s.args in
-    let roomy = sym c.has_room.ensures ∙ c.if-not-has_room.false in
-    let r = has_room (length a.types.now) (length a.members.now) (length a.rows.now) a.n a.m (length a.wanted.now) roomy in
-    record { t_in_bounds = omega (arith, r.record'); u_in_bounds = omega (arith, r.words) }
+pub slice_bounds-check-end : goal.slice_bounds-check-end
+slice_bounds-check-end c =
+    let a = c.args in
+    let r = has_room (length a.types.now) (length a.members.now) (length a.rows.now) a.n a.m (length a.wanted.now) (sym c.has_room.ensures ∙ c.if-not-has_room.false) in
+    omega (arith, r.record')
+
+pub slice_bounds-check-end-2 : goal.slice_bounds-check-end-2
+slice_bounds-check-end-2 c =
+    let a = c.args in
+    let r = has_room (length a.types.now) (length a.members.now) (length a.rows.now) a.n a.m (length a.wanted.now) (sym c.has_room.ensures ∙ c.if-not-has_room.false) in
+    sym (length-take-le (a.n * 6) a.types.now (omega (arith, r.record')))
+
+pub slice_bounds-check-end-3 : goal.slice_bounds-check-end-3
+slice_bounds-check-end-3 c =
+    let a = c.args in
+    let r = has_room (length a.types.now) (length a.members.now) (length a.rows.now) a.n a.m (length a.wanted.now) (sym c.has_room.ensures ∙ c.if-not-has_room.false) in
+    omega (arith, r.words)
+
+pub slice_bounds-check-end-4 : goal.slice_bounds-check-end-4
+slice_bounds-check-end-4 c =
+    let a = c.args in
+    let r = has_room (length a.types.now) (length a.members.now) (length a.rows.now) a.n a.m (length a.wanted.now) (sym c.has_room.ensures ∙ c.if-not-has_room.false) in
+    sym (length-take-le (a.m * 4) a.members.now (omega (arith, r.words)))
 
 pub choose-requires : goal.choose-requires
 choose-requires c =
@@ -31,8 +48,8 @@ choose-requires c =
     let a = s.args in
     let roomy = sym c.has_room.ensures ∙ c.if-not-has_room.false in
     let r = has_room (length a.types.now) (length a.members.now) (length a.rows.now) a.n a.m (length a.wanted.now) roomy in
-    let k = c.check_first in
-    let accepted = sym k.ensures.value ∙ ap outcome_of c.in_ok-check_first.was in
+    let k = c.check in
+    let accepted = sym k.ensures.value ∙ ap outcome_of c.in_ok-check.was in
     let n6 : a.n * 6 ≤ length a.types.now = omega (arith, r.record') in
     let aligned = positive a.rule a.capabilities a.types.now a.n (take (a.m * 4) a.members.now) a.rows.now n6 accepted in
     record { wanted_len_bound = r.few; type_in_bounds = r.record'; wanted_bound = r.count; wanted_in_bounds = r.words; by_index = rw k.ensures.rows_after aligned }
@@ -43,22 +60,22 @@ returns c =
     let a = s.args in
     let roomy = sym c.has_room.ensures ∙ c.if-not-has_room.false in
     let r = has_room (length a.types.now) (length a.members.now) (length a.rows.now) a.n a.m (length a.wanted.now) roomy in
-    let k = c.check_first in
-    let accepted = sym k.ensures.value ∙ ap outcome_of c.in_ok-check_first.was in
+    let k = c.check in
+    let accepted = sym k.ensures.value ∙ ap outcome_of c.in_ok-check.was in
     let words = arena_words a.rule a.capabilities (take (a.n * 6) a.types.now) (take (a.m * 4) a.members.now) a.rows.now in
     let e = ordered_after a.rule a.capabilities a.types.now a.n a.members.now a.m a.rows.now a.wanted.now a.span roomy ∙ ap (after_check a.rule a.capabilities a.types.now a.n a.members.now a.m words a.wanted.now a.span) accepted in
     let w = rw k.ensures.rows_after at c.choose.ensures in
-    record { value = w.value ∙ ap (λ (l : Left). l.answer) (sym e); types_after = w.types_after ∙ ap (λ (l : Left). l.types) (sym e); members_after = w.members_after ∙ ap (λ (l : Left). l.members) (sym e); rows_after = w.rows_after ∙ ap (λ (l : Left). l.rows) (sym e) }
+    record { places = w.places; value = w.value ∙ ap (λ (l : Left). l.answer) (sym e); types_after = w.types_after ∙ ap (λ (l : Left). l.types) (sym e); members_after = w.members_after ∙ ap (λ (l : Left). l.members) (sym e); rows_after = w.rows_after ∙ ap (λ (l : Left). l.rows) (sym e) }
 
-pub returns-in_err-check_first : goal.returns-in_err-check_first
-returns-in_err-check_first c =
-    let same : c.from_residual.result ≡ Err c.in_err-check_first.field-0.0 = search rules in
+pub returns-in_err-check : goal.returns-in_err-check
+returns-in_err-check c =
+    let same : c.from_residual.result ≡ Err c.in_err-check.field-0.0 = search rules in
     let s = c in
     let a = s.args in
     let roomy = sym c.has_room.ensures ∙ c.if-not-has_room.false in
     let r = has_room (length a.types.now) (length a.members.now) (length a.rows.now) a.n a.m (length a.wanted.now) roomy in
-    let k = c.check_first in
-    let refusal = sym k.ensures.value ∙ ap outcome_of c.in_err-check_first.was in
+    let k = c.check in
+    let refusal = sym k.ensures.value ∙ ap outcome_of c.in_err-check.was in
     let words = arena_words a.rule a.capabilities (take (a.n * 6) a.types.now) (take (a.m * 4) a.members.now) a.rows.now in
     let e = ordered_after a.rule a.capabilities a.types.now a.n a.members.now a.m a.rows.now a.wanted.now a.span roomy ∙ ap (after_check a.rule a.capabilities a.types.now a.n a.members.now a.m words a.wanted.now a.span) refusal in
-    record { value = ap order_answer_of same ∙ ap (λ (l : Left). l.answer) (sym e); types_after = ap (λ (l : Left). l.types) (sym e); members_after = ap (λ (l : Left). l.members) (sym e); rows_after = k.ensures.rows_after ∙ ap (λ (l : Left). l.rows) (sym e) }
+    record { places = rw same tt; value = ap order_answer_of same ∙ ap (λ (l : Left). l.answer) (sym e); types_after = ap (λ (l : Left). l.types) (sym e); members_after = ap (λ (l : Left). l.members) (sym e); rows_after = k.ensures.rows_after ∙ ap (λ (l : Left). l.rows) (sym e) }

@@ -1,16 +1,12 @@
 use mathlib.Core.Path.{refl}
-use borrow.Author.Tests.{le-leb, lt-leb, lt-ltb, le-ltb}
+use borrow.Author.Tests.{le-leb, lt-ltb, le-ltb}
 use Rattle.order_words.specs.Words.{place_word}
 use Rattle.order_words.proofs.place_word.Goals as goal
 
-pub returns-then-k-gt-MOST_MEMBERS : goal.returns-then-k-gt-MOST_MEMBERS
+pub returns-then-j-order : goal.returns-then-j-order
 unfolding place_word
-returns-then-k-gt-MOST_MEMBERS c = rw (lt-leb c.args.k 7 c.if-k-gt-MOST_MEMBERS.true) refl
+returns-then-j-order c = let a = c.args in rw (le-leb a.order.n 7 a.order.few, lt-ltb a.j a.order.n c.if-j-order.true) c.member_at.ensures
 
-pub returns-then-count-j : goal.returns-then-count-j
+pub returns-else-j-order : goal.returns-else-j-order
 unfolding place_word
-returns-then-count-j c = let a = c.args in rw (le-leb a.k 7 c.if-k-gt-MOST_MEMBERS.false, le-ltb a.j a.k c.if-count-j.true) refl
-
-pub returns : goal.returns
-unfolding place_word
-returns c = let a = c.args in rw (le-leb a.k 7 c.if-k-gt-MOST_MEMBERS.false, lt-ltb a.j a.k c.if-count-j.false) c.member_at.ensures
+returns-else-j-order c = let a = c.args in rw (le-leb a.order.n 7 a.order.few, le-ltb a.j a.order.n c.if-j-order.false) refl

@@ -3,7 +3,7 @@ use mathlib.Core.Path.{refl, sym, ap, ◌∙◌}
 use native.Mathlib.Omega.{arith}
 use Rattle.place_steps.specs.Step.{step_made, step_found}
 use Rattle.place_descent.specs.Place.{found_place}
-use Rattle.place_descent.proofs.LoopLaws.{no_start, looking_start, looking_ends, looking_step, looking_at, looking_done, column_last, column_passed}
+use Rattle.place_descent.proofs.LoopLaws.{no_start, looking_start, looking_ends, looking_step, looking_at, looking_done, leaf_place, column_last, column_passed}
 use Rattle.place_descent.proofs.place_of.Goals as goal
 
 pub returns-then-type_count-start : goal.returns-then-type_count-start
@@ -25,8 +25,7 @@ returns-in_err-next c =
 pub loop-i-preserved : goal.loop-i-preserved
 loop-i-preserved c = looking_at (looking_step c.loop-i.invariant c.loop-i-test.true (sym (ap step_found c.in_ok-next.was ∙ ap step_made c.in-To.is) ∙ c.step_at.ensures)) _ refl
 
-pub returns-then-is_leaf_at : goal.returns-then-is_leaf_at
-returns-then-is_leaf_at c = rw (sym c.is_leaf_at.ensures ∙ c.if-is_leaf_at.true) at (looking_done c.loop-i.invariant c.loop-i-test.false)
-
-pub returns-else-is_leaf_at : goal.returns-else-is_leaf_at
-returns-else-is_leaf_at c = rw (sym c.is_leaf_at.ensures ∙ c.if-is_leaf_at.false) at (looking_done c.loop-i.invariant c.loop-i-test.false)
+pub returns : goal.returns
+returns c =
+    let is = ap found_place c.then_some.ensures ∙ leaf_place c.is_leaf_at.result _ in
+    rw (c.is_leaf_at.ensures) at is ∙ looking_done c.loop-i.invariant c.loop-i-test.false

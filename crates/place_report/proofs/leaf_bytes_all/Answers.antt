@@ -1,6 +1,9 @@
 -- `place_report::leaf_bytes_all` meets its contract. The invariant: what each of the first i types carries stands in its words. Assumes nothing.
 use borrow.Author.Rules.{rules}
-use mathlib.Core.Path.{◌∙◌}
+use mathlib.Core.Path.{◌≡◌, ◌∙◌}
+use Prim.Native.Nat.{◌*◌}
+use borrow.Rule.Slice.PartMut.{put_mid}
+use Rattle.ir_rows.specs.Rows.{cleared}
 use native.Mathlib.Omega.{arith}
 use Rattle.place_report.proofs.MemberBytes.{small_entry}
 use Rattle.place_report.proofs.PassLaws.{bounds-at, narrow_told}
@@ -25,7 +28,8 @@ returns-then-structured-narrow c =
     let is = rw c.row_word-size.ensures at c.leaf_bytes_at-own.ensures in
     let e = rw (c.is_struct-structured.ensures, narrow_told c.leaf_bytes_at-own.result c.is_none-narrow.result c.is_none-narrow.ensures) at c.if-structured-narrow.true in
     let g = first_pass_refused ts ms rows a.report.now a.n l.report l.i l.invariant s.requires.rows_of s.requires.n_value s.requires.n_in_bounds c.loop-i-test.true c.leaf_bytes_at-own.result is e in
-    rw (c.at.ensures, c.of.ensures) record { value = g.0; report_after = c.clear.ensures ∙ g.1 }
+    let zeroed : put_mid 0 (a.n * 2) l.report c.fill.new.self ≡ cleared l.report (a.n * 2) = search rules in
+    rw (c.at.ensures, c.of.ensures) record { value = g.0; report_after = zeroed ∙ g.1 }
 
 pub loop-i-preserved : goal.loop-i-preserved
 loop-i-preserved c =

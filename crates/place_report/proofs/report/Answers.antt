@@ -1,7 +1,12 @@
 -- `place_report::report` meets its contract: number 1 first, then the check, then the report of accepted types. Assumes nothing.
-use mathlib.Core.Path.{refl, sym, ◌∙◌, ap, subst}
+use Rattle.std.proofs.Common.{rules}
+use borrow.Rule.Slice.PartMut.{put_mid}
+use Rattle.ir_rows.specs.Rows.{cleared}
+use mathlib.Core.Path.{◌≡◌, refl, sym, ◌∙◌, ap, subst}
 use mathlib.Core.List.{List}
-use Prim.Native.Nat.{ℕ}
+use Prim.Native.Nat.{ℕ, ◌*◌, ◌≤◌}
+use lib.ListN.{length}
+use lib.Seq.{length-take-le}
 use native.Mathlib.Omega.{arith}
 use Rattle.std.specs.Prelude.{Err}
 use Rattle.ir_records.specs.Refusal.{outcome_of}
@@ -21,35 +26,45 @@ pub overflow_cast-n : goal.overflow_cast-n
 overflow_cast-n c =
     let a = c.args in
     let l = lengths a.capabilities a.types.now a.members.now a.rows.now a.report.now (sym c.lengths_fit.ensures ∙ c.if-not-lengths_fit.false) in
-    omega (arith, l.few)
+    omega (arith, l.few, c.type_count-n.ensures)
 
-pub fill-requires : goal.fill-requires
-fill-requires c =
+pub fill-requires-2 : goal.fill-requires-2
+fill-requires-2 c =
     let a = c.args in let ts = a.types.now in let ms = a.members.now in let rows = a.rows.now in let lent = a.report.now in
     let fits = sym c.lengths_fit.ensures ∙ c.if-not-lengths_fit.false in
     let l = lengths a.capabilities ts ms rows lent fits in
     let k = c.check in
-    let e = sym k.ensures.value ∙ ap outcome_of c.in-Ok.is in
-    record { n_value = refl; n_in_bounds = l.long; rows_of = subst (λ (x : List ℕ). RowsOf ts ms x) (sym k.ensures.rows_after) (rows_made a.rule a.capabilities ts ms rows lent fits e) }
+    let e = sym k.ensures.value ∙ ap outcome_of c.in_default.is in
+    record { n_value = c.type_count-n.ensures; n_in_bounds = rw c.type_count-n.ensures l.long; rows_of = subst (λ (x : List ℕ). RowsOf ts ms x) (sym k.ensures.rows_after) (rows_made a.rule a.capabilities ts ms rows lent fits e) }
 
-pub clear-requires : goal.clear-requires
-clear-requires c =
+pub slice_bounds-fill-end : goal.slice_bounds-fill-end
+slice_bounds-fill-end c =
     let a = c.args in
     let l = lengths a.capabilities a.types.now a.members.now a.rows.now a.report.now (sym c.lengths_fit.ensures ∙ c.if-not-lengths_fit.false) in
-    l.long
+    rw c.type_count-n.ensures l.long
 
-pub returns-in-Ok : goal.returns-in-Ok
-returns-in-Ok c =
+pub slice_bounds-fill-end-in-Err : goal.slice_bounds-fill-end-in-Err
+slice_bounds-fill-end-in-Err c =
+    let a = c.args in
+    let l = lengths a.capabilities a.types.now a.members.now a.rows.now a.report.now (sym c.lengths_fit.ensures ∙ c.if-not-lengths_fit.false) in
+    rw c.type_count-n.ensures (sym (length-take-le (type_count a.types.now * 2) a.report.now l.long))
+
+pub returns : goal.returns
+returns c =
     let a = c.args in let ts = a.types.now in let ms = a.members.now in let rows = a.rows.now in let lent = a.report.now in
     let fits = sym c.lengths_fit.ensures ∙ c.if-not-lengths_fit.false in
-    let k = c.check in let f = c.fill in
-    let g = filled_same a.rule a.capabilities ts ms rows lent fits (sym k.ensures.value ∙ ap outcome_of c.in-Ok.is) in
-    let made = k.ensures.rows_after in record { value = f.ensures.value ∙ ap (λ (x : List ℕ). fill_answer ts ms x (type_count ts)) made ∙ g.0; rows_after = made ∙ g.1; report_after = f.ensures.report_after ∙ ap (λ (x : List ℕ). fill_words ts ms x (type_count ts) lent) made ∙ g.2 }
+    let k = c.check in let f = rw c.type_count-n.ensures at c.fill-2.ensures in
+    let g = filled_same a.rule a.capabilities ts ms rows lent fits (sym k.ensures.value ∙ ap outcome_of c.in_default.is) in
+    let made = k.ensures.rows_after in record { value = f.value ∙ ap (λ (x : List ℕ). fill_answer ts ms x (type_count ts)) made ∙ g.0; rows_after = made ∙ g.1; report_after = f.report_after ∙ ap (λ (x : List ℕ). fill_words ts ms x (type_count ts) lent) made ∙ g.2 }
 
 pub returns-in-Err : goal.returns-in-Err
 returns-in-Err c =
     let a = c.args in let ts = a.types.now in let ms = a.members.now in let rows = a.rows.now in let lent = a.report.now in
     let fits = sym c.lengths_fit.ensures ∙ c.if-not-lengths_fit.false in
     let k = c.check in
+    let n = c.type_count-n.result in
+    let long : n * 2 ≤ length lent = rw c.type_count-n.ensures (lengths a.capabilities ts ms rows lent fits).long in
+    let all : put_mid 0 (n * 2) lent c.fill.new.self ≡ cleared lent (n * 2) = search rules in
+    let zeroed = all ∙ ap (λ (k : ℕ). cleared lent (k * 2)) c.type_count-n.ensures in
     let g = refused_same a.rule a.capabilities ts ms rows lent fits (sym k.ensures.value ∙ ap outcome_of c.in-Err.is) in
-    record { value = g.0; rows_after = k.ensures.rows_after ∙ g.1; report_after = c.clear.ensures ∙ g.2 }
+    record { value = g.0; rows_after = k.ensures.rows_after ∙ g.1; report_after = zeroed ∙ g.2 }

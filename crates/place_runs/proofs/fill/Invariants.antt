@@ -10,6 +10,6 @@ use Rattle.place_runs.proofs.fill.Given as goal
 abbrev pub invariant-loop-j : goal.invariant-loop-j
 invariant-loop-j l =
     (l.at ≡ run_at l.queries l.j)
-    × (take (l.j * 2) l.answers ≡ flat (pair_at l.accepted l.types l.members l.queries) l.j)
+    × (take (l.j * 2) l.answers ≡ flat (pair_at l.types l.members l.queries) l.j)
     × (drop (l.n * 2) l.answers ≡ drop (l.n * 2) l.initial.answers)
     × (length l.answers ≡ length l.initial.answers)

@@ -11,25 +11,21 @@ pub loop-at-init : goal.loop-at-init
 unfolding run_at
 loop-at-init c = (search rules, search rules, refl, first_run c.args.queries.now)
 
-pub returns-then-left-lt2 : goal.returns-then-left-lt2
-returns-then-left-lt2 c =
+pub returns-in_err-run : goal.returns-in_err-run
+returns-in_err-run c =
     let l = c.loop-at in
     let q = c.args.queries.now in
-    cut_run q l.n l.invariant.3 (omega (arith, l.invariant.1, l.invariant.2)) (omega (arith, l.invariant.2, c.loop-at-test.true)) (omega (arith, l.invariant.2, c.loop-at-test.true, c.if-left-lt2.true))
-
-pub returns-then-steps-count : goal.returns-then-steps-count
-returns-then-steps-count c =
-    let l = c.loop-at in
-    let q = c.args.queries.now in
-    cut_run q l.n l.invariant.3 (omega (arith, l.invariant.1, l.invariant.2)) (omega (arith, l.invariant.2, c.loop-at-test.true)) (rw (← l.invariant.2) (omega (arith, c.loop-at-test.true, c.if-left-lt2.false, c.if-steps-count.true, c.word_at-count.ensures)))
+    let cut = rw c.in_err-run.was at c.run_from.ensures in
+    c.from_residual.ensures ∙ cut_run q l.n l.invariant.3 (omega (arith, l.invariant.1, l.invariant.2)) (omega (arith, l.invariant.2, c.loop-at-test.true)) (rw l.invariant.2 at cut)
 
 pub loop-at-preserved : goal.loop-at-preserved
 loop-at-preserved c =
     let l = c.loop-at in
-    let q = c.args.queries.now in (
-      omega (arith, c.loop-at-test.true, c.if-left-lt2.false, c.if-steps-count.false),
-      omega (arith, l.invariant.1),
-      rw (run_next q l.n, ← l.invariant.2, c.word_at-count.ensures) refl,
+    let q = c.args.queries.now in
+    let run = rw c.in_ok-run.was at c.run_from.ensures in (
+      run.within,
+      omega (arith, l.invariant.1, run.end),
+      run.end ∙ rw (run_next q l.n, ← l.invariant.2) refl,
       one_more q l.n l.invariant.3 (omega (arith, l.invariant.1, l.invariant.2)) (omega (arith, l.invariant.2, c.loop-at-test.true)),
     )
 

@@ -11,20 +11,21 @@ overflow_cast-n c =
     let a = c.args in
     let p = fits_parts a.capabilities (length a.types.now) (length a.members.now) (length a.scratch.now) (sym c.lengths_fit.ensures ∙ c.if-not-lengths_fit.false) in
     let f = tables_fitting (length a.types.now) (length a.members.now) _ p.tables in
-    omega (arith, f.types)
+    omega (arith, f.types, c.type_count-n.ensures)
 
 pub judge_tables-requires : goal.judge_tables-requires
 judge_tables-requires c =
     let a = c.args in
     let p = fits_parts a.capabilities (length a.types.now) (length a.members.now) (length a.scratch.now) (sym c.lengths_fit.ensures ∙ c.if-not-lengths_fit.false) in
-    record { n_value = refl; n_in_bounds = p.room }
+    record { n_value = c.type_count-n.ensures; n_in_bounds = rw c.type_count-n.ensures p.room }
 
 pub returns : goal.returns
 unfolding short_answer short_words
 returns c =
     let fits = sym c.lengths_fit.ensures ∙ c.if-not-lengths_fit.false in
-    let answer = c.judge_tables.ensures.value in
-    record { value = rw fits answer; scratch_after = rw fits (rw (← answer) c.judge_tables.ensures.words_after) }
+    let judged = rw c.type_count-n.ensures at c.judge_tables.ensures in
+    let answer = judged.value in
+    record { value = rw fits answer; scratch_after = rw fits (rw (← answer) judged.words_after) }
 
 pub returns-then-not-lengths_fit : goal.returns-then-not-lengths_fit
 unfolding short_answer short_words

@@ -11,7 +11,7 @@ use Rattle.place_short.proofs.judge_all.Given as goal
 
 abbrev pub invariant-loop-i : goal.invariant-loop-i
 invariant-loop-i l =
-    (first_refusal (three_result l.capabilities l.arena.types.now l.arena.members.now) l.i ≡ Accepted)
-    × (take (l.i * 3) l.words ≡ flat (three_at l.capabilities l.arena.types.now l.arena.members.now) l.i)
+    (first_refusal (three_result l.arena.capabilities l.arena.types.now l.arena.members.now) l.i ≡ Accepted)
+    × (take (l.i * 3) l.words ≡ flat (three_at l.arena.capabilities l.arena.types.now l.arena.members.now) l.i)
     × (drop (l.arena.n * 3) l.words ≡ drop (l.arena.n * 3) l.initial.words)
     × (length l.words ≡ length l.initial.words)

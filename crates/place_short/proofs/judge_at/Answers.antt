@@ -17,9 +17,6 @@ use Rattle.place_short.proofs.judge_at.Goals as goal
 pub layout_of-judged-requires : goal.layout_of-judged-requires
 layout_of-judged-requires c = let a = c.args in rw c.type_inner-inner.ensures (record_bounds a.arena.types.now a.arena.members.now a.i (all_ok (record_at a.arena.types.now a.arena.members.now) a.arena.n a.arena.in_order a.i c.requires.of_these).1)
 
-pub slice_bounds-flags_of-end-2 : goal.slice_bounds-flags_of-end-2
-slice_bounds-flags_of-end-2 c = let a = c.args in sym (length-take-le (a.i * 3) a.words.now (omega (arith, c.requires.i_in_bounds)))
-
 pub flags_of-flagged-requires : goal.flags_of-flagged-requires
 flags_of-flagged-requires c =
     let a = c.args in

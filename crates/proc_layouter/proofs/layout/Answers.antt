@@ -9,7 +9,7 @@ pub overflow_cast-n : goal.overflow_cast-n
 overflow_cast-n c = let a = c.args in let f = tables_fitting (length a.types.now) (length a.members.now) (length a.rows.now) (sym c.tables_fit.ensures ∙ c.if-not-tables_fit.false) in omega arith
 
 pub layout_tables-requires : goal.layout_tables-requires
-layout_tables-requires c = let a = c.args in let f = tables_fitting (length a.types.now) (length a.members.now) (length a.rows.now) (sym c.tables_fit.ensures ∙ c.if-not-tables_fit.false) in record { n_in_bounds = f.rows; n_value = refl }
+layout_tables-requires c = let a = c.args in let f = tables_fitting (length a.types.now) (length a.members.now) (length a.rows.now) (sym c.tables_fit.ensures ∙ c.if-not-tables_fit.false) in record { n_in_bounds = rw c.type_count-n.ensures f.rows; n_value = c.type_count-n.ensures }
 
 pub returns-then-not-tables_fit : goal.returns-then-not-tables_fit
 unfolding layout_answer layout_words
@@ -20,4 +20,4 @@ unfolding layout_answer layout_words
 returns c =
     let fits = sym c.tables_fit.ensures ∙ c.if-not-tables_fit.false in
     let answer = c.layout_tables.ensures.value in
-    record { value = rw fits answer; rows_after = rw fits (rw (← answer) c.layout_tables.ensures.rows_after) }
+    record { value = rw fits answer; rows_after = rw fits (rw (← answer) (rw c.type_count-n.ensures at c.layout_tables.ensures.rows_after)) }

@@ -19,7 +19,7 @@ returns-then-before-ty c =
     let a = c.args in
     let late = rw c.type_of-ty.ensures at c.if-before-ty.true in
     rw (member_late (layouts_in a.before.rows.now) a.before.i a.part.words.now l.j l.a l.invariant.0 late a.part.count c.loop-j-test.true)
-    c.late_member.ensures
+    record { result_value = c.late_member.ensures; sources_told = tt }
 
 pub loop-j-preserved : goal.loop-j-preserved
 loop-j-preserved c =

@@ -81,7 +81,6 @@ returns-in-Atomic c =
     ∙ by_words ts ms ls a.before.i w.result w.ensures 4 (sym kind) (λ q. omega arith) c.requires
 
 pub returns-in-Pointer : goal.returns-in-Pointer
-unfolding inner_of layout_of try_size alignment_of
 returns-in-Pointer c =
     let a = c.args in
     let ts = a.types.now in
@@ -89,11 +88,10 @@ returns-in-Pointer c =
     let ls = layouts_in a.before.rows.now in
     let w = c.own_record-w in
     let kind : 5 ≡ w.result.kind = rw c.in-Pointer.is at c.in_ok-try_from.ensures in
-    rw (c.pointer_fields.ensures (member_count ms) w.result.a, c.type_count.ensures) at c.based_layout.ensures
+    c.pointer_layout.ensures (member_count ms) a.before.i ls (struct_members ts ms a.before.i)
     ∙ by_words ts ms ls a.before.i w.result w.ensures 5 (sym kind) (λ q. omega arith) c.requires
 
 pub returns-in-ValuePointer : goal.returns-in-ValuePointer
-unfolding inner_of layout_of try_size alignment_of
 returns-in-ValuePointer c =
     let a = c.args in
     let ts = a.types.now in
@@ -101,7 +99,7 @@ returns-in-ValuePointer c =
     let ls = layouts_in a.before.rows.now in
     let w = c.own_record-w in
     let kind : 6 ≡ w.result.kind = rw c.in-ValuePointer.is at c.in_ok-try_from.ensures in
-    rw (c.value_pointer_fields.ensures (member_count ms)) at c.handle_layout.ensures
+    c.value_pointer_layout.ensures (member_count ms) (type_count ts) a.before.i ls (struct_members ts ms a.before.i)
     ∙ by_words ts ms ls a.before.i w.result w.ensures 6 (sym kind) (λ q. omega arith) c.requires
 
 pub returns-in-Array : goal.returns-in-Array
@@ -127,7 +125,6 @@ returns-in-Struct c =
     ∙ struct-words ts ms ls a.before.i w.result w.ensures (sym kind) c.requires
 
 pub returns-in-Image : goal.returns-in-Image
-unfolding inner_of layout_of try_size alignment_of
 returns-in-Image c =
     let a = c.args in
     let ts = a.types.now in
@@ -135,11 +132,10 @@ returns-in-Image c =
     let ls = layouts_in a.before.rows.now in
     let w = c.own_record-w in
     let kind : 9 ≡ w.result.kind = rw c.in-Image.is at c.in_ok-try_from.ensures in
-    rw (c.image_fields.ensures (member_count ms)) at c.handle_layout-in-Image.ensures
+    c.image_layout.ensures (member_count ms) (type_count ts) a.before.i ls (struct_members ts ms a.before.i)
     ∙ by_words ts ms ls a.before.i w.result w.ensures 9 (sym kind) (λ q. omega arith) c.requires
 
 pub returns-in-Sampler : goal.returns-in-Sampler
-unfolding inner_of layout_of try_size alignment_of
 returns-in-Sampler c =
     let a = c.args in
     let ts = a.types.now in
@@ -147,11 +143,10 @@ returns-in-Sampler c =
     let ls = layouts_in a.before.rows.now in
     let w = c.own_record-w in
     let kind : 10 ≡ w.result.kind = rw c.in-Sampler.is at c.in_ok-try_from.ensures in
-    rw (c.sampler_fields.ensures (member_count ms)) at c.handle_layout-in-Sampler.ensures
+    c.sampler_layout.ensures (member_count ms) (type_count ts) a.before.i ls (struct_members ts ms a.before.i)
     ∙ by_words ts ms ls a.before.i w.result w.ensures 10 (sym kind) (λ q. omega arith) c.requires
 
 pub returns-in-AccelerationStructure : goal.returns-in-AccelerationStructure
-unfolding inner_of layout_of try_size alignment_of
 returns-in-AccelerationStructure c =
     let a = c.args in
     let ts = a.types.now in
@@ -159,11 +154,10 @@ returns-in-AccelerationStructure c =
     let ls = layouts_in a.before.rows.now in
     let w = c.own_record-w in
     let kind : 11 ≡ w.result.kind = rw c.in-AccelerationStructure.is at c.in_ok-try_from.ensures in
-    rw (c.acceleration_fields.ensures (member_count ms)) at c.handle_layout-in-AccelerationStructure.ensures
+    c.acceleration_layout.ensures (member_count ms) (type_count ts) a.before.i ls (struct_members ts ms a.before.i)
     ∙ by_words ts ms ls a.before.i w.result w.ensures 11 (sym kind) (λ q. omega arith) c.requires
 
 pub returns-in-RayQuery : goal.returns-in-RayQuery
-unfolding fields_ok inner_of layout_of try_size alignment_of
 returns-in-RayQuery c =
     let a = c.args in
     let ts = a.types.now in
@@ -171,11 +165,10 @@ returns-in-RayQuery c =
     let ls = layouts_in a.before.rows.now in
     let w = c.own_record-w in
     let kind : 12 ≡ w.result.kind = rw c.in-RayQuery.is at c.in_ok-try_from.ensures in
-    rw (c.acceleration_fields-in-RayQuery.ensures (member_count ms)) at c.handle_layout-in-RayQuery.ensures
+    c.ray_query_layout.ensures (member_count ms) (type_count ts) a.before.i ls (struct_members ts ms a.before.i)
     ∙ by_words ts ms ls a.before.i w.result w.ensures 12 (sym kind) (λ q. omega arith) c.requires
 
 pub returns-in-BindingArray : goal.returns-in-BindingArray
-unfolding inner_of layout_of try_size alignment_of
 returns-in-BindingArray c =
     let a = c.args in
     let ts = a.types.now in
@@ -183,5 +176,5 @@ returns-in-BindingArray c =
     let ls = layouts_in a.before.rows.now in
     let w = c.own_record-w in
     let kind : 13 ≡ w.result.kind = rw c.in-BindingArray.is at c.in_ok-try_from.ensures in
-    rw (c.binding_array_fields.ensures (member_count ms) w.result.a, c.type_count.ensures) at c.based_layout-in-BindingArray.ensures
+    c.binding_array_layout.ensures (member_count ms) a.before.i ls (struct_members ts ms a.before.i)
     ∙ by_words ts ms ls a.before.i w.result w.ensures 13 (sym kind) (λ q. omega arith) c.requires

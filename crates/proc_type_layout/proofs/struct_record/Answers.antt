@@ -17,7 +17,7 @@ use Rattle.proc_type_layout.proofs.struct_record.Goals as goal
 pub member_part-part-requires : goal.member_part-part-requires
 member_part-part-requires c =
     let a = c.args in
-    members-within (member_count a.members.now) a.w.a a.w.b a.w.c a.w.d a.w.e (sym (rw c.member_count.ensures at (c.struct_fields.ensures a.w.c)) ∙ c.if-struct_fields.true)
+    members-within (member_count a.members.now) a.w.a a.w.b a.w.c a.w.d a.w.e (rw c.member_count.ensures at (c.in_ok-struct_fields.ensures a.w.c))
 
 pub returns-in_err-located : goal.returns-in_err-located
 unfolding inner_of layout_of try_size alignment_of
@@ -25,24 +25,25 @@ returns-in_err-located c =
     let a = c.args in
     let part = take (a.w.b * member_words) (drop (a.w.a * member_words) a.members.now) in
     let located = rw (c.member_part-part.ensures.words, c.member_part-part.ensures.count) at c.members_alignment.ensures.result_value in
-    let same : c.from_residual.result ≡ Err c.in_err-located.field-0.0 = search rules in
-    λ n. rw (sym (rw c.member_count.ensures at (c.struct_fields.ensures a.w.c)) ∙ c.if-struct_fields.true)
+    let same : c.from_residual-in_err-located.result ≡ Err c.in_err-located.field-0.0 = search rules in
+    λ n. rw (rw c.member_count.ensures at (c.in_ok-struct_fields.ensures a.w.c))
     (ap judged same ∙ ap (λ (o : Result ℕ). sized_layout o a.w.c) (ap located_result (sym c.in_err-located.was) ∙ located)
     ∙ sym (require_then (sources_located part) 2 0 0 (members_alignment (layouts_in a.before.rows.now) a.before.i part a.w.b) (λ x. ok (record { size = a.w.c; alignment = x }))))
 
-pub returns-then-struct_fields : goal.returns-then-struct_fields
+pub returns : goal.returns
 unfolding inner_of layout_of try_size alignment_of
-returns-then-struct_fields c =
+returns c =
     let a = c.args in
     let part = take (a.w.b * member_words) (drop (a.w.a * member_words) a.members.now) in
     let located = rw (c.member_part-part.ensures.words, c.member_part-part.ensures.count) at c.members_alignment.ensures.result_value in
-    λ n. rw (sym (rw c.member_count.ensures at (c.struct_fields.ensures a.w.c)) ∙ c.if-struct_fields.true)
+    λ n. rw (rw c.member_count.ensures at (c.in_ok-struct_fields.ensures a.w.c))
     (ap (λ (o : Result ℕ). sized_layout o a.w.c) (ap located_result (sym c.in_ok-located.was) ∙ located)
     ∙ sym (require_then (sources_located part) 2 0 0 (members_alignment (layouts_in a.before.rows.now) a.before.i part a.w.b) (λ x. ok (record { size = a.w.c; alignment = x }))))
 
 -- a field outside its set
-pub returns : goal.returns
-returns c =
+pub returns-in_err-struct_fields : goal.returns-in_err-struct_fields
+returns-in_err-struct_fields c =
     let a = c.args in
-    λ n. rw (sym (rw c.member_count.ensures at (c.struct_fields.ensures a.w.c)) ∙ c.if-struct_fields.false)
-    (c.unfit.ensures ∙ sym (refused_twice 2 0 0 (sources_located (take (a.w.b * member_words) (drop (a.w.a * member_words) a.members.now)))))
+    let same : c.from_residual.result ≡ Err c.in_err-struct_fields.field-0.0 = search rules in
+    λ n. let told = rw c.member_count.ensures at (c.in_err-struct_fields.ensures a.w.c) in
+    rw (same, told.0, told.1) (sym (refused_twice 2 0 0 (sources_located (take (a.w.b * member_words) (drop (a.w.a * member_words) a.members.now)))))

@@ -1,9 +1,13 @@
-use mathlib.Core.Path.{sym, ◌∙◌}
+use Rattle.std.proofs.Common.{rules, Err}
+use mathlib.Core.Path.{◌≡◌, sym, ◌∙◌, ap}
+use Prim.Native.Nat.{ℕ, ◌*◌}
+use Rattle.ir_records.specs.Result.{Result}
+use Rattle.ir_records.specs.Refusal.{judged}
 use Rattle.ir_records.specs.Record.{inner_of}
 use Rattle.proc_type_methods.specs.TypeMethods.{try_size}
 use Rattle.proc_type_alignment.specs.TypeAlignment.{alignment_of}
 use Rattle.proc_type_alignment.proofs.AlignmentLaws.{factor_within}
-use Rattle.proc_type_layout.specs.TypeLayout.{layout_of}
+use Rattle.proc_type_layout.specs.TypeLayout.{sized_layout, layout_of}
 use Rattle.proc_type_layout.proofs.TypeLayoutLaws.{taken_bounds}
 use Rattle.proc_type_layout.proofs.vector_layout.Goals as goal
 
@@ -11,22 +15,27 @@ pub vector_size-requires : goal.vector_size-requires
 unfolding inner_of
 vector_size-requires c =
     let a = c.args in
-    let w = taken_bounds 1 a.w.a a.w.b a.w.c a.w.d a.w.e c.vector_fields.result c.vector_fields.ensures c.if-vector_fields.true in record { size_bound = w.0; width_bound = w.1 }
+    let b = taken_bounds 1 a.w.a a.w.b a.w.c a.w.d a.w.e c.in_ok-vector_fields.ensures in
+    record { size_bound = b.0; width_bound = b.1 }
 
 pub leaf_alignment-requires : goal.leaf_alignment-requires
 unfolding inner_of
 leaf_alignment-requires c =
     let a = c.args in
-    let b = taken_bounds 1 a.w.a a.w.b a.w.c a.w.d a.w.e c.vector_fields.result c.vector_fields.ensures c.if-vector_fields.true in
+    let b = taken_bounds 1 a.w.a a.w.b a.w.c a.w.d a.w.e c.in_ok-vector_fields.ensures in
     record { factor_bound = rw c.vector_alignment-factor.ensures (factor_within a.w.a); width_bound = b.1 }
 
-pub returns-then-vector_fields : goal.returns-then-vector_fields
+pub returns-in_err-alignment : goal.returns-in_err-alignment
 unfolding inner_of layout_of try_size alignment_of
-returns-then-vector_fields c =
+returns-in_err-alignment c =
+    let a = c.args in
+    let same : c.from_residual-in_err-alignment.result ≡ Err c.in_err-alignment.field-0.0 = search rules in
     λ m n i layouts members.
-    rw (sym (c.vector_fields.ensures m) ∙ c.if-vector_fields.true) (rw (c.leaf_alignment.ensures, c.vector_size.ensures, c.vector_alignment-factor.ensures) at c.with_alignment.ensures)
+    rw (c.in_ok-vector_fields.ensures m) (ap judged same ∙ ap (λ (o : Result ℕ). sized_layout o (a.w.a * a.w.c)) (ap judged (sym c.in_err-alignment.was) ∙ (rw c.vector_alignment-factor.ensures at c.leaf_alignment.ensures)))
 
 pub returns : goal.returns
+unfolding inner_of layout_of try_size alignment_of
 returns c =
+    let a = c.args in
     λ m n i layouts members.
-    rw (sym (c.vector_fields.ensures m) ∙ c.if-vector_fields.false) c.unfit.ensures
+    rw (c.in_ok-vector_fields.ensures m, c.vector_size.ensures) (ap (λ (o : Result ℕ). sized_layout o (a.w.a * a.w.c)) (ap judged (sym c.in_ok-alignment.was) ∙ (rw c.vector_alignment-factor.ensures at c.leaf_alignment.ensures)))

@@ -8,4 +8,8 @@ use Rattle.program_arguments.proofs.ArgumentLaws.{prepend}
 use Rattle.program_arguments.proofs.read_numbers.Given as goal
 
 abbrev pub invariant-loop-k : goal.invariant-loop-k
-invariant-loop-k l = (l.k ≤ l.most) × (l.from ≤ length l.s) × (prepend (take l.k l.numbers) (numbers_of l.command (l.most - l.k) (l.k + 2) (words (drop l.from l.s))) ≡ numbers_of l.command l.most 2 (words (drop l.at l.s))) × (length l.numbers ≡ length l.initial.numbers)
+invariant-loop-k l = record {
+  within : (l.k ≤ length l.numbers) × (l.from ≤ length l.s);
+  long : length l.numbers ≡ length l.initial.numbers;
+  same : prepend (take l.k l.numbers) (numbers_of l.command (length l.initial.numbers - l.k) (l.k + 2) (words (drop l.from l.s))) ≡ numbers_of l.command (length l.initial.numbers) 2 (words (drop l.at l.s));
+}

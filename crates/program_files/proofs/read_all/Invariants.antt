@@ -4,9 +4,9 @@ use Prim.Native.Nat.{◌-◌, ◌≤◌}
 use lib.ListN.{length}
 use Rattle.program_files.proofs.read_all.Given as goal
 
-abbrev pub invariant-loop-now : goal.invariant-loop-now
-invariant-loop-now g l =
+abbrev pub invariant-loop-more : goal.invariant-loop-more
+invariant-loop-more g l =
     (l.held ≤ length l.bytes) × (length l.bytes ≡ length l.initial.bytes)
 
-abbrev pub decreases-loop-now : goal.decreases-loop-now
-decreases-loop-now g l = length l.initial.bytes - l.held
+abbrev pub decreases-loop-more : goal.decreases-loop-more
+decreases-loop-more g l = length l.initial.bytes - l.held

@@ -1,27 +1,20 @@
--- `program_words::run_end` meets its contract. The invariant: the run from `at` on ends where the run from i on does. Assumes nothing.
-use mathlib.Core.Path.{sym, ◌∙◌}
-use native.Mathlib.Omega.{arith}
-use Rattle.program_words.specs.Words.{is_in}
-use Rattle.program_words.proofs.WordLaws.{run_more, run_stop, run_done}
+-- `program_words::run_end` meets its contract: the run ends at the first byte that is not of the class. Assumes nothing.
+use Rattle.std.proofs.Common.{◌≡◌, ◌+◌, ◌-◌, ◌∙◌, arith, ap, not, ℕ, length, take, drop, length-drop, rules}
+use lib.Seq.{take_all}
+use Rattle.std.specs.List.{position}
+use Rattle.std.proofs.lemmas.Iterator.{YieldsList-from_slice}
+use Rattle.std.proofs.lemmas.Iterator.Search.{position_from_yields_List}
+use Rattle.program_words.specs.Words.{is_in, run_of}
+use Rattle.program_words.proofs.WordLaws.{run_found, run_within}
 use Rattle.program_words.proofs.run_end.Goals as goal
-
-pub returns-then-not-is_in : goal.returns-then-not-is_in
-returns-then-not-is_in c =
-    let a = c.args in
-    let l = c.loop-i in
-    let z = run_stop (is_in a.class) a.s.now l.i c.loop-i-test.true (sym c.is_in.ensures ∙ c.if-not-is_in.true) in
-    record { value = omega arith; lower_bound = omega arith }
-
-pub loop-i-preserved : goal.loop-i-preserved
-loop-i-preserved c =
-    let a = c.args in
-    let l = c.loop-i in
-    let z = run_more (is_in a.class) a.s.now l.i c.loop-i-test.true (sym c.is_in.ensures ∙ c.if-not-is_in.false) in
-    omega arith
 
 pub returns : goal.returns
 returns c =
     let a = c.args in
-    let l = c.loop-i in
-    let z = run_done (is_in a.class) a.s.now l.i c.loop-i-test.false in
-    record { value = omega arith; lower_bound = omega arith }
+    let rest = drop a.at a.s.now in
+    let p = is_in a.class in
+    let all : take (length a.s.now - a.at) rest ≡ rest = take_all (length a.s.now - a.at) rest (omega (arith, length-drop a.at a.s.now)) in
+    let found : c.position.result ≡ position (λ b. not (p b)) rest =
+    position_from_yields_List (λ b. not (p b)) _ _ c.position.result c.position.ensures.ran (YieldsList-from_slice rest (c.iter.ensures.rest ∙ all)) (λ x b q k. search rules) in
+    let n : c.unwrap_or-length.result ≡ run_of p rest = rw (c.unwrap_or-length.ensures, all, found) (run_found p rest) in
+    record { value = ap (λ (k : ℕ). a.at + k) n; lower_bound = omega (arith, n, run_within p rest, length-drop a.at a.s.now, c.requires) }

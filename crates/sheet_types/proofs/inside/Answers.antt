@@ -1,24 +1,28 @@
 -- `sheet_types::inside` meets its contract. The invariant: what is inside the arrays that are left is inside all. Assumes nothing.
-use borrow.Author.Rules.{rules}
-use mathlib.Core.Path.{sym, ◌∙◌}
+use Rattle.std.proofs.Common.{sym, ◌∙◌, rules}
 use Rattle.sheet_types.proofs.TypeLaws.{arrays_step, arrays_stop, arrays_done}
 use Rattle.sheet_types.proofs.inside.Goals as goal
 
-pub returns-then-type_word-ne-ARRAY_KIND : goal.returns-then-type_word-ne-ARRAY_KIND
-returns-then-type_word-ne-ARRAY_KIND c =
-    let b = c in
-    let a = b.args in
-    sym (arrays_stop a.types.now a.depth b.loop.counter b.loop.t c.loop-test.true (rw c.type_word.ensures at c.if-type_word-ne-ARRAY_KIND.true)) ∙ b.loop.invariant.1
+pub returns-in-None-clause-i : goal.returns-in-None-clause-i
+returns-in-None-clause-i c =
+    let l = c.loop in
+    let a = c.args in
+    let e = rw l.invariant.sheet at c.in-None.ensures in
+    sym (arrays_stop a.of.sheet.types.now a.depth l.counter l.t.i c.loop-test.true e) ∙ l.invariant.same
 
 pub loop-preserved : goal.loop-preserved
 loop-preserved c =
-    let b = c in
-    let a = b.args in
-    let e = sym c.type_word.ensures ∙ c.if-type_word-ne-ARRAY_KIND.false in
-    (search rules, rw c.type_word-t.ensures (sym (arrays_step a.types.now a.depth b.loop.counter b.loop.t c.loop-test.true e) ∙ b.loop.invariant.1))
+    let l = c.loop in
+    let a = c.args in
+    let e = rw l.invariant.sheet at c.in-Some.ensures in
+    record {
+      within = search rules;
+      sheet = e.1;
+      same = rw e.2 (sym (arrays_step a.of.sheet.types.now a.depth l.counter l.t.i c.loop-test.true e.0) ∙ l.invariant.same);
+    }
 
-pub returns : goal.returns
-returns c =
-    let b = c in
-    let a = b.args in
-    sym (arrays_done a.types.now a.depth b.loop.counter b.loop.t c.loop-test.false) ∙ b.loop.invariant.1
+pub returns-clause-i : goal.returns-clause-i
+returns-clause-i c =
+    let l = c.loop in
+    let a = c.args in
+    sym (arrays_done a.of.sheet.types.now a.depth l.counter l.t.i c.loop-test.false) ∙ l.invariant.same

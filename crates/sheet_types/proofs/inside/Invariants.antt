@@ -5,4 +5,8 @@ use Rattle.sheet_types.specs.Types.{inside_arrays}
 use Rattle.sheet_types.proofs.inside.Given as goal
 
 abbrev pub invariant-loop : goal.invariant-loop
-invariant-loop l = (l.counter ≤ l.depth) × (inside_arrays l.types (l.depth - l.counter) l.t ≡ inside_arrays l.types l.depth l.ty)
+invariant-loop l = record {
+  within : l.counter ≤ l.depth;
+  sheet : l.t.sheet ≡ l.of.sheet;
+  same : inside_arrays l.of.sheet.types.now (l.depth - l.counter) l.t.i ≡ inside_arrays l.of.sheet.types.now l.depth l.of.i;
+}

@@ -3,7 +3,7 @@ use borrow.Author.Tests.{ltb-true, leb-true}
 use mathlib.Core.Path.{sym}
 use Prim.Native.Nat.{◌+◌}
 use lib.Dec.{ltb}
-use Rattle.spirv_instruction.proofs.BoundLaws.{typed_bounds}
+use Rattle.spirv_instruction.proofs.BoundLaws.{typed_bounds, rows_sound}
 use Rattle.spirv_instruction.proofs.InstructionLaws.{some_rows, some-rows, read_made}
 use Rattle.spirv_members.proofs.NumberLaws.{and_true}
 use Rattle.spirv_instruction.proofs.type_read.Goals as goal
@@ -18,5 +18,6 @@ returns-then-count-space c =
         typed_bounds ws (record { types = a.known.tables.types.now; members = some_rows a.known.rows; alignments = a.known.tables.alignments.now }) a.known.place.at a.known.tables.bounded _ (sym (c.in_ok-typed.ensures (some_rows a.known.rows) (some-rows a.known.rows))),
         rw c.type_count-count.ensures at (ltb-true c.type_count-count.result a.space.types p.0),
         leb-true (a.known.rows + c.row_count-rows.result) a.space.members p.1,
+        rw c.row_count-rows.ensures.0 (rows_sound ws (record { types = a.known.tables.types.now; members = some_rows a.known.rows; alignments = a.known.tables.alignments.now }) a.known.place.at _ (sym (c.in_ok-typed.ensures (some_rows a.known.rows) (some-rows a.known.rows)))),
       ),
     )

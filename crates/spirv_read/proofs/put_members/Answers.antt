@@ -1,4 +1,5 @@
 -- `spirv_read::put_members` meets its contract. The invariant: j rows are written. Assumes nothing.
+use Rattle.spirv_members.proofs.AlignmentLaws.{sound_at}
 use Rattle.spirv_read.proofs.PutLaws.{rows_start, rows_more}
 use Rattle.spirv_read.proofs.put_members.Goals as goal
 
@@ -6,6 +7,11 @@ pub loop-j-init : goal.loop-j-init
 loop-j-init c =
     let a = c.args in
     rows_start a.place.input.words.now a.place.at a.members.now a.m a.n
+
+pub put_member-requires-clause-sound : goal.put_member-requires-clause-sound
+put_member-requires-clause-sound c =
+    let a = c.args in
+    sound_at a.place.input.words.now a.place.at a.n c.loop-j.j c.loop-j-test.true c.requires.sound
 
 pub loop-j-preserved : goal.loop-j-preserved
 loop-j-preserved c =

@@ -14,7 +14,7 @@ overflow_cast-n c =
     omega arith
 
 pub judge_tables-requires : goal.judge_tables-requires
-judge_tables-requires c = record { n_value = refl; rows_value = sym c.tables_fit-fits.ensures ∙ T_true _ (and_right _ _ (true_T c.if-not-known-fits.false)) }
+judge_tables-requires c = record { n_value = c.type_count-n.ensures; rows_value = sym c.tables_fit-fits.ensures ∙ T_true _ (and_right _ _ (true_T c.if-not-known-fits.false)) }
 
 pub returns : goal.returns
 unfolding arena_answer arena_words
@@ -22,7 +22,7 @@ returns c =
     let known = sym c.capabilities_known-known.ensures ∙ T_true _ (and_left _ _ (true_T c.if-not-known-fits.false)) in
     let fits = sym c.tables_fit-fits.ensures ∙ T_true _ (and_right _ _ (true_T c.if-not-known-fits.false)) in
     let answer = c.judge_tables.ensures.value in
-    record { value = rw (known, fits) answer; rows_after = rw (known, fits) (rw (← answer) c.judge_tables.ensures.rows_after) }
+    record { value = rw (known, fits) answer; rows_after = rw (known, fits) (rw (← answer) (rw c.type_count-n.ensures at c.judge_tables.ensures.rows_after)) }
 
 pub returns-then-not-known-fits : goal.returns-then-not-known-fits
 unfolding arena_answer arena_words

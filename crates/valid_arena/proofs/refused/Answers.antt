@@ -1,4 +1,3 @@
-use Rattle.std.proofs.Common.{rules, Err}
 use Rattle.ir_records.specs.Refusal.{outcome_of}
 use mathlib.Core.Path.{◌≡◌, refl, sym, ap, ◌∙◌}
 use mathlib.Core.List.{List, ◌++◌}
@@ -15,19 +14,18 @@ clear-requires c =
     let f = tables_fitting _ _ _ s.requires.rows_value in
     omega (arith, f.rows, s.requires.n_value, c.layout.auto.rows)
 
-pub returns-in_err-layout : goal.returns-in_err-layout
-returns-in_err-layout c =
+pub returns-in-Err : goal.returns-in-Err
+returns-in-Err c =
     let a = c.args in
     let laid = c.layout in
-    let same : c.from_residual.result ≡ Err c.in_err-layout.field-0.0 = search rules in
-    let l = layout_refused a.types.now a.members.now a.rows.now c.requires.rows_value (sym laid.ensures.value ∙ ap outcome_of c.in_err-layout.was) in
-    record { value = rw l.0 (ap outcome_of same); rows_after = rw c.requires.n_value (laid.ensures.rows_after ∙ l.1) }
+    let l = layout_refused a.types.now a.members.now a.rows.now c.requires.rows_value (sym laid.ensures.value ∙ ap outcome_of c.in-Err.is) in
+    record { value = rw l.0 refl; rows_after = rw c.requires.n_value (laid.ensures.rows_after ∙ l.1) }
 
-pub returns : goal.returns
-returns c =
+pub returns-in-Ok : goal.returns-in-Ok
+returns-in-Ok c =
     let a = c.args in
     let ts = a.types.now in let ms = a.members.now in let rows = a.rows.now in
     let laid = c.layout in
-    let l = laid_out ts ms rows (sym laid.ensures.value ∙ ap outcome_of c.in_ok-layout.was) in
+    let l = laid_out ts ms rows (sym laid.ensures.value ∙ ap outcome_of c.in-Ok.is) in
     let rest : drop (a.n * 14) laid.new.rows ≡ drop (a.n * 14) rows = rw (c.requires.n_value, laid.ensures.rows_after) (laid_rest ts ms rows l) in
     record { value = rw l.outcome refl; rows_after = c.clear.ensures ∙ ap (λ (words : List ℕ). replicate (a.n * 14) 0 ++ words) rest }

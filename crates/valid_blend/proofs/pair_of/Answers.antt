@@ -2,7 +2,7 @@ use mathlib.Core.Path.{refl, sym, ◌∙◌}
 use Rattle.valid_blend.proofs.pair_of.Goals as goal
 
 pub returns-then-other_location : goal.returns-then-other_location
-returns-then-other_location c = λ before own. rw (sym c.other_location.ensures ∙ c.if-other_location.true, c.invalid.ensures) refl
+returns-then-other_location c = λ before own. rw (sym c.other_location.ensures ∙ c.if-other_location.true, c.into.ensures) refl
 
 pub returns : goal.returns
 returns c =

@@ -1,6 +1,5 @@
 use mathlib.Core.Path.{sym}
 use native.Mathlib.Omega.{arith}
-use native.Mathlib.Numerals.{add-one}
 use Rattle.ir_records.specs.Refusal.{number_of}
 use Rattle.valid_flags.specs.Flags.{bit}
 use Rattle.valid_width.specs.Width.{dual_source_blending}

@@ -1,6 +1,6 @@
 -- `valid_member_bounds::member_bounds` meets its contract: each answer follows from the tests on the way, in the order of the definition. Assumes nothing.
 use mathlib.Core.Path.{refl, sym, ◌∙◌}
-use borrow.Author.Tests.{le-leb, lt-leb}
+use borrow.Author.Tests.{le-leb}
 use Rattle.valid_member_bounds.proofs.member_bounds.Goals as goal
 
 pub returns-then-not-is_member_data : goal.returns-then-not-is_member_data

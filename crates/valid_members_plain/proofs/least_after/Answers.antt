@@ -12,14 +12,14 @@ overflow_add-apart c = omega (arith, c.round_up.ensures, (round_up_next 16 c.own
 pub returns-then-end-apart : goal.returns-then-end-apart
 unfolding type_inner inner_of
 returns-then-end-apart c =
-    let is-struct = sym c.own_word.ensures ∙ c.if-own_word-eq-STRUCT_KIND.true in
+    let is-struct = sym c.own_word.ensures ∙ c.if-own_word.true in
     let apart = rw c.own_word-span.ensures at c.round_up.ensures in
     rw (is-struct, ← apart) (sym (max-eq_right (omega (arith, c.if-end-apart.true))))
 
 pub returns-else-end-apart : goal.returns-else-end-apart
 unfolding type_inner inner_of
 returns-else-end-apart c =
-    let is-struct = sym c.own_word.ensures ∙ c.if-own_word-eq-STRUCT_KIND.true in
+    let is-struct = sym c.own_word.ensures ∙ c.if-own_word.true in
     let apart = rw c.own_word-span.ensures at c.round_up.ensures in
     rw (is-struct, ← apart) (sym (max-eq_left (omega (arith, c.if-end-apart.false))))
 
@@ -28,4 +28,4 @@ unfolding type_inner
 returns c =
     let a = c.args in
     let w = type_word a.types.now a.t in
-    rw (no_struct_kind (w 0) (w 1) (w 2) (w 3) (w 4) (w 5) a.offset (λ e. c.if-own_word-eq-STRUCT_KIND.false (c.own_word.ensures ∙ e))) refl
+    rw (no_struct_kind (w 0) (w 1) (w 2) (w 3) (w 4) (w 5) a.offset (λ e. c.if-own_word.false (c.own_word.ensures ∙ e))) refl

@@ -4,7 +4,7 @@ use Prim.Native.Nat.{◌+◌}
 use native.Mathlib.Omega.{arith}
 use Rattle.ir_records.specs.Record.{type_inner}
 use Rattle.valid_type_info.specs.TypeInfo.{rows_in}
-use Rattle.valid_members_plain.proofs.PlainLaws.{apart, storage_kept, bounds-step, uniform_by, storage_step}
+use Rattle.valid_members_plain.proofs.PlainLaws.{apart, storage_kept, bounds-step, uniform_by, still_failed, storage_step}
 use Rattle.valid_members_plain.proofs.plain_member.Goals as goal
 
 pub returns : goal.returns
@@ -19,9 +19,10 @@ returns c = λ rule u count j before failed e.
     let inside = rw end at c.if-s-end.false in
     let clear = apart a.state.end a.offset a.s.now.before.i j before (rw e c.if-offset-state.false) (omega (arith, fits.offset)) in
     let kept = sym c.keeps.ensures ∙ c.if-not-keeps.false in
-    let keeps = storage_kept a.both row a.offset kept in (
+    let keeps = storage_kept a.state.uniform row a.offset kept in (
       rw (end, c.both.ensures, c.word-flags.ensures) (bounds-step this row a.s.now.before.i count a.s.now.span j a.t a.offset before a.state plain clear inside (search rules)),
-      rw c.uniform_after.ensures (uniform_by this row a.s.now.before.i count a.s.now.span j a.t a.offset before a.state plain a.both rule u failed clear kept),
+      rw c.uniform_after.ensures (uniform_by this row a.s.now.before.i count a.s.now.span j a.t a.offset before a.state plain a.state.uniform rule u failed clear kept),
+      rw c.uniform_after.ensures (still_failed a.state.uniform _ u failed),
       rw (c.max.ensures, c.word-2.ensures) (storage_step this row a.s.now.before.i count a.s.now.span j a.t a.offset before a.state plain keeps.storage_ok keeps.storage),
       keeps.immediates,
       sym c.least_after.ensures,

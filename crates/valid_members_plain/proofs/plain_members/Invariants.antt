@@ -14,6 +14,6 @@ abbrev pub invariant-loop-j : goal.invariant-loop-j
 invariant-loop-j l =
     (l.fn.from.taken ≤ l.j)
     × (l.j ≤ l.s.part.count)
-    × ((rule : UniformRule) (u : Verdict) (immediates : ℕ) → HasFailed l.both u
-    → PlainAfter (least_for rule) (type_inner l.s.types.now) (rows_in l.s.before.rows.now) l.s.before.i l.s.part.count l.s.span l.s.part.words.now l.fn.from.taken (uniform_so_far l.both l.initial.state.uniform u) immediates l.initial.state
-    → PlainAfter (least_for rule) (type_inner l.s.types.now) (rows_in l.s.before.rows.now) l.s.before.i l.s.part.count l.s.span l.s.part.words.now l.j (uniform_so_far l.both l.state.uniform u) immediates l.state)
+    × ((rule : UniformRule) (u : Verdict) (immediates : ℕ) → HasFailed l.initial.state.uniform u
+    → PlainAfter (least_for rule) (type_inner l.s.types.now) (rows_in l.s.before.rows.now) l.s.before.i l.s.part.count l.s.span l.s.part.words.now l.fn.from.taken (uniform_so_far l.initial.state.uniform u) immediates l.initial.state
+    → HasFailed l.state.uniform u × PlainAfter (least_for rule) (type_inner l.s.types.now) (rows_in l.s.before.rows.now) l.s.before.i l.s.part.count l.s.span l.s.part.words.now l.j (uniform_so_far l.state.uniform u) immediates l.state)

@@ -3,7 +3,6 @@ use mathlib.Core.Path.{refl, sym, ◌∙◌, ap}
 use Prim.Native.Nat.{◌*◌, ◌<◌}
 use native.Mathlib.Omega.{arith}
 use lib.ListN.{take}
-use lib.Seq.{length-take-le}
 use borrow.Author.Tests.{lt-ltb}
 use Rattle.ir_records.specs.Record.{type_inner}
 use Rattle.valid_flags.specs.Flags.{bit}
@@ -12,14 +11,13 @@ use Rattle.valid_type_info.specs.TypeInfo.{rows_in, row_sizes, row_flags}
 use Rattle.ir_records.specs.Refusal.{judged}
 use Rattle.valid_blend.proofs.BlendLaws.{blended_refused, flags_taken, flags_refused}
 use Rattle.valid_types.specs.ValidateType.{judge, flags_of, row_of, uniform_of, storage_of, immediates_of}
+use Rattle.ir_rows.specs.Rows.{row_word}
+use Rattle.valid_structs.proofs.StartLaws.{flags_in}
 use Rattle.valid_structs.proofs.members_row.Goals as goal
 
 pub returns-then-part-eq0 : goal.returns-then-part-eq0
 unfolding judge flags_of
 returns-then-part-eq0 c = rw c.if-part-eq0.true (rw c.of.ensures refl, refl)
-
-pub blended_flags-requires : goal.blended_flags-requires
-blended_flags-requires c = record { by_index = rw (← c.of-before.ensures.i) at c.requires.by_index; sourceless = c.requires.sourceless }
 
 pub put-requires : goal.put-requires
 put-requires c = c.requires.i_in_bounds
@@ -41,7 +39,7 @@ returns-in_ok-flags-in-Ok c =
     let rows = rows_in (take (a.i * 14) a.rows.now) in
     let dual = bit a.capabilities dual_source_blending in
     let parts = rw (c.in-Ok.is, c.of-before.ensures.rows, c.of-before.ensures.i) at c.members_of.ensures in
-    let flags = flags_taken dual inner (row_sizes rows) (row_flags rows) a.part.count a.span a.part.words.now _ parts.0 ∙ sym (rw c.of-before.ensures.rows at c.blended_flags.ensures) ∙ ap judged c.in_ok-flags-in-Ok.was in
+    let flags = flags_taken dual inner (row_sizes rows) (row_flags rows) a.part.count a.span a.part.words.now _ parts.0 ∙ sym (rw c.of-before.ensures.rows at (c.blended_flags.ensures (row_flags (rows_in c.of-before.result.rows.now)) (λ t r b h. let told : r ≡ row_word c.of-before.result.rows.now t 2 = search rules in told ∙ flags_in c.of-before.result.rows.now t))) ∙ ap judged c.in_ok-flags-in-Ok.was in
     rw (lt-ltb 0 a.part.count some, flags, parts.1, parts.2, parts.3)
     (refl, rw (c.span_verdict-uniform.ensures, c.span_verdict-storage.ensures) at c.put.ensures)
 
@@ -54,7 +52,7 @@ returns-in_err-flags-in-Ok c =
     let rows = rows_in (take (a.i * 14) a.rows.now) in
     let dual = bit a.capabilities dual_source_blending in
     let parts = rw (c.in-Ok.is, c.of-before.ensures.rows, c.of-before.ensures.i) at c.members_of.ensures in
-    let flags = flags_taken dual inner (row_sizes rows) (row_flags rows) a.part.count a.span a.part.words.now _ parts.0 ∙ sym (rw c.of-before.ensures.rows at c.blended_flags.ensures) ∙ ap judged c.in_err-flags-in-Ok.was in
+    let flags = flags_taken dual inner (row_sizes rows) (row_flags rows) a.part.count a.span a.part.words.now _ parts.0 ∙ sym (rw c.of-before.ensures.rows at (c.blended_flags.ensures (row_flags (rows_in c.of-before.result.rows.now)) (λ t r b h. let told : r ≡ row_word c.of-before.result.rows.now t 2 = search rules in told ∙ flags_in c.of-before.result.rows.now t))) ∙ ap judged c.in_err-flags-in-Ok.was in
     let same : c.from_residual.result ≡ Err c.in_err-flags-in-Ok.field-0.0 = search rules in
     rw (lt-ltb 0 a.part.count some, flags) (ap judged same, refl)
 

@@ -1,15 +1,15 @@
-use borrow.Author.Tests.{ne_eqb}
+use mathlib.Core.Path.{sym, ◌∙◌}
 use Rattle.valid_type_info.specs.Verdict.{member_verdict}
 use Rattle.valid_type_info.proofs.member_verdict.Goals as goal
 
-pub returns-then-code-ne0 : goal.returns-then-code-ne0
+pub returns-then-not-is_ok : goal.returns-then-not-is_ok
 unfolding member_verdict
-returns-then-code-ne0 c = rw (ne_eqb _ 0 c.if-code-ne0.true)
+returns-then-not-is_ok c = rw (sym c.is_ok.ensures ∙ c.if-not-is_ok.true)
 
-pub returns-then-member_code-ne0 : goal.returns-then-member_code-ne0
+pub returns-then-not-is_ok-2 : goal.returns-then-not-is_ok-2
 unfolding member_verdict
-returns-then-member_code-ne0 c = rw (c.if-code-ne0.false, ne_eqb _ 0 c.if-member_code-ne0.true)
+returns-then-not-is_ok-2 c = rw (sym c.is_ok.ensures ∙ c.if-not-is_ok.false, sym c.is_ok-2.ensures ∙ c.if-not-is_ok-2.true)
 
 pub returns : goal.returns
 unfolding member_verdict
-returns c = rw (c.if-code-ne0.false, c.if-member_code-ne0.false) c.offset_verdict.ensures
+returns c = rw (sym c.is_ok.ensures ∙ c.if-not-is_ok.false, sym c.is_ok-2.ensures ∙ c.if-not-is_ok-2.false) c.offset_verdict.ensures

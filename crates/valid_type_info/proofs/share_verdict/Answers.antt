@@ -1,4 +1,4 @@
-use borrow.Author.Tests.{ne_eqb}
+use mathlib.Core.Path.{sym, ◌∙◌}
 use Rattle.valid_type_info.specs.Verdict.{share_verdict}
 use Rattle.valid_type_info.proofs.share_verdict.Goals as goal
 
@@ -6,10 +6,10 @@ pub returns-then-shareable : goal.returns-then-shareable
 unfolding share_verdict
 returns-then-shareable c = rw c.if-shareable.true
 
-pub returns-then-code-ne0 : goal.returns-then-code-ne0
+pub returns-then-not-is_ok : goal.returns-then-not-is_ok
 unfolding share_verdict
-returns-then-code-ne0 c = rw (c.if-shareable.false, ne_eqb _ 0 c.if-code-ne0.true)
+returns-then-not-is_ok c = rw (c.if-shareable.false, sym c.is_ok.ensures ∙ c.if-not-is_ok.true)
 
 pub returns : goal.returns
 unfolding share_verdict
-returns c = rw (c.if-shareable.false, c.if-code-ne0.false)
+returns c = rw (c.if-shareable.false, sym c.is_ok.ensures ∙ c.if-not-is_ok.false)

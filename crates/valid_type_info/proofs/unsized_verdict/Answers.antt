@@ -1,4 +1,4 @@
-use borrow.Author.Tests.{ne_eqb}
+use mathlib.Core.Path.{sym, ◌∙◌}
 use Rattle.valid_type_info.specs.Verdict.{unsized_verdict}
 use Rattle.valid_type_info.proofs.unsized_verdict.Goals as goal
 
@@ -6,10 +6,10 @@ pub returns-then-sized : goal.returns-then-sized
 unfolding unsized_verdict
 returns-then-sized c = rw c.if-sized.true
 
-pub returns-then-code-ne0 : goal.returns-then-code-ne0
+pub returns-then-not-is_ok : goal.returns-then-not-is_ok
 unfolding unsized_verdict
-returns-then-code-ne0 c = rw (c.if-sized.false, ne_eqb _ 0 c.if-code-ne0.true)
+returns-then-not-is_ok c = rw (c.if-sized.false, sym c.is_ok.ensures ∙ c.if-not-is_ok.true)
 
 pub returns : goal.returns
 unfolding unsized_verdict
-returns c = rw (c.if-sized.false, c.if-code-ne0.false)
+returns c = rw (c.if-sized.false, sym c.is_ok.ensures ∙ c.if-not-is_ok.false)

@@ -1,7 +1,6 @@
 -- `valid_types::judge_plain` meets its contract: each arm knows the kind. Assumes nothing.
 use Rattle.std.proofs.Common.{rules, Err}
 use mathlib.Core.Path.{◌≡◌, sym}
-use native.Mathlib.Omega.{arith}
 use Rattle.ir_records.specs.Record.{type_count, type_inner}
 use Rattle.ir_records.proofs.KindLaws.{no_kind}
 use Rattle.valid_types.proofs.TypeRowLaws.{no_row}
@@ -11,73 +10,61 @@ pub returns-in-Scalar : goal.returns-in-Scalar
 returns-in-Scalar c =
     let a = c.args in
     let kind : 0 ≡ a.w.kind = rw c.in-Scalar.is at c.in_ok-try_from.ensures in
-    λ least m i members. rw (sym kind) (c.scalar_row.ensures least m (type_count a.types.now) i (type_inner a.types.now) a.rows.now members)
+    rw (sym kind) (c.scalar_row.ensures (type_count a.types.now) (type_inner a.types.now) a.rows.now)
 
 pub returns-in-Vector : goal.returns-in-Vector
 returns-in-Vector c =
     let a = c.args in
     let kind : 1 ≡ a.w.kind = rw c.in-Vector.is at c.in_ok-try_from.ensures in
-    λ least m i members. rw (sym kind) (c.vector_row.ensures least m (type_count a.types.now) i (type_inner a.types.now) a.rows.now members)
+    rw (sym kind) (c.vector_row.ensures (type_count a.types.now) (type_inner a.types.now) a.rows.now)
 
 pub returns-in-Matrix : goal.returns-in-Matrix
 returns-in-Matrix c =
     let a = c.args in
     let kind : 2 ≡ a.w.kind = rw c.in-Matrix.is at c.in_ok-try_from.ensures in
-    λ least m i members. rw (sym kind) (c.matrix_row.ensures least m (type_count a.types.now) i (type_inner a.types.now) a.rows.now members)
+    rw (sym kind) (c.matrix_row.ensures (type_count a.types.now) (type_inner a.types.now) a.rows.now)
 
 pub returns-in-CooperativeMatrix : goal.returns-in-CooperativeMatrix
 returns-in-CooperativeMatrix c =
     let a = c.args in
     let kind : 3 ≡ a.w.kind = rw c.in-CooperativeMatrix.is at c.in_ok-try_from.ensures in
-    λ least m i members. rw (sym kind) (c.cooperative_row.ensures least m (type_count a.types.now) i (type_inner a.types.now) a.rows.now members)
+    rw (sym kind) (c.cooperative_row.ensures (type_count a.types.now) (type_inner a.types.now) a.rows.now)
 
 pub returns-in-Atomic : goal.returns-in-Atomic
 returns-in-Atomic c =
     let a = c.args in
     let kind : 4 ≡ a.w.kind = rw c.in-Atomic.is at c.in_ok-try_from.ensures in
-    λ least m i members. rw (sym kind) (c.atomic_row.ensures least m (type_count a.types.now) i (type_inner a.types.now) a.rows.now members)
-
-pub returns-in-Pointer : goal.returns-in-Pointer
-returns-in-Pointer c =
-    let a = c.args in
-    let kind : 5 ≡ a.w.kind = rw c.in-Pointer.is at c.in_ok-try_from.ensures in
-    λ least m i members. rw (sym kind) (c.pointer_row.ensures least a.capabilities m i members)
+    rw (sym kind) (c.atomic_row.ensures (type_count a.types.now) (type_inner a.types.now) a.rows.now)
 
 pub returns-in-ValuePointer : goal.returns-in-ValuePointer
 returns-in-ValuePointer c =
     let a = c.args in
     let kind : 6 ≡ a.w.kind = rw c.in-ValuePointer.is at c.in_ok-try_from.ensures in
-    λ least m i members. rw (sym kind) (c.value_pointer_row.ensures least m (type_count a.types.now) i (type_inner a.types.now) a.rows.now members)
+    rw (sym kind) (c.value_pointer_row.ensures (type_count a.types.now) (type_inner a.types.now) a.rows.now)
 
 pub returns-in-Image : goal.returns-in-Image
 returns-in-Image c =
     let a = c.args in
     let kind : 9 ≡ a.w.kind = rw c.in-Image.is at c.in_ok-try_from.ensures in
-    λ least m i members. rw (sym kind) (c.image_row.ensures least m (type_count a.types.now) i (type_inner a.types.now) a.rows.now members)
+    rw (sym kind) (c.image_row.ensures (type_count a.types.now) (type_inner a.types.now) a.rows.now)
 
 pub returns-in-Sampler : goal.returns-in-Sampler
 returns-in-Sampler c =
     let a = c.args in
     let kind : 10 ≡ a.w.kind = rw c.in-Sampler.is at c.in_ok-try_from.ensures in
-    λ least m i members. rw (sym kind) (c.sampler_row.ensures least a.capabilities m (type_count a.types.now) i (type_inner a.types.now) a.rows.now members)
+    rw (sym kind) (c.sampler_row.ensures c.args.capabilities (type_count a.types.now) (type_inner a.types.now) a.rows.now)
 
 pub returns-in-AccelerationStructure : goal.returns-in-AccelerationStructure
 returns-in-AccelerationStructure c =
     let a = c.args in
     let kind : 11 ≡ a.w.kind = rw c.in-AccelerationStructure.is at c.in_ok-try_from.ensures in
-    λ least m i members. rw (sym kind) (c.acceleration_row.ensures least m (type_count a.types.now) i (type_inner a.types.now) a.rows.now members)
+    rw (sym kind) (c.acceleration_row.ensures (type_count a.types.now) (type_inner a.types.now) a.rows.now)
 
 pub returns-in-RayQuery : goal.returns-in-RayQuery
 returns-in-RayQuery c =
     let a = c.args in
     let kind : 12 ≡ a.w.kind = rw c.in-RayQuery.is at c.in_ok-try_from.ensures in
-    λ least m i members. rw (sym kind) (c.ray_query_row.ensures least m (type_count a.types.now) i (type_inner a.types.now) a.rows.now members)
-
-pub returns-in-BindingArray : goal.returns-in-BindingArray
-returns-in-BindingArray c =
-    let a = c.args in
-    let kind : 13 ≡ a.w.kind = rw c.in-BindingArray.is at c.in_ok-try_from.ensures in
-    λ least m i members. rw (sym kind) (c.binding_array_row.ensures least a.capabilities m i members)
+    rw (sym kind) (c.ray_query_row.ensures (type_count a.types.now) (type_inner a.types.now) a.rows.now)
 
 -- a number of no kind
 pub returns-in_err-try_from : goal.returns-in_err-try_from

@@ -1,18 +1,22 @@
-use mathlib.Core.Path.{refl}
+use Rattle.std.proofs.Common.{rules, Err, Ok, ◌≡◌, refl}
 use Rattle.ir_records.specs.Record.{inner_of}
-use Rattle.ir_records.specs.declared.NonData.TheVariants.{Sampler}
-use Rattle.proc_type_methods.specs.TypeMethods.{try_size}
-use Rattle.proc_type_alignment.specs.TypeAlignment.{alignment_of}
-use Rattle.proc_type_layout.specs.TypeLayout.{layout_of}
-use Rattle.valid_types.specs.ValidateType.{non_data_flags}
-use Rattle.valid_types.proofs.TypeRowLaws.{other_row}
+use Rattle.proc_type_alignment.specs.Serving.{layouts_in}
+use Rattle.valid_types.specs.ValidateType.{non_data_flags, flags_of, uniform_of, storage_of, immediates_of, row_of}
+use Rattle.valid_types.proofs.TypeRowLaws.{layout_refused, row_made}
 use Rattle.valid_types.proofs.sampler_row.Goals as goal
 
+pub returns-in_err-layout : goal.returns-in_err-layout
+returns-in_err-layout c =
+    let a = c.args in
+    let same : c.from_residual.result ≡ Err c.in_err-layout.field-0.0 = search rules in
+    λ k n inner words.
+    layout_refused k n inner words 10 a.w _ (λ m i members. c.sampler_layout.ensures m n i (layouts_in words) members) _ c.in_err-layout.was _ same
+
 pub returns : goal.returns
-unfolding inner_of non_data_flags layout_of try_size alignment_of
+unfolding inner_of flags_of non_data_flags uniform_of storage_of immediates_of row_of
 returns c =
     let a = c.args in
-    λ least k m n i inner words members.
-    other_row least k m n inner words i members 10 a.w.a a.w.b a.w.c a.w.d a.w.e c.joined.result _
-    (rw (c.sampler_fields.ensures m) at c.handle_layout-laid.ensures) 1 Sampler refl refl
-    (rw c.sampler_flags.ensures at c.joined.ensures)
+    λ k n inner words.
+    row_made k n inner words 10 a.w _ (λ m i members. c.sampler_layout.ensures m n i (layouts_in words) members)
+    c.in_ok-layout.layout c.in_ok-layout.was (Ok c.starting_flags.result) (λ members. rw c.starting_flags.ensures refl) c.starting_flags.result refl
+    c.handle.result (λ least m i members h. rw c.handle.ensures refl)

@@ -1,19 +1,33 @@
-use mathlib.Core.Path.{refl, sym, ◌∙◌}
+use Rattle.std.proofs.Common.{rules, Err, ◌≡◌, refl}
 use Rattle.ir_records.specs.Record.{inner_of}
-use Rattle.ir_records.specs.declared.Leaf.TheVariants.{Vector}
 use Rattle.proc_type_alignment.specs.Serving.{layouts_in}
 use Rattle.valid_type_flags.specs.TypeFlags.{leaf_flags}
-use Rattle.valid_types.proofs.TypeRowLaws.{leaf_alignment_in, leaf_row}
+use Rattle.valid_types.specs.ValidateType.{flags_of, uniform_of, storage_of, immediates_of, row_of}
+use Rattle.ir_records.specs.declared.Leaf.TheVariants.{Vector}
+use Rattle.valid_types.proofs.TypeRowLaws.{leaf_alignment_in, layout_refused, flags_refused, row_made}
 use Rattle.valid_types.proofs.vector_row.Goals as goal
 
+pub returns-in_err-layout : goal.returns-in_err-layout
+returns-in_err-layout c =
+    let a = c.args in
+    let same : c.from_residual.result ≡ Err c.in_err-layout.field-0.0 = search rules in
+    λ n inner words.
+    layout_refused a.capabilities n inner words 1 a.w _ (λ m i members. c.vector_layout.ensures m n i (layouts_in words) members) _ c.in_err-layout.was _ same
+
+pub returns-in_err-flags : goal.returns-in_err-flags
+unfolding inner_of flags_of leaf_flags
+returns-in_err-flags c =
+    let a = c.args in
+    let same : c.from_residual-in_err-flags.result ≡ Err c.in_err-flags.field-0.0 = search rules in
+    λ n inner words.
+    flags_refused a.capabilities n inner words 1 a.w _ (λ m i members. c.vector_layout.ensures m n i (layouts_in words) members)
+    _ c.in_ok-layout.was _ (λ members. c.numeric_flags.ensures) _ c.in_err-flags.was _ same
+
 pub returns : goal.returns
-unfolding inner_of leaf_flags
+unfolding inner_of flags_of leaf_flags uniform_of storage_of immediates_of row_of
 returns c =
     let a = c.args in
-    let laid = c.vector_layout-laid in
-    λ least m n i inner words members.
-    leaf_row least a.capabilities m n inner words i members 1 a.w.a a.w.b a.w.c a.w.d a.w.e c.joined.result _
-    (laid.ensures m n i (layouts_in words) members) c.alignment_in.result (Vector a.w.a a.w.b a.w.c) refl
-    (λ l e. c.alignment_in.ensures l e
-    ∙ leaf_alignment_in m n i (layouts_in words) 1 a.w.a a.w.b a.w.c a.w.d a.w.e members (Vector a.w.a a.w.b a.w.c) refl l (sym (laid.ensures m n i (layouts_in words) members) ∙ e))
-    (rw (c.immediates_word.ensures, c.numeric_flags-flagged.ensures) at c.joined.ensures)
+    λ n inner words.
+    row_made a.capabilities n inner words 1 a.w _ (λ m i members. c.vector_layout.ensures m n i (layouts_in words) members)
+    c.in_ok-layout.layout c.in_ok-layout.was c.numeric_flags.result (λ members. c.numeric_flags.ensures) c.in_ok-flags.flags c.in_ok-flags.was
+    _ (λ least m i members h. rw (c.immediates_word.ensures, leaf_alignment_in m n i (layouts_in words) 1 a.w.a a.w.b a.w.c a.w.d a.w.e members (Vector a.w.a a.w.b a.w.c) refl c.in_ok-layout.layout h) refl)

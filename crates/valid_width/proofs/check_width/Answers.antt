@@ -1,19 +1,10 @@
-use borrow.Author.Tests.{ne_eqb, le-leb, lt-leb}
+use mathlib.Core.Path.{◌≡◌, sym, ◌∙◌}
 use Rattle.valid_width.specs.Width.{check_width}
+use Rattle.valid_width.proofs.WidthLaws.{float_by_number}
 use Rattle.valid_width.proofs.check_width.Goals as goal
 
-pub returns-then-kind-le-UINT : goal.returns-then-kind-le-UINT
+pub returns-in-Ok-Float : goal.returns-in-Ok-Float
 unfolding check_width
-returns-then-kind-le-UINT c = rw (le-leb _ 1 c.if-kind-le-UINT.true) c.integer_width.ensures
-
-pub returns-then-kind-eq-FLOAT : goal.returns-then-kind-eq-FLOAT
-unfolding check_width
-returns-then-kind-eq-FLOAT c = rw (lt-leb _ 1 c.if-kind-le-UINT.false, c.if-kind-eq-FLOAT.true) c.float_width.ensures
-
-pub returns-then-kind-eq-BOOL : goal.returns-then-kind-eq-BOOL
-unfolding check_width
-returns-then-kind-eq-BOOL c = rw (lt-leb _ 1 c.if-kind-le-UINT.false, ne_eqb _ 2 c.if-kind-eq-FLOAT.false, c.if-kind-eq-BOOL.true) c.only.ensures
-
-pub returns : goal.returns
-unfolding check_width
-returns c = rw (lt-leb _ 1 c.if-kind-le-UINT.false, ne_eqb _ 2 c.if-kind-eq-FLOAT.false, ne_eqb _ 3 c.if-kind-eq-BOOL.false, c.of.ensures)
+returns-in-Ok-Float c =
+    let kind : 2 ≡ c.args.kind = rw c.in-Ok-Float.field-0-is at c.in-Ok-Float.ensures in
+    rw (sym kind) (c.number_width-in-Ok-Float.ensures ∙ float_by_number c.args.capabilities c.args.width)

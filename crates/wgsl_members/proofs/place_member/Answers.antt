@@ -5,12 +5,13 @@ use Rattle.wgsl_members.proofs.MemberLaws.{place_is}
 use Rattle.wgsl_members.proofs.place_member.Goals as goal
 
 pub returns : goal.returns
-returns c =
+returns c = λ a aligned sized.
     let b = c.args.body in
+    let x = c.args.closed in
     let named : b.names < length c.args.names.now = omega (arith, c.requires.named, c.requires.name_room) in
     record {
-      is = λ s words. rw (c.put_member.ensures, c.written.ensures, c.max.ensures, c.from.ensures, c.round_up-offset.ensures.0, c.given_or-align.ensures, c.given_or-size.ensures)
-          (place_is s words c.args.names.now c.args.members.now b c.args.attributes c.args.shape c.args.types c.args.name c.args.at named c.requires.room);
+      is = λ s words. rw (c.put_member.ensures, c.written.ensures, c.max.ensures, c.from.ensures, c.round_up-offset.ensures.0, aligned, sized)
+          (place_is s words c.args.names.now c.args.members.now b a x.shape x.made c.args.name x.at named c.requires.room);
       types_made = refl;
       members_made = refl;
       named = refl;

@@ -1,4 +1,4 @@
 use Rattle.wgsl_messages.proofs.put_found.Goals as goal
 
-pub returns-in-End : goal.returns-in-End
-returns-in-End c = rw c.in-End.is c.put_text-in-End.ensures
+pub returns-in-None : goal.returns-in-None
+returns-in-None c = rw (c.in-Ok.is, c.in-None.is) c.put_text-in-None.ensures

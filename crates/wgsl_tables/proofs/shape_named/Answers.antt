@@ -1,23 +1,22 @@
-use Rattle.std.proofs.Common.{◌≡◌, sym, ◌∙◌, arith}
-use Rattle.wgsl_tables.specs.Tables.{structs_in, lookup}
-use Rattle.wgsl_tables.proofs.TableLaws.{lookup_here, lookup_before}
+use Rattle.std.proofs.Common.{refl, ◌∙◌, rules}
+use borrow.Author.Tests.{tests}
+use Rattle.std.proofs.lemmas.Iterator.Adapters.{YieldsList-from_rev_slice}
+use Rattle.std.proofs.lemmas.Iterator.Search.{find_from_yields_List}
+use Rattle.wgsl_names.specs.Names.{same}
+use Rattle.wgsl_tables.specs.Tables.{name_in}
+use Rattle.wgsl_tables.proofs.TableLaws.{lookup_last}
 use Rattle.wgsl_tables.proofs.shape_named.Goals as goal
 
-pub returns-then-same : goal.returns-then-same
-returns-then-same c =
-    let l = c.loop-i in
-    let hit = rw c.name_in.ensures at (sym c.same.ensures ∙ c.if-same.true) in
-    sym l.invariant ∙ lookup_here c.args.s.now c.args.w.now c.args.structs.now l.i _ c.loop-i-test.true l.auto.i hit
-
-pub loop-i-preserved : goal.loop-i-preserved
-loop-i-preserved c =
-    let l = c.loop-i in
-    let miss = rw c.name_in.ensures at (sym c.same.ensures ∙ c.if-same.false) in
-    sym (lookup_before c.args.s.now c.args.w.now c.args.structs.now l.i _ c.loop-i-test.true l.auto.i miss) ∙ l.invariant
+pub returns-in_err-named : goal.returns-in_err-named
+returns-in_err-named c =
+    let a = c.args in
+    let found = find_from_yields_List (λ n. same a.w.now (name_in a.s.now n.name.start n.name.end)) _ _ _ c.find.ensures.ran (YieldsList-from_rev_slice a.structs.now cc) (λ x b q k. search (rules, tests)) in
+    let f = rw c.in_err-named.was at found in
+    lookup_last a.s.now a.w.now a.structs.now ∙ rw (c.from_residual.ensures, ← f) refl
 
 pub returns : goal.returns
-unfolding lookup structs_in
 returns c =
-    let l = c.loop-i in
-    let z : l.i ≡ 0 = omega (arith, c.loop-i-test.false) in
-    sym (rw z at l.invariant)
+    let a = c.args in
+    let found = find_from_yields_List (λ n. same a.w.now (name_in a.s.now n.name.start n.name.end)) _ _ _ c.find.ensures.ran (YieldsList-from_rev_slice a.structs.now cc) (λ x b q k. search (rules, tests)) in
+    let f = rw c.in_ok-named.was at found in
+    lookup_last a.s.now a.w.now a.structs.now ∙ rw (← f) refl

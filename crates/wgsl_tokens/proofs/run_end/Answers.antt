@@ -1,24 +1,19 @@
--- `wgsl_tokens::run_end` meets its contract. The invariant: the run from `at` on ends where the run from i on does. Assumes nothing.
-use mathlib.Core.Path.{sym, ◌∙◌}
-use native.Mathlib.Omega.{arith}
-use Rattle.program_words.proofs.WordLaws.{run_more, run_stop, run_done}
-use Rattle.wgsl_tokens.specs.Serving.{is_in}
+-- `wgsl_tokens::run_end` meets its contract: the run ends at the first byte that fails the test. Assumes nothing.
+use Rattle.std.proofs.Common.{◌≡◌, ◌+◌, ◌-◌, ◌∙◌, arith, ap, not, ℕ, length, take, drop, length-drop, rules}
+use lib.Seq.{take_all}
+use Rattle.std.specs.List.{position}
+use Rattle.std.proofs.lemmas.Iterator.{YieldsList-from_slice}
+use Rattle.std.proofs.lemmas.Iterator.Search.{position_from_yields_List}
+use Rattle.program_words.specs.Words.{run_of}
+use Rattle.wgsl_tokens.proofs.RunLaws.{run_found}
 use Rattle.wgsl_tokens.proofs.run_end.Goals as goal
 
-pub returns-then-not-is_in : goal.returns-then-not-is_in
-returns-then-not-is_in c =
-    let z = run_stop (is_in c.args.run) c.args.s.now c.loop-i.i c.loop-i-test.true (sym c.is_in.ensures ∙ c.if-not-is_in.true) in
-    let l = c.loop-i in
-    record { value = omega arith; lower_bound = omega arith }
-
-pub loop-i-preserved : goal.loop-i-preserved
-loop-i-preserved c =
-    let z = run_more (is_in c.args.run) c.args.s.now c.loop-i.i c.loop-i-test.true (sym c.is_in.ensures ∙ c.if-not-is_in.false) in
-    let l = c.loop-i in
-    omega arith
-
-pub returns : goal.returns
-returns c =
-    let z = run_done (is_in c.args.run) c.args.s.now c.loop-i.i c.loop-i-test.false in
-    let l = c.loop-i in
-    record { value = omega arith; lower_bound = omega arith }
+pub returns-clause-value : goal.returns-clause-value
+returns-clause-value g c = λ p tells.
+    let a = c.args in
+    let rest = drop a.at a.s.now in
+    let all : take (length a.s.now - a.at) rest ≡ rest = take_all (length a.s.now - a.at) rest (omega (arith, length-drop a.at a.s.now)) in
+    let found : c.position.result ≡ position (λ b. not (p b)) rest =
+    position_from_yields_List (λ b. not (p b)) c.position.new.self _ c.position.result c.position.ensures.ran (YieldsList-from_slice rest (c.iter.ensures.rest ∙ all)) (λ x b q k. search (rules, tells)) in
+    let n : c.unwrap_or-length.result ≡ run_of p rest = rw (c.unwrap_or-length.ensures, all, found) (run_found p rest) in
+    ap (λ (k : ℕ). a.at + k) n

@@ -1,28 +1,16 @@
-use mathlib.Core.Path.{◌≡◌, sym, ◌∙◌}
-use borrow.Author.Tests.{eq-eqb, ne_eqb}
+use mathlib.Core.Path.{refl, ◌∙◌}
+use Rattle.std.proofs.Common.{rules, arith}
+use borrow.Author.Tests.{tests}
+use Rattle.std.proofs.lemmas.Iterator.{YieldsList-from_range}
+use Rattle.std.proofs.lemmas.Iterator.Search.{any_from_yields_List}
 use Rattle.order_numbers.specs.Order.{member_at, alike, bad_place}
-use Rattle.order_numbers.proofs.SearchLaws.{first_hit, first_miss, first_done}
+use Rattle.order_numbers.proofs.SearchLaws.{range_any}
 use Rattle.order_numbers.proofs.Order.bad_place.Goals as goal
-
-pub returns-then-earlier-m : goal.returns-then-earlier-m
-unfolding bad_place
-returns-then-earlier-m c =
-    let l = c in
-    let a = l.args in
-    let same = sym c.member_at-earlier.ensures ∙ c.if-earlier-m.true ∙ l.member_at-m.ensures in
-    let found = first_hit (alike (member_at a.self.n a.self.number) a.j) a.j l.loop-h.h c.loop-h-test.true (eq-eqb _ _ same) in
-    rw (sym l.loop-h.invariant ∙ found)
-
-pub loop-h-preserved : goal.loop-h-preserved
-loop-h-preserved c =
-    let l = c in
-    let a = l.args in
-    let other : member_at a.self.n a.self.number l.loop-h.h ≡ member_at a.self.n a.self.number a.j → ⊥ = λ e. c.if-earlier-m.false (c.member_at-earlier.ensures ∙ e ∙ sym l.member_at-m.ensures) in
-    sym (first_miss (alike (member_at a.self.n a.self.number) a.j) a.j l.loop-h.h c.loop-h-test.true (ne_eqb _ _ other)) ∙ l.loop-h.invariant
 
 pub returns : goal.returns
 unfolding bad_place
 returns c =
-    let l = c in
-    let a = l.args in
-    rw (sym l.loop-h.invariant ∙ first_done (alike (member_at a.self.n a.self.number) a.j) a.j l.loop-h.h c.loop-h-test.false, l.member_at-m.ensures)
+    let a = c.args in
+    let f = alike (member_at a.self.n a.self.number) a.j in
+    let earlier = any_from_yields_List f _ _ c.any-earlier.result c.any-earlier.ensures.ran (YieldsList-from_range 0 a.j a.j refl (omega arith)) (λ x b q k. search (rules, tests)) ∙ range_any f a.j 0 in
+    rw (earlier, c.member_at-m.ensures)

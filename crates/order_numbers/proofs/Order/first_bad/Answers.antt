@@ -1,23 +1,15 @@
-use mathlib.Core.Path.{sym, ◌∙◌}
+use mathlib.Core.Path.{refl, sym, ◌∙◌}
+use Rattle.std.proofs.Common.{rules, arith}
+use borrow.Author.Tests.{tests}
+use Rattle.std.proofs.lemmas.Iterator.{YieldsList-from_range}
+use Rattle.std.proofs.lemmas.Iterator.Adapters.{option_map_id}
+use Rattle.std.proofs.lemmas.Iterator.Search.{find_from_yields_List}
 use Rattle.order_numbers.specs.Order.{member_at, bad_place}
-use Rattle.order_numbers.proofs.SearchLaws.{first_hit, first_miss, first_done}
+use Rattle.order_numbers.proofs.SearchLaws.{range_find}
 use Rattle.order_numbers.proofs.Order.first_bad.Goals as goal
-
-pub returns-then-bad_place : goal.returns-then-bad_place
-returns-then-bad_place c =
-    let l = c in
-    let a = l.args in
-    sym (first_hit (bad_place a.self.n (member_at a.self.n a.self.number)) a.self.n l.loop-j.j c.loop-j-test.true (sym c.bad_place.ensures ∙ c.if-bad_place.true))
-    ∙ l.loop-j.invariant
-
-pub loop-j-preserved : goal.loop-j-preserved
-loop-j-preserved c =
-    let l = c in
-    let a = l.args in
-    sym (first_miss (bad_place a.self.n (member_at a.self.n a.self.number)) a.self.n l.loop-j.j c.loop-j-test.true (sym c.bad_place.ensures ∙ c.if-bad_place.false)) ∙ l.loop-j.invariant
 
 pub returns : goal.returns
 returns c =
-    let l = c in
-    let a = l.args in
-    sym (first_done (bad_place a.self.n (member_at a.self.n a.self.number)) a.self.n l.loop-j.j c.loop-j-test.false) ∙ l.loop-j.invariant
+    let a = c.args.self in
+    let f = bad_place a.n (member_at a.n a.number) in
+    sym (option_map_id c.find.result) ∙ find_from_yields_List f _ _ c.find.result c.find.ensures.ran (YieldsList-from_range 0 a.n a.n refl (omega arith)) (λ x b q k. search (rules, tests)) ∙ range_find f a.n 0

@@ -1,30 +1,20 @@
 use mathlib.Core.Path.{refl, sym, ◌∙◌}
+use Rattle.std.proofs.Common.{rules}
+use borrow.Author.Tests.{tests}
+use Prim.Native.Nat.{◌-◌}
 use lib.ListN.{length}
-use Rattle.order_numbers.proofs.SearchLaws.{first_hit, first_miss, first_done}
+use Rattle.std.proofs.lemmas.Iterator.{YieldsList-from_range}
+use Rattle.std.proofs.lemmas.Iterator.Adapters.{option_map_id}
+use Rattle.std.proofs.lemmas.Iterator.Search.{find_from_yields_List}
+use Rattle.order_numbers.proofs.SearchLaws.{range_find}
 use Rattle.order_types.specs.Given.{is_sort, first_of}
 use Rattle.order_types.specs.Serving.{sort_number}
-use Rattle.order_types.proofs.SortLaws.{same_sort}
 use Rattle.order_types.proofs.GivenTypes.first_of.Goals as goal
 
-pub loop-j-init : goal.loop-j-init
-unfolding first_of
-loop-j-init c = refl
-
-pub returns-then-eq : goal.returns-then-eq
-returns-then-eq c =
-    let a = c.args in
-    let same = rw (c.sort_of-own.ensures, c.word_at.ensures) at (same_sort c.sort_of-own.result a.sort) in
-    sym (first_hit (is_sort a.self.types.now a.self.rows.now a.self.n a.self.wanted.now (sort_number a.sort)) (length a.self.wanted.now) c.loop-j.j c.loop-j-test.true (sym same ∙ sym c.eq.ensures ∙ c.if-eq.true))
-    ∙ c.loop-j.invariant
-
-pub loop-j-preserved : goal.loop-j-preserved
-loop-j-preserved c =
-    let a = c.args in
-    let same = rw (c.sort_of-own.ensures, c.word_at.ensures) at (same_sort c.sort_of-own.result a.sort) in
-    sym (first_miss (is_sort a.self.types.now a.self.rows.now a.self.n a.self.wanted.now (sort_number a.sort)) (length a.self.wanted.now) c.loop-j.j c.loop-j-test.true (sym same ∙ sym c.eq.ensures ∙ c.if-eq.false))
-    ∙ c.loop-j.invariant
-
 pub returns : goal.returns
+unfolding first_of
 returns c =
     let a = c.args in
-    sym (first_done (is_sort a.self.types.now a.self.rows.now a.self.n a.self.wanted.now (sort_number a.sort)) (length a.self.wanted.now) c.loop-j.j c.loop-j-test.false) ∙ c.loop-j.invariant
+    let f = is_sort a.self.types.now a.self.given.rows.now a.self.n a.self.given.wanted.now (sort_number a.sort) in
+    let left = length a.self.given.wanted.now - a.from in
+    sym (option_map_id c.find.result) ∙ find_from_yields_List f _ _ c.find.result c.find.ensures.ran (YieldsList-from_range a.from (length a.self.given.wanted.now) left refl refl) (λ x b q k. search (rules, tests)) ∙ range_find f left a.from
