@@ -12,6 +12,8 @@ the match or loop around it; for the forms in BY_ITEM also above the function. W
 - clauses and parameters have one in each crate: above one of the functions, or in a line that names the clause, or two of the parameters, in
   backticks before its reason.
 
+What is found by form and is no place stands in no_places.txt beside this script, with why; it is left out of every count.
+
 --open lists the places that have no reason, of such a group the functions or types that lack one, and ends with how many places of each point those are.
 """
 import collections
@@ -43,6 +45,10 @@ FORMS = [ENUMS, REFUSALS, ARMS, KIND_TESTS, PASSING, RESULTS, TWINS, TYPES, COUN
 
 # Forms that a reason above the function around them is enough for.
 BY_ITEM = {REFUSALS, ARMS, COUNTED, WHILES, SEARCHES, BY_HAND, CHOICES}
+
+# What is found by form and is no place: (form, crate, function or line).
+NO_PLACES = {tuple(part.strip() for part in line.split(' | ')[:3])
+             for line in open(os.path.join(os.path.dirname(os.path.abspath(__file__)), 'no_places.txt')) if not line.startswith('#')}
 
 Place = collections.namedtuple('Place', 'where lacking text kept')
 Function = collections.namedtuple('Function', 'source name line parameters clauses body')
@@ -241,7 +247,8 @@ class Count:
 
     def put_line(self, form, source, n):
         """Adds line n."""
-        self.put(form, source, n, source.beside(form, n), source.lines[n - 1].strip())
+        if ('line', source.crate, source.lines[n - 1].strip()) not in NO_PLACES:
+            self.put(form, source, n, source.beside(form, n), source.lines[n - 1].strip())
 
     def put_group(self, form, uses, text):
         """Adds a place of several uses, each (source, line, name, whether it has a reason). Of those that are alike, one is what the others could be."""
@@ -251,10 +258,12 @@ class Count:
         self.found[form].append(Place(', '.join(where), ', '.join(lacking), text, len(lacking) <= spared))
 
     def lines(self):
-        """Forms that are seen within one line, or within a few."""
+        """Forms that are seen within one line, or within a few. Arms by number are the conversion in a `try_from`, and bytes where a width is matched."""
         for s in self.sources:
             for n, line in enumerate(s.code.split('\n'), 1):
                 for form, pattern in LINE_FORMS:
+                    if form == ARMS and (' fn try_from(' in s.lines[s.item(n) - 1] or 'match width ' in s.lines[s.around(n) - 1]):
+                        continue
                     if re.search(pattern, line):
                         self.put_line(form, s, n)
             for form, pattern in TEXT_FORMS:
@@ -280,6 +289,8 @@ class Count:
         """Types of several crates that have one name and half of their fields in common, or two fields or more with the same names and types."""
         by_name, by_fields = collections.defaultdict(list), collections.defaultdict(list)
         for s, word, name, n, fields in self.types:
+            if ('type', s.crate, name) in NO_PLACES:
+                continue
             names = frozenset(re.match(r'\w+', f).group(0) for f in fields if re.match(r'[a-zA-Z_]', f))
             by_name[name].append((names, (s, n, name, s.above(n))))
             if len(names) > 1:
@@ -304,10 +315,10 @@ class Count:
                 self.put_group(CONSTANTS, uses, f'{name} = {value}')
 
     def twins(self):
-        """Functions alike but for names and numbers."""
+        """Functions alike but for names and numbers; each `try_from` is the conversion to an enum of its own."""
         alike = collections.defaultdict(list)
         for f in self.functions:
-            if len(f.body.split()) >= 3 and not is_plain(f.body):
+            if len(f.body.split()) >= 3 and not is_plain(f.body) and f.name != 'try_from' and ('twin', f.source.crate, f.name) not in NO_PLACES:
                 alike[without_names(f.body)].append(f)
         for body, uses in alike.items():
             if len(uses) > 1:
@@ -342,6 +353,8 @@ class Count:
             for i in range(len(ps) - 2):
                 same[tuple(ps[i:i + 3])].append(f)
             for a, b in zip(ps, ps[1:]):
+                if ('table', f.source.crate, f.name) in NO_PLACES:
+                    continue
                 if re.search(r'\[\w+\]', a) and re.match(r'(n|count|len|length|used): (u32|usize)$', b):
                     own = {a.split(':')[0], b.split(':')[0]}
                     self.put(TABLES, f.source, f.line, f.source.above(f.line) or any(own <= set(names) for names in f.source.names), f'{f.name}: {a}, {b}')

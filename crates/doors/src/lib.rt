@@ -30,11 +30,10 @@ use place_descent::Place;
 use place_report::Totals;
 use valid_type_info::UniformRule;
 
-// Kept: `types`, `members`, `capabilities`, `rule`, `rows`, `ty`, `offset`, `start`, `steps`, `text`: the parameters of the calls are those of the C interface.
+// Kept: `types`, `members`, `capabilities`, `rule`, `rows`, `ty`, `offset`, `start`, `steps`, `scratch`, `text`: the parameters of the calls are those of the C interface.
 
 // ---- the calls by the rule that a word is, or number 1
-// Kept: `check_by` and `judge_by`, and `slots_by` and `place_by`, differ in the call that each makes by the rule. One function would take the call as a closure, and
-// a closure that writes the rows has to say what they are after it.
+// Kept: `check_by` and `judge_by`, and `slots_by` and `place_by`, differ in the call by the rule; one function would take it as a closure that says what it leaves in the rows.
 fn check_by(
     types: &[u32],
     members: &[u32],
@@ -97,6 +96,7 @@ fn place_by(
     place_lookup::lookup(types, members, capabilities, by, rows, start, steps)
 }
 
+// Kept: as check_by.
 fn report_by(
     types: &[u32],
     members: &[u32],
@@ -167,7 +167,7 @@ pub fn wuldazin_layout(types: &[u32], members: &[u32], rows: &mut [u32], answer:
     doors_words::put_answer(answer, &outcome);
 }
 
-// Kept: `wuldazin_check` and `wuldazin_judge` are exported calls, and differ in the call that each makes; its contract is that of each.
+// Kept: `wuldazin_check` and `wuldazin_judge` are two names of the C interface, each with its clauses where its caller reads them; one function for both, with the call as a closure, would stand beside the two and shorten neither signature.
 // The arena check.
 pub fn wuldazin_check(
     types: &[u32],
@@ -275,8 +275,8 @@ pub fn wuldazin_place(
     doors_words::put_answer(answer, &found);
 }
 
-// Kept: the parameters are those of the C interface.
 // The same by three words for each type.
+// Kept: `scratch.new ≡ short_words capabilities types.now members.now scratch.old`: as in place_short, each call that judges first says so of its scratch.
 pub fn wuldazin_place_short(
     types: &[u32],
     members: &[u32],
@@ -407,8 +407,7 @@ fn part_start(types: &[u32], ty: u32, count: usize) -> u64
     (ir_records::type_word(types, ty, 1) as u64) * (ir_records::MEMBER_WORDS as u64)
 }
 
-// Kept: `wuldazin_read_spirv` and `wuldazin_read_wgsl` are exported calls over readers with definitions of their own; what a reader leaves in both
-// tables is what each of its callers promises of them.
+// Kept: `wuldazin_read_spirv` and `wuldazin_read_wgsl` are exported calls over readers with definitions of their own.
 // The type section of a SPIR-V module, into lent type and member records; how many of each.
 pub fn wuldazin_read_spirv(
     words: &[u32],
@@ -427,8 +426,8 @@ pub fn wuldazin_read_spirv(
     doors_words::put_read(answer, section);
 }
 
-// Kept: what a reader leaves in both tables is what each of its callers promises of them.
 // The records of a WGSL text, and how many there are of each.
+// Kept: what a reader leaves in both tables is what each of its callers promises of them; no struct of two tables lent with `&mut` outlives a call.
 pub fn wuldazin_read_wgsl(
     text: &[u8],
     types: &mut [u32],

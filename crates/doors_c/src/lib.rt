@@ -1,9 +1,8 @@
 // The static library: the calls of doors with C's calling convention. A slice is a pointer and a length.
+// Kept: signatures and clauses as in doors: the C interface needs each exported function, which is declared with clauses of its own; a macro writes no function with clauses.
 #![tactic(auto)]
 
-ghost use Rattle.std.specs.Prelude.{◌≡◌, ◌*◌, eqb, length};
-ghost use Rattle.ir_records.specs.Result.{pick};
-ghost use Rattle.ir_records.specs.Record.{type_word, member_words};
+ghost use Rattle.std.specs.Prelude.{◌≡◌, length};
 ghost use Rattle.proc_layouter.specs.Layouter.{layout_answer, layout_words};
 ghost use Rattle.valid_rule_word.specs.RuleWord.{rule_of, capabilities_by};
 ghost use Rattle.valid_arena.specs.Arena.{arena_answer, arena_words};

@@ -1,4 +1,4 @@
-// Calls each function of the static library and prints answers and lent buffers.
+// Calls each function of `doors`, over which doors_c is the static library, and prints answers and lent buffers.
 // `stdout` is written by hand from the sentences of 01, or of embed/wuldazin.h where it says so, that stand beside the tables.
 #![tactic(auto)]
 

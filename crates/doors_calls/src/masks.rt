@@ -1,7 +1,6 @@
 // Ranges, and the masks as sets: "`contains`, `difference` and union follow the Rust".
 
 // M12: "(300, 0) gives 0; (3, 2) gives 3; (252, 4) gives bit 63 alone; (252, 5) gives 25"
-// Kept: `ranges`, and `plain` of this program, are lists of calls with numbers of their own.
 fn ranges() {
     doors_lent::range(b"range 300 0", 300, 0);
     doors_lent::range(b"range 3 2", 3, 2);

@@ -1,10 +1,9 @@
-// What the programs doors_calls and doors_refusals share: calls of the static library with lent buffers, and the lines that they print.
-// The calls, by the older uniform rule. Each word of a lent buffer is 9 before its call, and all of them are printed after it, those past the call's own too.
+// What the programs that call `doors`, over which doors_c is the static library, share: the calls with lent buffers, and the lines that they print.
+// Each word of a lent buffer is 9 before its call, and all of them are printed after it, those past the call's own too.
 #![tactic(auto)]
 
 ghost use Rattle.std.specs.Prelude.{◌≤◌};
 
-// Kept: `types`, `members`, `capabilities`, `name`: the arguments of a call that is tried, and how its lines begin.
 // Kept: the system's number of the stream, as in each crate that writes to it: a crate for one number would be no plainer.
 const STDOUT: i32 = 1;
 
@@ -39,7 +38,6 @@ pub fn refusal(number: u32, answer: &[u32; 5]) {
     words(b"", answer);
 }
 
-// Kept: n is a word that is looked for, and no length.
 /// How many words of a long buffer are n.
 pub fn count(name: &[u8], words: &[u32], n: u32) {
     let found = words.iter().filter(|word| **word == n).count();
@@ -56,13 +54,13 @@ pub const MEMBERS: [u32; 8] = [1, 0, 0, 0, 0, 12, 0, 0];
 /// M1's struct with a span of 15: M6, which is 19, member 1.
 pub const M6: [u32; 18] = [0, 2, 4, 0, 0, 0, 1, 3, 2, 4, 0, 0, 8, 0, 2, 15, 0, 0];
 
-// Kept: this is the function that cuts a table.
 // The first n words; none where there are fewer.
+// Kept: this is the function that cuts a table to a length.
 fn first(words: &[u32], n: usize) -> &[u32] {
     words.get(..n).unwrap_or(&[])
 }
 
-// Kept: each function that takes a closure asks that it may be called.
+// Kept: `F.IsAlwaysCallable call`: each function that takes a closure asks that it may be called.
 /// A call with rows for three types and two words more, and with an answer: both are printed after it.
 pub fn with_rows<F: FnOnce(&mut [u32], &mut [u32])>(name: &[u8], call: F)
     requires { F.IsAlwaysCallable call }
@@ -87,105 +85,162 @@ pub fn with_two<F: FnOnce(&mut [u32], &mut [u64], &mut [u32])>(name: &[u8], two:
     words(b"rows", &rows);
 }
 
-pub fn check(name: &[u8], types: &[u32], members: &[u32], capabilities: u32, rows: &mut [u32]) {
-    let mut answer = [9u32; 5];
-    doors::wuldazin_check(types, members, capabilities, 0, rows, &mut answer);
-    words(name, &answer);
-    words(b"rows", rows);
+/// What a call is tried on: records, the capability word and the word of the uniform rule.
+#[derive(Clone, Copy, Debug, PartialEq, Eq)]
+pub struct Arena<'a> {
+    pub types: &'a [u32],
+    pub members: &'a [u32],
+    pub capabilities: u32,
+    pub rule: u32,
 }
 
-pub fn check_three(name: &[u8], types: &[u32], members: &[u32], capabilities: u32) {
-    with_rows(name, |rows, answer| {
-        doors::wuldazin_check(types, members, capabilities, 0, rows, answer)
-    });
-}
-
-/// The first words of M1's types and members.
-pub fn check_m1(name: &[u8], types: usize, members: usize, capabilities: u32) {
-    check_three(
-        name,
-        first(&TYPES, types),
-        first(&MEMBERS, members),
-        capabilities,
-    );
-}
-
-pub fn check_m1_rows(name: &[u8], rows: &mut [u32]) {
-    check(name, &TYPES, &MEMBERS, 0, rows);
-}
-
-pub fn layout(name: &[u8], types: &[u32], members: &[u32]) {
-    with_rows(name, |rows, answer| {
-        doors::wuldazin_layout(types, members, rows, answer)
-    });
-}
-
-pub fn layout_m1(name: &[u8], types: usize, members: usize) {
-    layout(name, first(&TYPES, types), first(&MEMBERS, members));
-}
-
-/// With M1's members.
-pub fn judge(name: &[u8], types: &[u32]) {
-    with_rows(name, |rows, answer| {
-        doors::wuldazin_judge(types, &MEMBERS, 0, 0, rows, answer)
-    });
-}
-
-// Kept: the count is that of the report, which is made here.
-/// With M1's members, and so many words of a report for three types and a word more.
-pub fn report(name: &[u8], types: &[u32], count: usize) {
-    let mut rows = [9u32; 44];
-    let mut report = [9u64; 7];
-    let mut totals = [9u64; 3];
-    let mut answer = [9u32; 5];
-    doors::wuldazin_report(
-        types,
-        &MEMBERS,
-        0,
-        0,
-        &mut rows,
-        &mut report[..count.min(7)],
-        &mut totals,
-        &mut answer,
-    );
-    words(name, &answer);
-    words(b"report", &report);
-    words(b"totals", &totals);
-}
-
-/// With M1's members.
-pub fn slots(name: &[u8], types: &[u32], ty: u32, offset: u32) {
-    with_two(name, b"mask", |rows, mask, answer| {
-        doors::wuldazin_slots(types, &MEMBERS, 0, 0, rows, ty, offset, mask, answer)
-    });
-}
-
-pub fn slots_m1(name: &[u8], types: usize, ty: u32, offset: u32) {
-    slots(name, first(&TYPES, types), ty, offset);
-}
-
-/// With M1's members.
-pub fn place(name: &[u8], types: &[u32], capabilities: u32, start: u32, steps: &[u32]) {
-    with_two(name, b"place", |rows, place, answer| {
-        doors::wuldazin_place(
+impl<'a> Arena<'a> {
+    /// Types with M1's members, by the older rule and with no capability.
+    pub fn of(types: &'a [u32]) -> Arena<'a> {
+        Arena {
             types,
-            &MEMBERS,
+            members: &MEMBERS,
+            capabilities: 0,
+            rule: 0,
+        }
+    }
+
+    /// The first words of M1's types and members.
+    pub fn m1(types: usize, members: usize) -> Arena<'a> {
+        Arena {
+            members: first(&MEMBERS, members),
+            ..Arena::of(first(&TYPES, types))
+        }
+    }
+
+    pub fn with_capabilities(self, capabilities: u32) -> Arena<'a> {
+        Arena {
             capabilities,
-            0,
+            ..self
+        }
+    }
+
+    /// A check with these rows.
+    pub fn check_rows(self, name: &[u8], rows: &mut [u32]) {
+        let mut answer = [9u32; 5];
+        doors::wuldazin_check(
+            self.types,
+            self.members,
+            self.capabilities,
+            self.rule,
             rows,
-            start,
-            steps,
-            place,
-            answer,
-        )
-    });
+            &mut answer,
+        );
+        words(name, &answer);
+        words(b"rows", rows);
+    }
+
+    pub fn check(self, name: &[u8]) {
+        self.check_rows(name, &mut [9; 44]);
+    }
+
+    pub fn judge(self, name: &[u8]) {
+        with_rows(name, |rows, answer| {
+            doors::wuldazin_judge(
+                self.types,
+                self.members,
+                self.capabilities,
+                self.rule,
+                rows,
+                answer,
+            )
+        });
+    }
+
+    pub fn layout(self, name: &[u8]) {
+        with_rows(name, |rows, answer| {
+            doors::wuldazin_layout(self.types, self.members, rows, answer)
+        });
+    }
+
+    /// With so many words, at most seven, of a report for three types and a word more; the rows are handed back.
+    pub fn report(self, name: &[u8], lent: usize) -> [u32; 44] {
+        let mut rows = [9u32; 44];
+        let mut report = [9u64; 7];
+        let mut totals = [9u64; 3];
+        let mut answer = [9u32; 5];
+        doors::wuldazin_report(
+            self.types,
+            self.members,
+            self.capabilities,
+            self.rule,
+            &mut rows,
+            &mut report[..lent.min(7)],
+            &mut totals,
+            &mut answer,
+        );
+        words(name, &answer);
+        words(b"report", &report);
+        words(b"totals", &totals);
+        rows
+    }
+
+    // Kept: slots and place each make a call of their own; what they share is with_two.
+    pub fn slots(self, name: &[u8], ty: u32, offset: u32) {
+        with_two(name, b"mask", |rows, mask, answer| {
+            doors::wuldazin_slots(
+                self.types,
+                self.members,
+                self.capabilities,
+                self.rule,
+                rows,
+                ty,
+                offset,
+                mask,
+                answer,
+            )
+        });
+    }
+
+    pub fn place(self, name: &[u8], start: u32, steps: &[u32]) {
+        with_two(name, b"place", |rows, place, answer| {
+            doors::wuldazin_place(
+                self.types,
+                self.members,
+                self.capabilities,
+                self.rule,
+                rows,
+                start,
+                steps,
+                place,
+                answer,
+            )
+        });
+    }
+
+    /// A choice by a type, with so many words of a pass, at most seven.
+    pub fn choose(self, name: &[u8], ty: u32, pass: &mut [u64; 7], lent: usize) {
+        let mut rows = [9u32; 44];
+        let mut answer = [9u32; 5];
+        doors::wuldazin_pass_choose(
+            self.types,
+            self.members,
+            self.capabilities,
+            self.rule,
+            &mut rows,
+            ty,
+            &mut pass[..lent.min(7)],
+            &mut answer,
+        );
+        words(name, &answer);
+        words(b"pass", pass);
+        words(b"rows", &rows);
+    }
+
+    /// The part of the member table that the rows of a struct are.
+    pub fn part(self, name: &[u8], ty: u32) {
+        let mut part = [9u64; 3];
+        doors::wuldazin_members(self.types, self.members, ty, &mut part);
+        words(name, &part);
+    }
 }
 
-pub fn place_m1(name: &[u8], capabilities: u32, start: u32, steps: &[u32]) {
-    place(name, &TYPES, capabilities, start, steps);
-}
-
-// Kept: `range` and `plain` lend buffers of other types to another call, and name them by other words.
+// Kept: `range` and `plain` lend buffers of two types; one function would take the 9 of the type, the buffer's name and the call as a closure, for two callers.
 pub fn range(name: &[u8], offset: u32, size: u32) {
     let mut mask = [9u64; 3];
     let mut answer = [9u32; 5];
@@ -200,17 +255,6 @@ pub fn plain(name: &[u8], shape: u32, width: u32) {
     doors::wuldazin_plain(shape, width, &mut numbers, &mut answer);
     words(name, &answer);
     words(b"numbers", &numbers);
-}
-
-/// The part of the first words of M1's members.
-pub fn members(name: &[u8], types: &[u32], members: usize, ty: u32) {
-    let mut part = [9u64; 3];
-    doors::wuldazin_members(types, first(&MEMBERS, members), ty, &mut part);
-    words(name, &part);
-}
-
-pub fn members_m1(name: &[u8], types: usize, rows: usize, ty: u32) {
-    members(name, first(&TYPES, types), rows, ty);
 }
 
 /// How many words of each buffer are lent to a reader.

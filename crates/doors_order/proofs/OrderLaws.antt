@@ -4,13 +4,11 @@ use mathlib.Core.Path.{◌≡◌, refl}
 use mathlib.Core.Bool.{Bool, true, false}
 use mathlib.Core.List.{List, ◌++◌}
 use Prim.Native.Nat.{ℕ, ◌<◌}
-use native.Mathlib.Omega.{arith}
 use lib.Dec.{ltb, leb}
 use lib.ListN.{length, drop}
 use borrow.Author.Tests.{lt-leb, le-leb, ltb-true, ltb-false}
 use Rattle.std.specs.Prelude.{Result, Ok, Err, IfOk}
 use Rattle.ir_records.specs.Result.{pick}
-use Rattle.ir_records.specs.Refusal.{outcome_of}
 use Rattle.ir_records.specs.declared.Refusal.{Refusal}
 use Rattle.valid_type_info.specs.declared.UniformRule.{UniformRule}
 use Rattle.valid_arena.specs.Arena.{arena_answer, arena_words}
@@ -18,14 +16,10 @@ use Rattle.valid_rule_word.specs.RuleWord.{capabilities_by}
 use Rattle.valid_rule_word.proofs.WordLaws.{unknown}
 use Rattle.order_call.specs.declared.OrderedStruct.{OrderedStruct}
 use Rattle.order_call.specs.Answer.{order_answer_of}
-use Rattle.order_call.specs.Call.{Left, refused, room, ordered}
-use Rattle.order_words.specs.Words.{order_outcome, found_words, with_found}
+use Rattle.order_call.specs.Call.{refused, room, ordered}
+use Rattle.order_words.specs.Words.{found_words, with_found}
 use Rattle.doors_words.specs.Words.{with_front}
 use Rattle.doors_order.specs.Serving.{words_of}
-
-pub outcome_is : (made : Result OrderedStruct Refusal) → order_outcome (order_answer_of made) ≡ outcome_of made
-outcome_is (Ok o) = refl
-outcome_is (Err r) = refl
 
 -- the nine words stand at the front, where there is room for them
 front_is : (found words : List ℕ) → length words ≡ 9 → with_front found words ≡ pick (ltb (length found) 9) found (words ++ drop 9 found)

@@ -1,7 +1,9 @@
-// The call for an order through the static library: answers, tables and lent buffers. `stdout` is written by hand from E11 of 02 and the
-// sentences of embed/wuldazin.h. The free words of the tables and each word of a lent buffer are 9 before a call, and all of them are printed
-// after it.
+// The call for an order through `doors`, over which doors_c is the static library: answers, tables and lent buffers. `stdout` is written by hand
+// from E11 of 02 and the sentences of embed/wuldazin.h. The free words of the tables and each word of a lent buffer are 9 before a call, and all
+// of them are printed after it.
 #![tactic(auto)]
+
+ghost use Rattle.std.specs.Prelude.{◌≤◌};
 
 // E = f32 and V = vec3 of f32, with room for two types more.
 const PAIR: [u32; 24] = [
@@ -28,7 +30,7 @@ const HALF: [u32; 24] = [
     0, 2, 2, 0, 0, 0, 0, 2, 4, 0, 0, 0, 9, 9, 9, 9, 9, 9, 9, 9, 9, 9, 9, 9,
 ];
 
-// Kept: `rule`, `rows`, `wanted`, `span`: the arguments of the call that is tried.
+// Kept: `types` with `type_count`, `members` with `member_count`, `rule`, `rows`, `wanted`, `span`: the arguments of the call that is tried, where free records follow those that are counted. Three are lent with `&mut`: a struct of them would be made anew for each call.
 fn order(
     name: &[u8],
     types: &mut [u32],
@@ -146,57 +148,34 @@ fn no_room() {
     of_two(b"rule 2", PAIR, 2, &[0, 1], 16);
 }
 
-fn short_types() {
-    let mut types = PAIR;
-    let mut members = [9u32; 12];
-    let mut rows = [9u32; 44];
+// Kept: `types`, `members`, `rows`: how many words of each table the call is lent.
+// Two types and no member row are in use, with so many words of each table; the rows are handed back.
+fn lent_in_part(name: &[u8], types: usize, members: usize, rows: usize) -> [u32; 44]
+    requires { (types ≤ 24) × (members ≤ 12) × (rows ≤ 44) }
+{
+    let mut lent_types = PAIR;
+    let mut lent_members = [9u32; 12];
+    let mut lent_rows = [9u32; 44];
     order(
-        b"17 words of types",
-        &mut types[..17],
+        name,
+        &mut lent_types[..types],
         2,
-        &mut members,
+        &mut lent_members[..members],
         0,
         0,
-        &mut rows,
+        &mut lent_rows[..rows],
         &[0, 1],
         16,
     );
-    doors_lent::words(b"rows", &rows);
+    lent_rows
 }
 
-fn short_members() {
-    let mut types = PAIR;
-    let mut members = [9u32; 12];
-    let mut rows = [9u32; 44];
-    order(
-        b"7 words of members",
-        &mut types,
-        2,
-        &mut members[..7],
-        0,
-        0,
-        &mut rows,
-        &[0, 1],
-        16,
-    );
+fn short_tables() {
+    let rows = lent_in_part(b"17 words of types", 17, 12, 44);
     doors_lent::words(b"rows", &rows);
-}
-
-fn short_rows() {
-    let mut types = PAIR;
-    let mut members = [9u32; 12];
-    let mut rows = [9u32; 44];
-    order(
-        b"41 words of rows",
-        &mut types,
-        2,
-        &mut members,
-        0,
-        0,
-        &mut rows[..41],
-        &[0, 1],
-        16,
-    );
+    let rows = lent_in_part(b"7 words of members", 24, 7, 44);
+    doors_lent::words(b"rows", &rows);
+    lent_in_part(b"41 words of rows", 24, 12, 41);
 }
 
 // A short buffer for what was found, or for the answer, is left as it was; the struct is written.
@@ -230,8 +209,6 @@ fn main() {
     given();
     refused();
     no_room();
-    short_types();
-    short_members();
-    short_rows();
+    short_tables();
     short_found();
 }

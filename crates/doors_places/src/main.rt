@@ -1,4 +1,5 @@
-// Places by three words for each type through the static library, answers and lent buffers. `stdout` is written by hand from the sentences below.
+// Places by three words for each type through `doors`, over which doors_c is the static library: answers and lent buffers. `stdout` is written by hand from the
+// sentences below.
 // 02, E10: "a scratch of three words for each type, with the same answer and refusal", "A shorter scratch is 1; other arena refusals zero those
 // words, acceptance fills them." embed/wuldazin.h: the three words are size, alignment and flags; a run is "its start, how many steps it has, and
 // the steps"; "two words for each run, .. both 2^64 - 1 where there is no place"; number 1 leaves every word. Each buffer is printed whole.

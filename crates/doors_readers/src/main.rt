@@ -1,8 +1,8 @@
-// The reader of SPIR-V modules through the static library, answers and lent buffers. `stdout` is written by hand from 02's E5 ("More records
-// than 01 or the lent tables admit is number 1", "These and 1 zero the lent records") and from the sentences of embed/wuldazin.h: "counts: two
-// words, how many types and how many members; zeros on a refusal", "the words after them as they were", "all words of types and members are
-// 0", "An answer, .. counts, .. buffer that is too short for its words is left as it was. Words after its own are left in every buffer." Each word
-// of a lent buffer is 9 before its call.
+// The reader of SPIR-V modules through `doors`, over which doors_c is the static library: answers and lent buffers. `stdout` is written by hand
+// from 02's E5 ("More records than 01 or the lent tables admit is number 1", "These and 1 zero the lent records") and from the sentences of
+// embed/wuldazin.h: "counts: two words, how many types and how many members; zeros on a refusal", "the words after them as they were", "all words
+// of types and members are 0", "An answer, .. counts, .. buffer that is too short for its words is left as it was. Words after its own are left in
+// every buffer." Each word of a lent buffer is 9 before its call.
 #![tactic(auto)]
 
 ghost use Rattle.std.specs.Prelude.{◌≤◌};

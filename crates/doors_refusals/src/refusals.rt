@@ -1,7 +1,7 @@
 // "Every other arena refusal zeroes 14 words for each type and leaves the rest". The answer is "number, type, member, detail".
 // "The type is the first one refused; the member is its position in the struct, for 6 and 17 to 21 in a struct; all else is 0".
 
-// Kept: `types`, `members`, `capabilities`: the arguments of the call that is tried.
+// Kept: `types`, `members`, `capabilities`: as a `doors_lent::Arena` each of the calls below would write out a struct, whose rule is always the older one.
 // An arena for a number: its answer, and rows for three types and two words more.
 fn refuse(number: u32, types: &[u32], members: &[u32], capabilities: u32) {
     let mut rows = [9u32; 44];

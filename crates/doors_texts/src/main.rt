@@ -1,4 +1,5 @@
-// The reader of WGSL text through the static library, answers and lent buffers. `stdout` is written by hand from the sentences below.
+// The reader of WGSL text through `doors`, over which doors_c is the static library: answers and lent buffers. `stdout` is written by hand from the
+// sentences below.
 // embed/wuldazin.h: "counts: two words, how many type records and how many member records there are; zeros on a refusal, left as they were
 // where there are fewer than two. The records stand at the start of the tables, and the words behind them are left. .. a refusal zeroes every
 // word of both tables." Buffers that are lent in part are printed whole.

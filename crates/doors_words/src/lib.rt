@@ -18,6 +18,7 @@ use place_descent::Place;
 use place_report::Totals;
 use proc_plain_types::PlainLayout;
 
+// Kept: zeros written out where nothing is found: `unwrap_or_default` would ask for a derive of Default in immediates_ranges, place_descent, place_report, proc_plain_types and ir_records, each for one function here.
 /// The words stand at the front of a buffer; one of fewer words is left as it was.
 pub fn put_front<T: Copy, const N: usize>(words: &mut [T], front: [T; N])
     ensures { words.new ≡ with_front words.old front }
@@ -70,7 +71,7 @@ pub fn put_masks(mask: &mut [u64], found: Result<Slots, Refusal>)
 }
 
 /// A leaf's byte place and its type, zeros on a refusal.
-// Kept: `put_place`, `put_totals` and `put_records` differ in the struct whose two fields are told, and in the definitions of both.
+// Kept: `put_place`, `put_totals` and `put_records` as one generic function would take the struct of zeros and a closure for its two words, and its contract would speak of any such closure; each of the three is two statements.
 pub fn put_place(words: &mut [u64], found: Result<Place, Refusal>)
     ensures { words.new ≡ with_two words.old (byte_of (place_answer_of found)) (leaf_of (place_answer_of found)) }
 {

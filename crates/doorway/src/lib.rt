@@ -18,7 +18,7 @@ use place_descent::Place;
 use valid_type_info::UniformRule;
 
 // Kept: the three calls have one form and differ in the call and its definitions. One function would take the call as a closure, and a closure that
-// writes the rows has to say what they are after it.
+// writes the rows has to say what they are after it. `rule` is a word in each: a promise to callers; a UniformRule would ask more of them.
 /// The arena check.
 pub fn check_members(
     types: &[u32],
@@ -54,7 +54,7 @@ pub fn place_members(
     place_lookup::lookup(types, words.used(), capabilities, by, rows, start, steps)
 }
 
-// Kept: `rule`, `rows`, `ty`, `offset`: the parameters of this call are those of the exported call that it stands for.
+// Kept: `rule`, `rows`, `ty`, `offset`: the parameters of this call are those of the exported call that it stands for, and `rule` is a word as there.
 /// The slot walk.
 pub fn slots_members(
     types: &[u32],

@@ -13,8 +13,11 @@ use program_output::Output;
 use std::io::Read;
 use std::rt::{Env, Files};
 
-// Kept: the system's number of the stream, as in each crate that writes to it: a crate for one number would be no plainer.
+// Kept: the system's number of the stream, beside program_output's own: a name is written past `Output`, whose whole buffer would be filled for one line.
 const STDOUT: i32 = 1;
+
+// The most words that are held of a module.
+const MODULE_WORDS: usize = 1048576;
 
 // Why an input is no module: it has no whole number of words, or more than are held.
 #[derive(Clone, Copy, Debug, PartialEq, Eq)]
@@ -37,8 +40,8 @@ impl InputError {
 fn put_answer(out: &mut Output, words: &[u32])
     ensures { Adds out.old (module_lines words.now) out.new }
 {
-    let mut types = [0u32; 6144];
-    let mut members = [0u32; 16384];
+    let mut types = [0u32; ir_records::TYPE_TABLE];
+    let mut members = [0u32; ir_records::MEMBER_TABLE];
     match spirv_reader::read_module(words, &mut types, &mut members) {
         Ok(read) => program_record_lines::put_records(out, &types, &members, read),
         Err(fault) => out.put_refusal(Refusal::of(fault)),
@@ -52,6 +55,8 @@ fn answer(words: &[u32]) {
 }
 
 // What is held with the bytes of one read.
+// Kept: `words, held` here and in `read_more`: the table is fixed and lent with `&mut`; a struct of both would be lent anew by each loop, and
+// `spirv_input::append` takes both.
 fn with_bytes(words: &mut [u32], held: usize, bytes: &[u8]) -> Result<usize, InputError>
     requires { held ≤ length words.old }
     ensures { HeldWithin held (length words.old) result }
@@ -73,7 +78,8 @@ fn read_full<S: Read>(source: &mut S, buffer: &mut [u8]) -> usize
     ensures { IsPrefixLen result buffer.new }
 {
     let mut held: usize = 0;
-    // Kept: a read gives as many bytes as it has, so no range counts it.
+    // Kept: a read gives as many bytes as it has, so no range counts it; and `program_files::read_all` refuses a full buffer and a failed read, and tells
+    // no count with them, where here the bytes that came are used.
     while let Ok(more) = program_input::read_after(source, buffer, held) {
         if more == 0 {
             return held;
@@ -94,8 +100,7 @@ fn read_more<S: Read>(source: &mut S, words: &mut [u32], held: usize) -> Result<
 }
 
 // All words of the input.
-// Kept: program_files::read_all reads bytes. Here each full buffer is made words at once, since a program has no room for the bytes of a module
-// and its words.
+// Kept: program_files::read_all reads bytes. Here each full buffer is made words at once; by it 4 MiB of bytes would be held beside 4 MiB of words.
 fn read_all<S: Read>(source: &mut S, words: &mut [u32]) -> Result<usize, InputError>
     ensures { HeldWithin 0 (length words.old) result }
 {
@@ -111,7 +116,7 @@ fn read_all<S: Read>(source: &mut S, words: &mut [u32]) -> Result<usize, InputEr
 }
 
 fn read_and_answer<S: Read>(source: &mut S) {
-    let mut words = program_files::filled::<u32, 1048576>(0);
+    let mut words = program_files::filled::<u32, MODULE_WORDS>(0);
     match read_all(source, &mut words) {
         Ok(held) => answer(&words[..held]),
         Err(error) => program_files::tell(error.message()),

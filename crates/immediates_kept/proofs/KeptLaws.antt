@@ -1,39 +1,55 @@
 -- Laws of kept parts: keeping one changes no other, and nothing is kept where none is.
 -- Assumes nothing.
 use mathlib.Core.Path.{◌≡◌, sym, ap, ◌∙◌}
-use mathlib.Core.List.{List}
-use Prim.Native.Nat.{ℕ, suc, ◌+◌, ◌*◌, ◌≤◌, ◌<◌}
+use mathlib.Core.List.{List, []}
+use Prim.Native.Nat.{ℕ, suc, ◌≤◌, ◌<◌}
 use native.Mathlib.Decide.{ℕ_discrete, dec_le}
 use native.Mathlib.Omega.{arith}
-use lib.ListN.{length, get_or, set, replicate, get_or-replicate, get_or-eq_default, length-replicate}
+use lib.ListN.{length, get_or, set, replicate, get_or-replicate, get_or-eq_default, length-set, length-replicate}
 use lib.Seq.{get_or-set_same, get_or-set_other}
 use Rattle.std.specs.Prelude.{Option, Some, None}
+use Rattle.std.proofs.lemmas.Option.{none-some, same_Some}
 use Rattle.immediates_part.specs.Part.{Part, part_found}
 use Rattle.immediates_part.specs.declared.Part as code
 use Rattle.immediates_kept.specs.Kept.{Keeps}
 
 -- a part that f gives may be kept
-pub keeps_more : (kept : List (Option (Option code.Part))) (ty low : ℕ) → ty * 4 + 4 ≤ length kept → low < 4 → (f : ℕ → ℕ → Part) (part : Option code.Part)
-    → part_found part ≡ f ty low → Keeps f kept → Keeps f (set kept (ty * 4 + low) (Some part))
-keeps_more kept ty low long small f part e all t l p h is = go (ℕ_discrete (t * 4 + l) (ty * 4 + low))
+pub keeps_more : (kept : List (List (Option (Option code.Part)))) (ty low : ℕ) → ty < length kept → (f : ℕ → ℕ → Part) (part : Option code.Part)
+    → part_found part ≡ f ty low → Keeps f kept → Keeps f (set kept ty (set (get_or kept ty []) low (Some part)))
+keeps_more kept ty low long f part e all t l p h is = go (ℕ_discrete t ty)
   where
-    go : Dec (t * 4 + l ≡ ty * 4 + low) → part_found p ≡ f t l
+    own : List (Option (Option code.Part))
+    own = get_or kept ty []
+
+    row : List (Option (Option code.Part))
+    row = set own low (Some part)
+
+    -- what stands at the place that was written is the part
+    written : get_or row low None ≡ Some p → Dec (suc low ≤ length own) → Some part ≡ Some p
+    written s (yes few) = sym (get_or-set_same own low (Some part) None few) ∙ s
+    written s (no past) = absurd (none-some p (sym (get_or-eq_default row None (omega (arith, past, length-set own low (Some part)))) ∙ s))
+
+    at_ty : t ≡ ty → get_or row l None ≡ Some p → Dec (l ≡ low) → part_found p ≡ f t l
+    at_ty type s (yes same) =
+        let found : part ≡ p = same_Some part p (written (ap (λ (i : ℕ). get_or row i None) (sym same) ∙ s) (dec_le (suc low) (length own))) in
+        rw (← found, type, same) e
+    at_ty type s (no other) = rw type (all ty l p h (sym (get_or-set_other own low l (Some part) None other) ∙ s))
+
+    go : Dec (t ≡ ty) → part_found p ≡ f t l
     go (yes same) =
-        let type : t ≡ ty = omega (arith, same, h, small) in
-        let rest : l ≡ low = omega (arith, same, h, small) in
-        let here : get_or (set kept (ty * 4 + low) (Some part)) (ty * 4 + low) None ≡ Some part = get_or-set_same kept (ty * 4 + low) (Some part) None (omega (arith, long, small)) in
-        let own : Some p ≡ Some part = sym is ∙ ap (λ (i : ℕ). get_or (set kept (ty * 4 + low) (Some part)) i None) same ∙ here in
-        let found : p ≡ part = cc in
-        rw (found, type, rest) e
-    go (no other) = all t l p h (sym (get_or-set_other kept (ty * 4 + low) (t * 4 + l) (Some part) None other) ∙ is)
+        let here : get_or (set kept ty row) ty [] ≡ row = get_or-set_same kept ty row [] long in
+        at_ty same (sym (ap (λ (r : List (Option (Option code.Part))). get_or r l None) (ap (λ (i : ℕ). get_or (set kept ty row) i []) same ∙ here)) ∙ is) (ℕ_discrete l low)
+    go (no other) = all t l p h (sym (ap (λ (r : List (Option (Option code.Part))). get_or r l None) (get_or-set_other kept ty t row [] other)) ∙ is)
 
 -- nothing is kept where there is None everywhere
-pub keeps_nothing : (f : ℕ → ℕ → Part) (none : List (Option (Option code.Part))) (n : ℕ) → none ≡ replicate n None → Keeps f none
+pub keeps_nothing : (f : ℕ → ℕ → Part) (none : List (List (Option (Option code.Part)))) (n : ℕ) → none ≡ replicate n (replicate 4 None) → Keeps f none
 keeps_nothing f none n e ty low part h is =
-    let clash : None ≡ Some part = sym (nothing (dec_le (suc (ty * 4 + low)) n)) ∙ is in
-    let z : ◌≡◌ {A = ℕ} 0 1 = cc in
-    absurd (omega arith)
+    absurd (none-some part (sym (nothing (dec_le (suc ty) n)) ∙ is))
   where
-    nothing : Dec (suc (ty * 4 + low) ≤ n) → get_or none (ty * 4 + low) None ≡ None
-    nothing (yes l) = rw e (get_or-replicate n (ty * 4 + low) None None l)
-    nothing (no l) = get_or-eq_default none None (let long : length none ≡ n = rw e (length-replicate n None) in omega (arith, l, long))
+    nothing : Dec (suc ty ≤ n) → get_or (get_or none ty []) low None ≡ None
+    nothing (yes l) =
+        ap (λ (r : List (Option (Option code.Part))). get_or r low None) (ap (λ (k : List (List (Option (Option code.Part)))). get_or k ty []) e ∙ get_or-replicate n ty (replicate 4 None) [] l)
+        ∙ get_or-replicate 4 low None None h
+    nothing (no l) =
+        let long : length none ≡ n = rw e (length-replicate n (replicate 4 None)) in
+        ap (λ (r : List (Option (Option code.Part))). get_or r low None) (get_or-eq_default none [] (omega (arith, l, long)))

@@ -1,37 +1,31 @@
 // The parts of structs that a slot walk keeps: one for each type and each remainder of its offset by 4.
 #![tactic(auto)]
 
-ghost use Rattle.std.specs.Prelude.{◌≡◌, ◌+◌, ◌*◌, ◌≤◌, ◌<◌, length, get_or, set, Some, None};
+ghost use Rattle.std.specs.Prelude.{◌≡◌, ◌≤◌, ◌<◌, length, [], get_or, set, Some, None};
 
 use immediates_part::Part;
 
-/// What is kept: None until the struct has been walked; then its part, or None where it is refused.
+/// What is kept of a struct: None until it has been walked; then its part, or None where it is refused.
+// Kept: an Option in an Option: an enum of its three cases would be made from the Option that a walk gives and be made one again where it is read.
 pub type Kept = Option<Option<Part>>;
 
-// How many remainders there are.
-const REMAINDERS: usize = 4;
-
-// Where type ty stands at remainder low.
-fn place(ty: u32, low: u32) -> usize
-    ensures { result ≡ ty * 4 + low }
-{
-    (ty as usize) * REMAINDERS + (low as usize)
-}
+/// What is kept of a type: one for each remainder.
+pub type OfType = [Kept; 4];
 
 /// What is kept of type ty.
-pub fn kept_part(kept: &[Kept], ty: u32, low: u32) -> Kept
-    requires ty_in_bounds { ty * 4 + 4 ≤ length kept.now }
+pub fn kept_part(kept: &[OfType], ty: u32, low: u32) -> Kept
+    requires ty_in_bounds { ty < length kept.now }
     requires low_bound { low < 4 }
-    ensures { result ≡ get_or kept.now (ty * 4 + low) None }
+    ensures { result ≡ get_or (get_or kept.now ty []) low None }
 {
-    kept[place(ty, low)]
+    kept[ty as usize][low as usize]
 }
 
 /// Keeps a part of type ty.
-pub fn keep(kept: &mut [Kept], ty: u32, low: u32, part: Option<Part>)
-    requires ty_in_bounds { ty * 4 + 4 ≤ length kept.old }
+pub fn keep(kept: &mut [OfType], ty: u32, low: u32, part: Option<Part>)
+    requires ty_in_bounds { ty < length kept.old }
     requires low_bound { low < 4 }
-    ensures { kept.new ≡ set kept.old (ty * 4 + low) (Some part) }
+    ensures { kept.new ≡ set kept.old ty (set (get_or kept.old ty []) low (Some part)) }
 {
-    kept[place(ty, low)] = Some(part);
+    kept[ty as usize][low as usize] = Some(part);
 }

@@ -19,10 +19,7 @@ impl Part {
         ensures { part_in result ≡ nothing_at offset }
     {
         Part {
-            slots: Slots {
-                touched: 0,
-                partly: 0,
-            },
+            slots: Slots::default(),
             room: proc_alignment::MOST - u64::from(offset),
         }
     }

@@ -8,7 +8,7 @@ ghost use Rattle.immediates_ranges.specs.Serving.{cuts};
 use ir_records::{Fault, Refusal};
 
 /// The slots that a part touches, and those that it covers only in part.
-#[derive(Clone, Copy, Debug, PartialEq, Eq)]
+#[derive(Clone, Copy, Debug, Default, PartialEq, Eq)]
 pub struct Slots {
     pub touched: u64,
     pub partly: u64,
@@ -48,10 +48,7 @@ pub fn range_slots(offset: u32, size: u32) -> Option<Slots>
     ensures { slots_found result ≡ range_slots offset size }
 {
     if size == 0 {
-        return Some(Slots {
-            touched: 0,
-            partly: 0,
-        });
+        return Some(Slots::default());
     }
     let end = (offset as u64) + (size as u64);
     if SLOT_BYTES < end {
@@ -99,6 +96,8 @@ pub fn union_of(this: u64, other: u64) -> u64
 }
 
 // A part as the answer of a call; 25 carries zeros only.
+// Kept beside `place_lookup::place_answer`: one function for both would be `ok_or` itself, handed the refusal; each contract speaks of the answer of its
+// own call.
 pub fn part_answer(part: Option<Slots>) -> Result<Slots, Refusal>
     ensures { slots_answer_of result ≡ part_answer (slots_found part) }
 {

@@ -8,7 +8,7 @@ use Prim.Native.Nat.{ℕ, ◌<◌, ◌≤◌}
 use native.Mathlib.Omega.{arith}
 use lib.Dec.{T, ltb}
 use lib.ListN.{length}
-use borrow.Author.Tests.{lt-ltb, le-ltb}
+use borrow.Author.Tests.{lt-ltb, ltb-true}
 use Rattle.ir_records.specs.Result.{pick}
 use Rattle.ir_records.specs.Record.{decoded, type_count, type_inner}
 use Rattle.ir_records.specs.Outcome.{Outcome}
@@ -36,6 +36,9 @@ use Rattle.immediates_walk.specs.Walk.{CoveredBy, slots_at}
 use Rattle.immediates_walk.proofs.MeasuredLaws.{accepted_parts, layout_measured, layout_size}
 use Rattle.immediates_walk.proofs.SlotLaws.{walk_slot}
 use Rattle.immediates_slots.specs.Immediates.{type_answer, slots_answer}
+use Rattle.immediates_slots.specs.Serving.{type_outcome}
+use Rattle.immediates_walk.specs.Parts.{Sizes}
+use Rattle.ir_records.specs.Table.{also}
 
 -- an outcome behind a test that is accepted
 behind : (b : Bool) (o : Outcome) → pick b o (Refused 1 0 0 0) ≡ Accepted → o ≡ Accepted
@@ -84,16 +87,39 @@ module _ (c : ℕ) (ts ms rows : List ℕ) (accepted : arena_answer c ts ms rows
     unfolding slots_answer
     answer_walked h = rw (accepted, lt-ltb ty (type_count ts) h) refl
 
-    -- number 26
-    pub answer_outside : type_count ts ≤ ty → slots_answer c ts ms rows ty offset ≡ answer.Refused 26 0 0 0
-    unfolding slots_answer
-    answer_outside h = rw (accepted, le-ltb ty (type_count ts) h) refl
+module _ (c : ℕ) (ts ms rows : List ℕ) (ty : ℕ) where
+  -- an accepted arena, and a type of it
+  pub type_accepted : type_outcome c ts ms rows ty ≡ Accepted → (arena_answer c ts ms rows ≡ Accepted) × (ty < type_count ts)
+  type_accepted e =
+      let p = also_accepted (arena_answer c ts ms rows) _ e in
+      (p.0, within (ltb ty (type_count ts)) refl p.1)
+    where
+      within : (b : Bool) → ltb ty (type_count ts) ≡ b → pick b Accepted (Refused 26 0 0 0) ≡ Accepted → ty < type_count ts
+      within true t q = ltb-true ty (type_count ts) t
+      within false t q = let z : ◌≡◌ {A = ℕ} 0 1 = cc in absurd (omega arith)
 
--- the arena's refusal is passed on
-pub answer_refused : (c : ℕ) (ts ms rows : List ℕ) (ty offset : ℕ) {number t member detail : ℕ} → arena_answer c ts ms rows ≡ Refused number t member detail
-    → slots_answer c ts ms rows ty offset ≡ answer.Refused number t member detail
-unfolding slots_answer
-answer_refused c ts ms rows ty offset e = rw e refl
+  -- what the walk of such a type asks, of the rows that the check leaves
+  pub type_ready : type_outcome c ts ms rows ty ≡ Accepted → (rule : UniformRule) → Sizes ts (arena_words rule c ts ms rows) ty × (ty ≤ most_types)
+  type_ready e rule =
+      let p = type_accepted e in
+      let few = accepted_few c ts ms rows p.0 in
+      (λ i h. accepted_sizes c ts ms rows p.0 rule i (omega (arith, h, p.1)), omega (arith, few, p.1))
+
+  -- the refusal of the arena, or 26, is passed on
+  pub answer_refused : (offset : ℕ) {number t member detail : ℕ} → type_outcome c ts ms rows ty ≡ Refused number t member detail
+      → slots_answer c ts ms rows ty offset ≡ answer.Refused number t member detail
+  unfolding slots_answer
+  answer_refused offset {number} {t} {member} {detail} e = go (arena_answer c ts ms rows) e
+    where
+      go : (o : Outcome) → also o (pick (ltb ty (type_count ts)) Accepted (Refused 26 0 0 0)) ≡ Refused number t member detail
+          → type_answer ts ms ty offset o ≡ answer.Refused number t member detail
+      go (Refused a b d f) q = cc
+      go Accepted q = outside (ltb ty (type_count ts)) q
+        where
+          outside : (b : Bool) → pick b Accepted (Refused 26 0 0 0) ≡ Refused number t member detail
+              → pick b (part_answer (slots_at (decoded ts ms) ty offset)) (answer.Refused 26 0 0 0) ≡ answer.Refused number t member detail
+          outside true r = let z : ◌≡◌ {A = ℕ} 0 1 = cc in absurd (omega arith)
+          outside false r = cc
 
 -- answered masks are the part's
 part_mask : (o : Slots) (m p : ℕ) → part_answer o ≡ answer.Slots m p → o ≡ Mask m p

@@ -1,22 +1,21 @@
 -- Laws of the walk by parts: its slots are those of the walk (Walk), and a type that stands fours further on has the same part, moved.
 -- Assumes nothing.
 use mathlib.Core.Path.{◌≡◌, refl, sym, ap, ap₂, ◌∙◌}
-use mathlib.Core.Bool.{Bool, true, false, ◌||◌}
-use mathlib.Core.Logic.{⊎_elim}
+use mathlib.Core.Bool.{Bool, true, false}
 use mathlib.Core.List.{List}
 use Prim.Native.Nat.{ℕ, zero, suc, ◌+◌, ◌*◌, ◌/◌, ◌%◌, ◌<◌, ◌≤◌}
 use native.Mathlib.Nat.{not-suc-le-zero}
 use native.Mathlib.Decide.{le_ind, dec_le}
 use native.Mathlib.Numerals.{add-one}
 use native.Mathlib.Omega.{arith}
-use lib.Dec.{leb, ltb}
-use borrow.Author.Tests.{le-leb, ne_eqb, ltb-true, ltb-false, leb-true, leb-false}
+use lib.Dec.{leb}
+use borrow.Author.Tests.{le-leb, ne_eqb}
 use Rattle.ir_records.specs.Result.{pick}
 use Rattle.ir_records.specs.Record.{Decoded, decoded, type_word, struct_kind, type_inner, inner_of, struct_members, member_type, member_offset}
 use Rattle.ir_records.specs.Table.{table, value_at}
 use Rattle.ir_records.specs.declared.TypeInner.{TypeInner}
 use Rattle.ir_records.specs.declared.TypeInner.TheVariants.{Plain, Array, RuntimeArray, Struct, Other}
-use Rattle.ir_records.proofs.ResultLaws.{pick_alike, or_cases, true_T, T_true}
+use Rattle.ir_records.proofs.ResultLaws.{pick_alike}
 use Rattle.ir_records.proofs.TableLaws.{table_value, table_above}
 use Rattle.proc_alignment.specs.Alignment.{most}
 use Rattle.proc_type_methods.specs.TypeMethods.{size_of}
@@ -208,29 +207,17 @@ module _ (ts ms : List ℕ) (ty offset : ℕ) where
       ∙ ap (λ (x : TypeInner). part_of (table no_part (part_step (decoded ts ms)) ty) x (struct_members ts ms ty) offset) (struct-record e)
 
 -- ---- a member, as the code tests it
-or_false : (a b : Bool) → (a || b) ≡ false → (a ≡ false) × (b ≡ false)
-or_false true b e = let z : ◌≡◌ {A = ℕ} 0 1 = cc in absurd (omega arith)
-or_false false b e = (refl, e)
-
--- it is not refused: its offset sum keeps within 32 bits, and it is of an earlier type
-pub member_taken : (o ty t : ℕ) → (ltb most o || leb ty t) ≡ false → (o ≤ most) × (t < ty)
-member_taken o ty t e = let p = or_false (ltb most o) (leb ty t) e in (ltb-false most o p.0, leb-false ty t p.1)
-
 module _ (types : ℕ → Decoded) (ty : ℕ) (rows : List ℕ) (offset j : ℕ) where
   abbrev earlier : ℕ → ℕ → Part
   earlier = table no_part (part_step types) ty
 
   module _ {t o : ℕ} (p : t ≡ member_type rows j) (q : o ≡ offset + member_offset rows j) where
-    -- it is refused, and so are all
-    pub member_refused : (ltb most o || leb ty t) ≡ true → (n : ℕ) → j < n → Past ≡ members_part earlier rows offset n
-    member_refused e n h = sym (members_past earlier rows offset j (sym (ap₂ earlier p q) ∙ refused) n h)
-      where
-        refused : earlier t o ≡ Past
-        refused =
-            ⊎_elim
-            (λ w. part_beyond types ty t o (ltb-true most o (T_true (ltb most o) w)))
-            (λ w. later_part types ty t o (leb-true ty t (T_true (leb ty t) w)))
-            (or_cases (ltb most o) (leb ty t) (true_T e))
+    -- it is refused, and so are all: its offset sum leaves 32 bits, or it is of no earlier type
+    pub member_beyond : most < o → (n : ℕ) → j < n → Past ≡ members_part earlier rows offset n
+    member_beyond e n h = sym (members_past earlier rows offset j (sym (ap₂ earlier p q) ∙ part_beyond types ty t o e) n h)
+
+    pub member_late : ty ≤ t → (n : ℕ) → j < n → Past ≡ members_part earlier rows offset n
+    member_late e n h = sym (members_past earlier rows offset j (sym (ap₂ earlier p q) ∙ later_part types ty t o e) n h)
 
     -- its part is refused, and so are all
     pub part_refused : t < ty → Past ≡ part_at types t o → (n : ℕ) → j < n → Past ≡ members_part earlier rows offset n

@@ -6,8 +6,8 @@ use program_lines::Line;
 use program_output::Output;
 
 fn stop_at(mut s: Session, line: &[u8]) {
-    let mut arena = [0u32; 22528];
-    let mut numbers = [0u32; 1025];
+    let mut arena = [0u32; program_commands::ARENA_WORDS];
+    let mut numbers = [0u32; program_lines::MOST_NUMBERS];
     let mut out = Output::new();
     match program_lines::read_line(line, &mut numbers) {
         Ok(Some(Line::Change(change))) => s.change(change, &mut arena),

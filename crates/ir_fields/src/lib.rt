@@ -1,17 +1,19 @@
 // Refusals 2 and 3: the sets that the fields of a type record lie in.
-// Kept: `types`, `members`, `i`: the two tables and the type that is looked at, as in ir_records; each function below reads both.
+// Kept: `types`, `members`, `i`: fields_at and record_at read both tables, of the type that is looked at, and records_ok goes over all.
 #![tactic(auto, unfolding(ir_records::specs::Fields::fields_ok))]
 
-ghost use Rattle.std.specs.Prelude.{◌≡◌, ◌&&◌, ℕ, ◌+◌, ◌*◌, ◌/◌, ◌≤◌, ◌<◌};
-ghost use Rattle.ir_records.specs.Record.{scalar_kind, vector_kind, matrix_kind, cooperative_matrix_kind, pointer_kind, value_pointer_kind, array_kind, struct_kind, image_kind, sampler_kind, acceleration_structure_kind, binding_array_kind};
-ghost use Rattle.ir_records.specs.Fields.{vector_size_ok, cooperative_size_ok, array_size_ok, fields_ok, base_within, fields_at, record_at};
+ghost use Rattle.std.specs.Prelude.{◌≡◌, ◌&&◌, ℕ, ◌+◌, ◌*◌, ◌/◌, ◌≤◌, ◌<◌, ltb};
+ghost use Rattle.ir_records.specs.Record.{type_count, scalar_kind, vector_kind, matrix_kind, cooperative_matrix_kind, pointer_kind, value_pointer_kind, array_kind, struct_kind, image_kind, sampler_kind, acceleration_structure_kind, binding_array_kind};
+ghost use Rattle.ir_records.specs.Fields.{vector_size_ok, cooperative_size_ok, array_size_ok, fields_ok, fields_at, record_at};
 ghost use Rattle.ir_records.specs.Table.{first_refusal};
+ghost use Rattle.ir_records.specs.Result.{ok, require};
 ghost use Rattle.ir_records.specs.Refusal.{judged, outcome_of};
 ghost use Rattle.ir_fields.specs.Serving.{FieldsTold};
 
 use ir_records::{Fault, Kind, Refusal, TypeRefusal, Words};
 
 // The sets, by their largest number.
+// Kept: numbers, as the definitions have them: `ScalarKind::try_from` would say the same of one word, and widths, roles and flags have no enum.
 const MOST_SCALAR_KIND: u32 = 5;
 
 const MOST_WIDTH: u32 = 255;
@@ -25,6 +27,7 @@ const MOST_CLASS: u32 = 3;
 const MOST_ROLE: u32 = 2;
 
 // Number 2 where the fields do not lie in their sets.
+// Kept: beside `ir_records::require_lengths`, of a type and of a call; one function for both would be handed the refusal and say it in its contract.
 #[tactic(auto)]
 fn within(fit: bool) -> Result<(), TypeRefusal>
     ensures { FieldsTold result fit }
@@ -176,11 +179,16 @@ fn fields_ok(rows: usize, w: Words) -> Result<(), TypeRefusal>
     }
 }
 
-// Number 3: the base of a pointer or a binding array is a type of the arena.
-fn base_within(types: usize, w: Words) -> bool
-    ensures { result ≡ base_within types w.kind w.a }
+/// Number 3 where the base of a pointer or a binding array is no type of the arena.
+#[tactic(auto)]
+pub fn base_within(types: &[u32], base: u32) -> Result<(), TypeRefusal>
+    ensures { judged result ≡ require (ltb base (type_count types.now)) 3 0 0 (ok tt) }
 {
-    !(w.is(Kind::Pointer) | w.is(Kind::BindingArray)) | ((w.a as usize) < types)
+    if (base as usize) < ir_records::type_count(types) {
+        Ok(())
+    } else {
+        Err(TypeRefusal::of(Fault::BaseOutside))
+    }
 }
 
 // Numbers 2 and 3 of record i by its fields, 2 first.
@@ -189,8 +197,8 @@ fn fields_at(types: &[u32], members: &[u32], i: u32) -> Result<(), TypeRefusal>
 {
     let w = ir_records::record_words(types, i);
     fields_ok(ir_records::member_count(members), w)?;
-    if !base_within(ir_records::type_count(types), w) {
-        return Err(TypeRefusal::of(Fault::BaseOutside));
+    if w.is(Kind::Pointer) | w.is(Kind::BindingArray) {
+        base_within(types, w.a)?;
     }
     Ok(())
 }
@@ -207,7 +215,6 @@ fn record_at(types: &[u32], members: &[u32], i: u32) -> Result<(), TypeRefusal>
 }
 
 // Numbers 2 and 3 over the first n records.
-// Kept: `members`, `n`: n counts types; the member table, which stands before it, has a length of its own.
 pub fn records_ok(types: &[u32], members: &[u32], n: u32) -> Result<(), Refusal>
     ensures { outcome_of result ≡ first_refusal (record_at types.now members.now) n }
 {

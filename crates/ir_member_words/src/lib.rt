@@ -7,6 +7,7 @@ ghost use Rattle.ir_records.specs.Record.{member_words};
 ghost use Rattle.ir_member_words.specs.Flat.{flat};
 
 // StructMember of naga's ir/mod.rs: a type, an offset, and the location and the blend source of its binding, each plus one, 0 for none.
+// Kept: location and source as 02 stores them: the fields of a member record are its four words.
 #[derive(Clone, Copy, Debug, PartialEq, Eq)]
 pub struct Member {
     pub ty: u32,

@@ -6,7 +6,8 @@ use Rattle.std.specs.Prelude as std
 use Rattle.ir_records.specs.Result.{Result, ok}
 use Rattle.ir_records.specs.Table.{outcome_at, first_refusal}
 use Rattle.ir_records.specs.Outcome.{Outcome, Accepted, Refused}
-use Rattle.ir_records.specs.Refusal.{judged, outcome_of, at_type}
+use Rattle.ir_records.specs.Refusal.{judged, refusal, refused_by, outcome_of, at_type}
+use Rattle.ir_records.specs.declared.Fault.TheVariants.{TableLength}
 use Rattle.ir_records.specs.declared.TypeRefusal.{TypeRefusal}
 use Rattle.ir_records.specs.declared.Refusal.{Refusal}
 use Rattle.ir_records.proofs.TableLaws.{stays}
@@ -39,3 +40,7 @@ some_refusal (std.Err r) e = tt
 pub judged_at_type : {A : Type 0} (r : std.Result A TypeRefusal) (i : ℕ) (a : A) → at_type r i ≡ std.Ok a → judged r ≡ ok a
 judged_at_type (std.Ok b) i a e = cc
 judged_at_type (std.Err r) i a e = cc
+
+-- what a call answers that is refused for its lengths or its capability word
+pub refused_lengths : {A : Type 0} (r : std.Result A Refusal) (x : Refusal) → r ≡ std.Err x → x ≡ refusal TableLength 0 0 0 → outcome_of r ≡ Refused 1 0 0 0
+refused_lengths r x e q = ap outcome_of e ∙ ap refused_by q

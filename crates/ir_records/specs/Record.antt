@@ -1,6 +1,6 @@
 -- 01, 'The type record' and 'The member record': the records in the caller's flat tables of words, and what each one says.
 -- Assumes nothing.
-use Rattle.std.specs.Prelude.{◌&&◌, List, [], ◌≡◌, ℕ, ◌+◌, ◌*◌, ◌/◌, ◌<◌, eqb, leb, ltb, length, get_or, take, drop}
+use Rattle.std.specs.Prelude.{Option, Some, None, ◌&&◌, List, [], ◌≡◌, ℕ, ◌+◌, ◌*◌, ◌/◌, ◌<◌, eqb, leb, ltb, length, get_or, take, drop}
 use Rattle.ir_records.specs.Result.{pick}
 use Rattle.ir_records.specs.declared.Words.{Words}
 use Rattle.ir_records.specs.declared.Leaf.TheVariants.{Scalar, Vector, Matrix, CooperativeMatrix, Atomic, RayQuery}
@@ -107,6 +107,15 @@ inner_of kind a b c d e =
     (pick (eqb kind acceleration_structure_kind) (Other (AccelerationStructure a))
     (pick (eqb kind ray_query_kind) (Plain (RayQuery a))
     (Other (BindingArray a b c))))))))))))))
+
+-- a record of this kind whose first words are these; the fifth is 0
+abbrev pub record_of : (kind a b c d : ℕ) → Words
+record_of kind a b c d = record { kind = kind; a = a; b = b; c = c; d = d; e = 0 }
+
+-- the record of an array over a base: form 0 has a count, form 1 none, for a runtime array
+abbrev pub array_words : (size : Option ℕ) → (base stride : ℕ) → Words
+array_words (Some count) base stride = record_of array_kind base 0 count stride
+array_words None base stride = record_of array_kind base 1 0 stride
 
 -- the same of six words
 abbrev pub inner_in : Words → TypeInner

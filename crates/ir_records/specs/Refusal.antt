@@ -1,6 +1,6 @@
 -- 01 and 02, 'The refusal': the numbers, and what the answers of the code say.
 -- Assumes nothing.
-use Rattle.std.specs.Prelude.{ℕ}
+use Rattle.std.specs.Prelude.{◌≡◌, Bool, true, false, ℕ}
 use Rattle.std.specs.Prelude as std
 use Rattle.ir_records.specs.Result.{Result, err, ok}
 use Rattle.ir_records.specs.Outcome.{Outcome, Accepted, Refused}
@@ -60,10 +60,18 @@ abbrev pub judged : {A : Type 0} → std.Result A TypeRefusal → Result A
 judged (std.Ok a) = ok a
 judged (std.Err r) = err (number_of r.fault) r.member r.detail
 
+-- a refusal as the answer of an arena call
+abbrev pub refused_by : Refusal → Outcome
+refused_by r = Refused (number_of r.fault) r.ty r.member r.detail
+
 -- the answer of an arena call
 abbrev pub outcome_of : {A : Type 0} → std.Result A Refusal → Outcome
 outcome_of (std.Ok a) = Accepted
-outcome_of (std.Err r) = Refused (number_of r.fault) r.ty r.member r.detail
+outcome_of (std.Err r) = refused_by r
+
+-- number 1 just where a test of lengths, or of the capability word, says false
+abbrev pub LengthsTold : std.Result (Unit {0}) Refusal → (fit : Bool) → Type 0
+LengthsTold told fit = std.MatchResult told (λ _. fit ≡ true) (λ r. (r ≡ refusal TableLength 0 0 0) × (fit ≡ false))
 
 -- the judgement of one type as an answer about it
 abbrev pub at_type : {A : Type 0} → std.Result A TypeRefusal → ℕ → std.Result A Refusal

@@ -1,16 +1,19 @@
 // The type and member records of naga's ir/mod.rs, as words in the caller's tables, and refusal 1.
-// Kept: `types`, `members`, `rows`: the tables that a caller lends are parameters of their own throughout. In a struct of them contracts would say
-// `arena.entry.types.now` for `types.now`, and most functions below the calls read one of the tables.
+// Kept: `types`, `members`, `rows`: the tables that a caller lends. Crates in which many functions read two that are shared have a struct of them
+// (place_short::Recorded, immediates_walk::ArenaType, place_report::Before); most functions of the core read one, or write the rows, which are lent with
+// `&mut`: a struct of all three would be lent so too, and each contract say what it leaves of each.
 #![tactic(auto)]
 
-ghost use Rattle.std.specs.Prelude.{◌≡◌, ◌&&◌, ℕ, ◌+◌, ◌*◌, ◌/◌, ◌≤◌, ◌<◌, eqb, length, get_or, take, drop};
-ghost use Rattle.ir_records.specs.Record.{type_word, type_count, member_words, member_count, member_type, member_offset, member_location, member_source, array_kind, inner_in, type_inner, struct_members};
+ghost use Rattle.std.specs.Prelude.{◌≡◌, ◌&&◌, ℕ, ◌+◌, ◌*◌, ◌/◌, ◌≤◌, ◌<◌, eqb, length, get_or, take, drop, [], ◌∷◌};
+ghost use Rattle.ir_records.specs.Record.{type_word, type_count, member_words, member_count, member_type, member_offset, member_location, member_source, array_kind, inner_in, type_inner, struct_members, record_of, array_words};
 ghost use Rattle.ir_records.specs.Serving.{record_words, size_of};
 ghost use Rattle.ir_records.specs.Kinds.{kind_number, NamesKind, NamesScalarKind};
-ghost use Rattle.ir_records.specs.Refusal.{number_of, type_refusal, refusal, at_type};
+ghost use Rattle.ir_records.specs.Refusal.{number_of, type_refusal, refusal, at_type, LengthsTold};
 ghost use Rattle.ir_records.specs.Fields.{tables_fit, capabilities_known, is_unlocated, sources_located};
 
 // Data that is neither array nor struct: 01's leaves.
+// Kept: words and no ScalarKind, AddressSpace or size of a binding array, here and in NonData: what a record says is asked for before number 2 has
+// passed it, and of any words.
 #[derive(Clone, Copy, Debug, PartialEq, Eq)]
 pub enum Leaf {
     Scalar(u32, u32),
@@ -134,6 +137,8 @@ impl From<Fault> for u32 {
 }
 
 /// A refusal of one type: the position of the member that it names, and the detail; 0 where 01 names none.
+// Kept: 0 and no Option, here and in Refusal: 01 gives a refusal as four numbers, which the definitions have as they are. With Options `judged` and
+// `outcome_of` would turn none into 0, as would each function that puts an answer, and no rule asks whether a member is named.
 #[derive(Clone, Copy, Debug, PartialEq, Eq)]
 pub struct TypeRefusal {
     pub fault: Fault,
@@ -221,7 +226,6 @@ impl TryFrom<u32> for Kind {
     ghost try_from_gives = { NamesKind };
 
     /// Number 2 for a number of no kind.
-    // Kept: these arms by number are the conversion.
     fn try_from(number: u32) -> Result<Self, TypeRefusal> {
         match number {
             0 => Ok(Kind::Scalar),
@@ -249,7 +253,6 @@ impl TryFrom<u32> for ScalarKind {
     ghost try_from_gives = { NamesScalarKind };
 
     /// Number 2 for a number of no scalar kind.
-    // Kept: these arms by number are the conversion.
     fn try_from(number: u32) -> Result<Self, TypeRefusal> {
         match number {
             0 => Ok(ScalarKind::Sint),
@@ -280,6 +283,14 @@ pub const ROW_WORDS: usize = 14;
 pub const MOST_TYPES: usize = 1024;
 
 pub const MOST_MEMBERS: usize = 4096;
+
+/// How many words the tables of such an arena have, and the rows of its types.
+pub const TYPE_TABLE: usize = MOST_TYPES * TYPE_WORDS;
+
+pub const MEMBER_TABLE: usize = MOST_MEMBERS * MEMBER_WORDS;
+
+pub const ROW_TABLE: usize = MOST_TYPES * ROW_WORDS;
+
 // Bits 0 to 13.
 const ALL_CAPABILITIES: u32 = 16383;
 
@@ -291,11 +302,42 @@ impl Words {
         self.kind == kind as u32
     }
 
+    /// A record of this kind whose first words are these; the fifth is 0.
+    pub fn of(kind: u32, a: u32, b: u32, c: u32, d: u32) -> Words
+        ensures { result ≡ record_of kind a b c d }
+    {
+        Words {
+            kind,
+            a,
+            b,
+            c,
+            d,
+            e: 0,
+        }
+    }
+
+    /// The record of an array over this base; no size: of a runtime array.
+    pub fn array(base: u32, size: Option<u32>, stride: u32) -> Words
+        ensures { result ≡ array_words size base stride }
+    {
+        match size {
+            Some(count) => Words::of(Kind::Array as u32, base, 0, count, stride),
+            None => Words::of(Kind::Array as u32, base, 1, 0, stride),
+        }
+    }
+
+    /// The words one after the other, as a table has them.
+    pub fn words(self) -> [u32; 6]
+        ensures { result ≡ self.kind ∷ self.a ∷ self.b ∷ self.c ∷ self.d ∷ self.e ∷ [] }
+    {
+        [self.kind, self.a, self.b, self.c, self.d, self.e]
+    }
+
     /// How many elements an array has; none for a runtime array.
     pub fn array_size(self) -> Option<u32>
         ensures { result ≡ size_of self.b self.c }
     {
-        if self.b == 0 { Some(self.c) } else { None }
+        (self.b == 0).then_some(self.c)
     }
 }
 
@@ -303,11 +345,7 @@ impl Words {
 pub fn item_or<T: Copy>(items: &[T], at: usize, otherwise: T) -> T
     ensures { result ≡ get_or items.now at otherwise }
 {
-    if at < items.len() {
-        items[at]
-    } else {
-        otherwise
-    }
+    items.get(at).copied().unwrap_or(otherwise)
 }
 
 // A word of a table; 0 past it.
@@ -333,7 +371,7 @@ pub fn own_table_word(words: &[u32], width: usize, i: u32, k: usize) -> u32
 }
 
 // Word k of record i; 0 past the table.
-// Kept: an instance of table_word, as member_type and those after it.
+// Kept: one line over table_word, as member_type and those after it: a caller that gave the width could give that of another table.
 pub fn type_word(types: &[u32], i: u32, k: u32) -> u32
     ensures { result ≡ type_word types.now i k }
 {
@@ -355,7 +393,7 @@ pub fn is_of_kind(types: &[u32], i: u32, kind: Kind) -> bool
     type_word(types, i, 0) == kind as u32
 }
 
-// Kept: as member_count, by the width of its own table, which has a name in the definitions.
+// Kept: type_count and member_count are a length by a width; one function of the width would be that division itself.
 pub fn type_count(types: &[u32]) -> usize
     ensures { result ≡ type_count types.now }
 {
@@ -379,7 +417,8 @@ const LOCATION: u32 = 2;
 
 const SOURCE: u32 = 3;
 
-// Kept: these four differ by the word alone, and name it: a caller that said its position could say another.
+// Kept: these four are one line each over table_word, by four definitions; one function of the word's position would be table_word itself. And a location
+// or a source is the word as it is stored, value plus one or 0: the rules compare these words, and an Option would be made for each comparison.
 pub fn member_type(part: &[u32], j: u32) -> u32
     ensures { result ≡ member_type part.now j }
 {
@@ -408,6 +447,7 @@ pub fn member_source(part: &[u32], j: u32) -> u32
 }
 
 // Whether row j has a blend source and no location.
+// Kept: it reads the words itself, since `any` over the rows counts them by usize, and member_source takes the u32 of a record.
 fn is_unlocated(part: &[u32], j: usize) -> bool
     requires { j < member_count part.now }
     ensures { result ≡ is_unlocated part.now j }
@@ -487,6 +527,8 @@ pub fn own_record(types: &[u32], i: u32) -> Words
 }
 
 // The same of a record that the table may end within or before; 0 past it.
+// Kept: the six reads of own_record, each with a test of the length; one function of a closure that reads word k would need a contract that says what
+// each of six calls gives, and two functions around it.
 fn cut_record(types: &[u32], i: u32) -> Words
     ensures { result ≡ record_words types.now i }
 {
@@ -519,6 +561,8 @@ pub fn type_inner(types: &[u32], i: u32) -> TypeInner
 }
 
 /// The member rows of a struct: so many of the member table, which stand there whole.
+// Kept: a count beside the words: it is what the record says and what loops and definitions count to; got from the length it would be a division by
+// four, and each reader would have to cite that the two agree.
 #[derive(Clone, Copy, Debug, PartialEq, Eq)]
 pub struct Members<'a> {
     pub words: &'a [u32],
@@ -528,8 +572,8 @@ pub struct Members<'a> {
 
 impl<'a> Members<'a> {
     /// The type of member j.
-    // Kept: `j < self.count`: what each of these methods asks of its own j.
-    // Kept: these four differ by the word alone, and name it, as member_type and those after it do.
+    // Kept: `j < self.count`: the loops over members have it from their range; a type of such numbers would be made of each j for one call.
+    // Kept: these four are one line each over own_table_word, as member_type and those after it over table_word.
     pub fn type_of(self, j: u32) -> u32
         requires { j < self.count }
         ensures { result ≡ member_type self.entry.words.now j }
@@ -594,22 +638,35 @@ pub fn struct_members<'a>(types: &[u32], members: &'a [u32], i: u32) -> &'a [u32
     &members[..0]
 }
 
-// Number 1: whole records, not too many, and a row for each type.
-// Kept: three lengths that the call has as they are, and no tables.
-pub fn tables_fit(types: usize, members: usize, rows: usize) -> bool
-    ensures { result ≡ tables_fit types members rows }
+/// Number 1 where a test of lengths or of the capability word fails.
+pub fn require_lengths(fit: bool) -> Result<(), Refusal>
+    ensures { LengthsTold result fit }
 {
-    let enough = types / TYPE_WORDS <= rows / ROW_WORDS;
-    (types % TYPE_WORDS == 0)
-        & (types <= MOST_TYPES * TYPE_WORDS)
-        & (members % MEMBER_WORDS == 0)
-        & (members <= MOST_MEMBERS * MEMBER_WORDS)
-        & enough
+    if fit {
+        Ok(())
+    } else {
+        Err(Refusal::of(Fault::TableLength))
+    }
 }
 
-// Number 1: no capability bit above 13.
-pub fn capabilities_known(capabilities: u32) -> bool
-    ensures { result ≡ capabilities_known capabilities }
+/// Number 1: whole records, not too many, and a row for each type.
+// Kept: three lengths, and no tables: calls that lend three words a type ask it of rows that they have not.
+pub fn tables_fit(types: usize, members: usize, rows: usize) -> Result<(), Refusal>
+    ensures { LengthsTold result (tables_fit types members rows) }
 {
-    capabilities <= ALL_CAPABILITIES
+    let enough = types / TYPE_WORDS <= rows / ROW_WORDS;
+    require_lengths(
+        (types % TYPE_WORDS == 0)
+            & (types <= TYPE_TABLE)
+            & (members % MEMBER_WORDS == 0)
+            & (members <= MEMBER_TABLE)
+            & enough,
+    )
+}
+
+/// Number 1: no capability bit above 13.
+pub fn capabilities_known(capabilities: u32) -> Result<(), Refusal>
+    ensures { LengthsTold result (capabilities_known capabilities) }
+{
+    require_lengths(capabilities <= ALL_CAPABILITIES)
 }

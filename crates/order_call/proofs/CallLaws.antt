@@ -23,7 +23,7 @@ use Rattle.valid_arena.proofs.ArenaLaws.{arena_alignment_power}
 use Rattle.valid_type_info.specs.TypeInfo.{rows_in}
 use Rattle.valid_type_info.specs.declared.Row.{Row}
 use Rattle.place_lookup.proofs.LookupLaws.{answer_accepted}
-use Rattle.std.specs.Prelude.{Option, Some, None, Result, Ok, Err}
+use Rattle.std.specs.Prelude.{Option, Some, None, Ok, Err}
 use Rattle.std.specs.Option.{ok_or}
 use Rattle.ir_records.specs.declared.Refusal.{Refusal}
 use Rattle.order_numbers.specs.Order.{member_at}

@@ -2,7 +2,8 @@
 // behind the types and member rows in use.
 #![tactic(auto)]
 
-ghost use Rattle.std.specs.Prelude.{◌≡◌, ℕ, ◌+◌, ◌*◌, ◌≤◌, ◌<◌, length, Some, IfOk};
+ghost use Rattle.std.specs.Prelude.{◌≡◌, ℕ, ◌+◌, ◌*◌, ◌≤◌, ◌<◌, length, true, false, Some, IfOk, MatchResult};
+ghost use Rattle.ir_records.specs.Refusal.{LengthsTold};
 ghost use Rattle.ir_rows.specs.Rows.{row_word};
 ghost use Rattle.proc_alignment.specs.Alignment.{most};
 ghost use Rattle.order_numbers.specs.Order.{member_at};
@@ -24,21 +25,28 @@ pub struct OrderedStruct {
     pub order: Order,
 }
 
-// Number 1.
+// Number 1 where there are too many given types, or no room for their struct.
 // Kept: `types`, `members`, `rows`: three lengths that the call has as they are, and no tables, as in `ir_records::tables_fit`.
-fn has_room(types: usize, members: usize, rows: usize, n: u32, m: u32, k: usize) -> bool
-    ensures { result ≡ room types members rows n m k }
+fn check_room(
+    types: usize,
+    members: usize,
+    rows: usize,
+    n: u32,
+    m: u32,
+    k: usize,
+) -> Result<(), Refusal>
+    ensures { LengthsTold result (room types members rows n m k) }
 {
-    if k > order_numbers::MOST_MEMBERS {
-        return false;
-    }
+    ir_records::require_lengths(k <= order_numbers::MOST_MEMBERS)?;
     let type_count = (n as usize) + 1;
     let member_count = (m as usize) + k;
-    (type_count <= ir_records::MOST_TYPES)
-        & (type_count * ir_records::TYPE_WORDS <= types)
-        & (member_count <= ir_records::MOST_MEMBERS)
-        & (member_count * ir_records::MEMBER_WORDS <= members)
-        & (type_count * ir_records::ROW_WORDS <= rows)
+    ir_records::require_lengths(
+        (type_count <= ir_records::MOST_TYPES)
+            & (type_count * ir_records::TYPE_WORDS <= types)
+            & (member_count <= ir_records::MOST_MEMBERS)
+            & (member_count * ir_records::MEMBER_WORDS <= members)
+            & (type_count * ir_records::ROW_WORDS <= rows),
+    )
 }
 
 // The struct of the order that was found, with its own span.
@@ -152,9 +160,7 @@ pub fn order(
     ensures members_after { members.new ≡ (ordered rule capabilities types.old n members.old m rows.old wanted.now span).members }
     ensures rows_after { rows.new ≡ (ordered rule capabilities types.old n members.old m rows.old wanted.now span).rows }
 {
-    if !has_room(types.len(), members.len(), rows.len(), n, m, wanted.len()) {
-        return Err(Refusal::of(Fault::TableLength));
-    }
+    check_room(types.len(), members.len(), rows.len(), n, m, wanted.len())?;
     let t = (n as usize) * ir_records::TYPE_WORDS;
     let u = (m as usize) * ir_records::MEMBER_WORDS;
     valid_arena::check(&types[..t], &members[..u], capabilities, rule, rows)?;

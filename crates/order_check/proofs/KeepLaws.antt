@@ -2,7 +2,7 @@
 -- Assumes nothing.
 use mathlib.Core.Path.{◌≡◌, refl, sym, ap, ◌∙◌}
 use mathlib.Core.List.{List}
-use Prim.Native.Nat.{ℕ, ◌+◌, ◌-◌, ◌≤◌}
+use Prim.Native.Nat.{ℕ, ◌+◌, ◌≤◌}
 use native.Mathlib.Omega.{arith}
 use borrow.Rule.Slice.PartMut.{put_mid}
 use lib.ListN.{length, take, drop, take-append-drop, length-drop}
@@ -19,7 +19,7 @@ use Rattle.order_check.specs.Tables.{if_accepted}
 
 -- a refusal leaves what was kept
 pub refused-kept : (r : Result (Unit {0}) Refusal) (written kept : List ℕ) → is_err r ≡ true → if_accepted (outcome_of r) written kept ≡ kept
-refused-kept (Ok u) written kept e = let z : ◌≡◌ {A = ℕ} 0 1 = cc in absurd (omega arith)
+refused-kept (Ok u) written kept e = cc
 refused-kept (Err f) written kept e = refl
 
 -- the first words of a buffer after words were copied there

@@ -21,9 +21,7 @@ use valid_type_info::UniformRule;
 const MOST_WORDS: usize = order_numbers::MOST_MEMBERS * ir_records::MEMBER_WORDS;
 
 /// Writes the struct of an order behind n types and m member rows, and has the arena with it checked; a refusal puts the words back.
-// Kept: counts beside the tables, which go on past what is in use, since the struct is written there. And parameters one by one, here and in
-// `order_call`: types, members and rows are lent with `&mut`, so a struct of them is none that is copied; each call would lend the three anew, and
-// clauses say `arena.old.types` for `types.old`.
+// Kept: counts beside the tables, which go on past what is in use. And one by one, here and in `order_call`: a struct of three `&mut` tables would be made anew for each call.
 pub fn tried(
     types: &mut [u32],
     n: u32,

@@ -1,11 +1,14 @@
 -- Laws of placement: orders that hold the same members measure the same, and no offset is past the span where alignments are positive.
 -- Assumes nothing.
-use mathlib.Core.Path.{◌≡◌, refl, ap}
+use mathlib.Core.Path.{◌≡◌, refl, ap, ◌∙◌}
 use mathlib.Core.List.{List}
-use Prim.Native.Nat.{ℕ, zero, suc, ◌≤◌, ◌<◌}
+use Prim.Native.Nat.{ℕ, zero, suc, ◌+◌, ◌≤◌, ◌<◌}
 use native.Mathlib.Nat.{le_refl, le_trans}
 use native.Mathlib.Decide.{ℕ_discrete}
 use native.Mathlib.Omega.{arith}
+use native.Mathlib.Numerals.{add-one}
+use Rattle.std.specs.Prelude.{max}
+use Rattle.std.specs.List.{fold, range_with_len}
 use Rattle.proc_alignment.specs.Alignment.{round_up}
 use Rattle.proc_alignment.proofs.RoundLaws.{round_up_next}
 use Rattle.order_numbers.specs.Order.{Same}
@@ -23,6 +26,19 @@ module _ (rows wanted : List ℕ) where
   pub span_same : (a b : ℕ → ℕ) (n : ℕ) → Same n a b → span_of rows wanted n a ≡ span_of rows wanted n b
   unfolding span_of
   span_same a b n s = ap (round_up (align_of_struct rows wanted n)) (end_same a b n s)
+
+  -- ---- the greatest alignment of a range, from the front
+  fold_from : (n k : ℕ) → fold (λ most m. max most (align_of rows wanted m)) (align_of_struct rows wanted k) (range_with_len k n) ≡ align_of_struct rows wanted (n + k)
+  unfolding align_of_struct
+  fold_from zero k = let none : k ≡ 0 + k = omega arith in ap (align_of_struct rows wanted) none
+  fold_from (suc n) k =
+      let next : fold (λ most m. max most (align_of rows wanted m)) (align_of_struct rows wanted (suc k)) (range_with_len (suc k) n) ≡ align_of_struct rows wanted (n + suc k) = fold_from n (suc k) in
+      let sum : n + suc k ≡ suc n + k = omega arith in
+      ap (λ (i : ℕ). fold (λ most m. max most (align_of rows wanted m)) (align_of_struct rows wanted (suc k)) (range_with_len i n)) (add-one k) ∙ next ∙ ap (align_of_struct rows wanted) sum
+
+  pub fold_alignments : (n : ℕ) → fold (λ most m. max most (align_of rows wanted m)) 1 (range_with_len 0 n) ≡ align_of_struct rows wanted n
+  unfolding align_of_struct
+  fold_alignments n = let all : n + 0 ≡ n = omega arith in fold_from n 0 ∙ ap (align_of_struct rows wanted) all
 
   -- ---- positive alignments
   align_positive : (n : ℕ) → 1 ≤ align_of_struct rows wanted n

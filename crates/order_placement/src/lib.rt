@@ -43,7 +43,7 @@ impl<'a> Given<'a> {
         let mut end: u64 = 0;
         for j in 0..count {
             let m = order.member_at(j);
-            let offset = wgsl_placement::round_up(self.word_of(m, ALIGNMENT), end);
+            let offset = proc_alignment::round_up_wide(self.word_of(m, ALIGNMENT), end);
             let size = self.word_of(m, SIZE) as u64;
             end = offset + size;
         }
@@ -57,7 +57,7 @@ impl<'a> Given<'a> {
     {
         let m = order.member_at(j);
         let end = self.end_after(order, j);
-        wgsl_placement::round_up(self.word_of(m, ALIGNMENT), end)
+        proc_alignment::round_up_wide(self.word_of(m, ALIGNMENT), end)
     }
 
     // The alignment of a struct of the first n.
@@ -65,11 +65,7 @@ impl<'a> Given<'a> {
     fn align_of_struct(self, n: u32) -> u32
         ensures { result ≡ align_of_struct self.entry.rows.now self.entry.wanted.now n }
     {
-        let mut most: u32 = 1;
-        for m in 0..n {
-            most = most.max(self.word_of(m, ALIGNMENT));
-        }
-        most
+        (0..n).fold(1, |most, m| most.max(self.word_of(m, ALIGNMENT)))
     }
 
     /// The struct's span.
@@ -79,6 +75,6 @@ impl<'a> Given<'a> {
     {
         let most = self.align_of_struct(order.n);
         let end = self.end_after(order, order.n);
-        wgsl_placement::round_up(most, end)
+        proc_alignment::round_up_wide(most, end)
     }
 }

@@ -52,14 +52,7 @@ pub fn put_struct(types: &mut [u32], n: u32, members: &mut [u32], placed: Placed
     ensures types_after { types.new ≡ with_part 6 types.old (n * 6) (struct_record placed.entry.m placed.entry.order.n span) }
     ensures members_after { members.new ≡ with_part (placed.entry.order.n * 4) members.old (placed.entry.m * 4) (member_rows placed.entry.given.rows.now placed.entry.given.wanted.now placed.entry.order.n (member_at placed.entry.order.n placed.entry.order.number)) }
 {
-    let words = Words {
-        kind: Kind::Struct as u32,
-        a: placed.m,
-        b: placed.order.n,
-        c: span,
-        d: 0,
-        e: 0,
-    };
+    let words = Words::of(Kind::Struct as u32, placed.m, placed.order.n, span, 0);
     wgsl_tables::put_type(types, n, words);
     put_rows(members, placed);
 }

@@ -1,2 +1,1 @@
 pub mod GivenLaws
-mod SortLaws

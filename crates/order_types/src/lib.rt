@@ -10,7 +10,7 @@ use ir_records::{Fault, Kind, Refusal};
 use order_placement::Given;
 
 // The sorts of types.
-// Kept: `NoData` and `Outside` are sorts that are searched for as the others are, by `==`; as the errors of a Result each search would compare that.
+// Kept: `NoData` and `Outside` are searched for as the others are. As errors of a Result, each search would be for `Ok(Sort::RuntimeArray)` or `Err(Fault::InvalidData)`, and `check` would name each fault twice.
 #[derive(Clone, Copy, Debug, PartialEq, Eq)]
 enum Sort {
     Sized,
@@ -21,6 +21,7 @@ enum Sort {
 }
 
 /// The types given for an order, up to seven, beside an arena of n types.
+// Kept: n beside the table, which may go on past n: of a table cut at n each test against n would work out a sixth of the length, and the definitions of specs/Given, which take both, would be of the cut.
 #[derive(Clone, Copy, Debug, PartialEq, Eq)]
 pub struct GivenTypes<'a> {
     pub types: &'a [u32],

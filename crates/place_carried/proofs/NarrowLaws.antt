@@ -9,6 +9,7 @@ use native.Mathlib.Decide.{ℕ_discrete}
 use native.Mathlib.Omega.{arith}
 use lib.Dec.{ltb}
 use borrow.Author.Tests.{ltb-true, ltb-false}
+use Rattle.std.proofs.lemmas.Bool.{or_parts}
 use Rattle.ir_records.specs.Record.{Decoded, member_type}
 use Rattle.ir_records.specs.Table.{table, value_at}
 use Rattle.ir_records.specs.declared.TypeInner.{TypeInner}
@@ -24,10 +25,6 @@ use Rattle.place_carried.specs.Count.{some}
 use Rattle.place_carried.specs.Carried.{narrow_of, narrow_step, narrow}
 use Rattle.place_carried.proofs.CountLaws.{either_true, some_at, some_of}
 use Rattle.place_carried.proofs.SumLaws.{size-of}
-
-or_false : (a b : Bool) → (a || b) ≡ false → (a ≡ false) × (b ≡ false)
-or_false true b e = absurd (true≢false e)
-or_false false b e = (refl, e)
 
 module _ (types : ℕ → Decoded) where
   -- from the types before it
@@ -72,11 +69,11 @@ module _ (rule : UniformRule) (c : ℕ) (types : ℕ → Decoded) (n : ℕ) (acc
   own_stride t l (Plain leaf) e f = tt
   own_stride t l (Array base count stride) e f =
       let b = (array_row (least_for rule) c types n acc t l base count stride e).0 in
-      let g = or_false (ltb stride (size_of (types base).inner)) (narrow types base) (sym (narrow_array types t base count stride e b) ∙ f) in
+      let g = or_parts (ltb stride (size_of (types base).inner)) (narrow types base) (sym (narrow_array types t base count stride e b) ∙ f) in
       omega (arith, ltb-false stride (size_of (types base).inner) g.0, size-of rule c types n acc base (omega arith) (types base).inner refl)
   own_stride t l (RuntimeArray base stride) e f =
       let b = (runtime_array_row (least_for rule) c types n acc t l base stride e).0 in
-      let g = or_false (ltb stride (size_of (types base).inner)) (narrow types base) (sym (narrow_runtime_array types t base stride e b) ∙ f) in
+      let g = or_parts (ltb stride (size_of (types base).inner)) (narrow types base) (sym (narrow_runtime_array types t base stride e b) ∙ f) in
       omega (arith, ltb-false stride (size_of (types base).inner) g.0, size-of rule c types n acc base (omega arith) (types base).inner refl)
   own_stride t l (Struct count span) e f = tt
   own_stride t l (Other o) e f = tt
@@ -85,10 +82,10 @@ module _ (rule : UniformRule) (c : ℕ) (types : ℕ → Decoded) (n : ℕ) (acc
   not_narrow {t = t} itself l f = own_stride t l (types t).inner refl f
   not_narrow {t = t} (element {base = base} {count = count} {stride = stride} e r) l f =
       let b = (array_row (least_for rule) c types n acc t l base count stride e).0 in
-      not_narrow r (omega arith) (or_false (ltb stride (size_of (types base).inner)) (narrow types base) (sym (narrow_array types t base count stride e b) ∙ f)).1
+      not_narrow r (omega arith) (or_parts (ltb stride (size_of (types base).inner)) (narrow types base) (sym (narrow_array types t base count stride e b) ∙ f)).1
   not_narrow {t = t} (runtime_element {base = base} {stride = stride} e r) l f =
       let b = (runtime_array_row (least_for rule) c types n acc t l base stride e).0 in
-      not_narrow r (omega arith) (or_false (ltb stride (size_of (types base).inner)) (narrow types base) (sym (narrow_runtime_array types t base stride e b) ∙ f)).1
+      not_narrow r (omega arith) (or_parts (ltb stride (size_of (types base).inner)) (narrow types base) (sym (narrow_runtime_array types t base stride e b) ∙ f)).1
   not_narrow {t = t} (member {count = count} {span = span} j e lj r) l f =
       let b = member_earlier (least_for rule) c types n acc t l count span e in
       not_narrow r (omega (arith, b j lj)) ((not-eq-not {b = false}).0 (λ q.

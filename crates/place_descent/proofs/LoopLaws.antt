@@ -10,8 +10,7 @@ use lib.ListN.{length, get_or, drop, drop_of_length-le}
 use lib.Seq.{drop-cons}
 use borrow.Author.Tests.{le-ltb}
 use Rattle.ir_records.specs.Result.{pick}
-use Rattle.ir_records.specs.Record.{type_count, type_inner, decoded}
-use Rattle.ir_records.specs.Serving.{InnerBounds}
+use Rattle.ir_records.specs.Record.{type_count, decoded}
 use Rattle.place_steps.specs.Step.{To, Column, NoStep}
 use Rattle.place_descent.specs.Place.{At, NoPlace}
 use Rattle.std.specs.Bool.{then_some}

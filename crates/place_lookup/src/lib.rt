@@ -12,6 +12,8 @@ use place_descent::Place;
 use valid_type_info::UniformRule;
 
 /// A place as the answer of a call; 26 carries zeros only.
+// Kept beside `immediates_ranges::part_answer`: one function for both would be `ok_or` itself, handed the refusal; each contract speaks of the answer of
+// its own call.
 pub fn place_answer(place: Option<Place>) -> Result<Place, Refusal>
     ensures { place_answer_of result ≡ place_answer (found_place place) }
 {

@@ -4,7 +4,8 @@
 
 ghost use Rattle.std.specs.Prelude.{◌≡◌, ℕ, ◌+◌, ◌*◌, ◌^◌, ◌≤◌, ◌<◌, length, Some};
 ghost use Rattle.ir_records.specs.Record.{type_count, type_inner};
-ghost use Rattle.ir_records.specs.Refusal.{outcome_of};
+ghost use Rattle.ir_records.specs.Fields.{most_types};
+ghost use Rattle.ir_records.specs.Refusal.{outcome_of, LengthsTold};
 ghost use Rattle.ir_records.specs.Table.{first_refusal};
 ghost use Rattle.ir_records.specs.Serving.{LeafBounds, InnerBounds};
 ghost use Rattle.ir_rows.specs.Rows.{row_word, with_part, cleared};
@@ -46,6 +47,15 @@ fn entry(report: &[u64], k: u32) -> Option<u64>
     }
 }
 
+// Writes two words of the report from `at` on.
+// Kept: `at + 2 ≤ length report.old`: the report is lent with `&mut`; a slice of the two words would be cut by each caller, which would prove what is left.
+fn put_pair(report: &mut [u64], at: usize, pair: [u64; 2])
+    requires { at + 2 ≤ length report.old }
+    ensures { report.new ≡ with_part report_width report.old at pair }
+{
+    report[at..at + REPORT_WIDTH].copy_from_slice(&pair);
+}
+
 // Writes what is kept of a type from `at` on.
 fn put_leaf_bytes(report: &mut [u64], at: usize, own: Option<u64>)
     requires { at + 2 ≤ length report.old }
@@ -55,7 +65,7 @@ fn put_leaf_bytes(report: &mut [u64], at: usize, own: Option<u64>)
         Some(bytes) => [bytes, 0],
         None => [0, 1],
     };
-    report[at..at + REPORT_WIDTH].copy_from_slice(&pair);
+    put_pair(report, at, pair);
 }
 
 // Writes the counts of a type from `at` on.
@@ -63,7 +73,7 @@ fn put_counts(report: &mut [u64], at: usize, counts: Totals)
     requires { at + 2 ≤ length report.old }
     ensures { report.new ≡ with_part report_width report.old at (counts_pair counts) }
 {
-    report[at..at + REPORT_WIDTH].copy_from_slice(&[counts.carried, counts.wasted]);
+    put_pair(report, at, [counts.carried, counts.wasted]);
 }
 
 // The bytes that leaves carry of data that is neither array nor struct, by what it measures.
@@ -78,9 +88,11 @@ fn leaf_carried(leaf: Leaf, size: u32) -> u32
     }
 }
 
-// The rows and the report of the types before one: sizes, and what the first pass left.
+// The tables, and of the types before one their rows and their report: sizes, and what the first pass left.
 #[derive(Clone, Copy, Debug, PartialEq, Eq)]
 struct Before<'a> {
+    types: &'a [u32],
+    members: &'a [u32],
     rows: &'a [u32],
     report: &'a [u64],
     ghost small: { (k bytes : ℕ) → entry_in report.now k ≡ Some bytes → bytes < 2 ^ 32 },
@@ -132,51 +144,51 @@ impl<'a> Before<'a> {
     }
 
     // Those of type i, which measures `size`, where it is host-shareable; for another 0 is kept.
-    // Kept: `types`, `members`, `i`: the first pass reads one type after the other; a struct of the three would be made anew for each.
     #[tactic(auto, unfolding(crate::specs::Serving::leaf_bytes_at))]
-    fn leaf_bytes_at(self, types: &[u32], members: &[u32], i: u32, size: u32) -> Option<u64>
-        requires { InnerBounds (type_inner types.now i) }
-        ensures { result ≡ leaf_bytes_at types.now members.now self.entry.rows.now self.entry.report.now i size }
+    fn leaf_bytes_at(self, i: u32, size: u32) -> Option<u64>
+        requires { InnerBounds (type_inner self.types.now i) }
+        ensures { result ≡ leaf_bytes_at self.entry.types.now self.entry.members.now self.entry.rows.now self.entry.report.now i size }
     {
         let flags = ir_rows::row_word(self.rows, i, FLAGS);
         if valid_flags::is_host_shareable(flags) {
-            let inner = ir_records::type_inner(types, i);
-            let part = ir_records::struct_members(types, members, i);
+            let inner = ir_records::type_inner(self.types, i);
+            let part = ir_records::struct_members(self.types, self.members, i);
             return self.leaf_bytes_of(inner, part, size);
         }
         Some(0)
     }
 }
 
-// The first pass: the bytes that leaves carry of each of the n types, in the report; or number 27, and zeros.
-// Kept: a count beside the report: it also says how many types there are, whose numbers the loop takes; a slice of n pairs would be handed on with
-// the same n beside it.
+// Kept: `type_count types.now ≤ most_types`, `type_count types.now * 2 ≤ length report.old`: the report is lent with `&mut`, so that no struct that is
+// copied holds it beside the types; both passes and `fill`, which calls them, take both.
+// The first pass: the bytes that leaves carry of each type, in the report; or number 27, and zeros.
 fn leaf_bytes_all(
     types: &[u32],
     members: &[u32],
     rows: &[u32],
     report: &mut [u64],
-    n: u32,
 ) -> Result<(), Refusal>
-    requires n_value { n ≡ type_count types.now }
-    requires n_in_bounds { n * 2 ≤ length report.old }
+    requires few { type_count types.now ≤ most_types }
+    requires room { type_count types.now * 2 ≤ length report.old }
     requires rows_of { RowsOf types.now members.now rows.now }
-    ensures value { outcome_of result ≡ first_refusal (narrow_struct types.now members.now rows.now) n }
-    ensures report_after { report.new ≡ first_pass_words (outcome_of result) types.now members.now rows.now n report.old }
+    ensures value { outcome_of result ≡ first_refusal (narrow_struct types.now members.now rows.now) (type_count types.now) }
+    ensures report_after { report.new ≡ first_pass_words (outcome_of result) types.now members.now rows.now (type_count types.now) report.old }
 {
-    for i in 0..n {
+    let n = ir_records::type_count(types);
+    for i in 0..n as u32 {
         let at = (i as usize) * REPORT_WIDTH;
         let size = ir_rows::row_word(rows, i, SIZE);
         let before = Before {
+            types,
+            members,
             rows,
             report: &report[..at],
         };
-        let own = before.leaf_bytes_at(types, members, i, size);
+        let own = before.leaf_bytes_at(i, size);
         let structured = valid_type_flags::is_struct(types, i);
         let narrow = own.is_none();
         if structured & narrow {
-            let words = (n as usize) * REPORT_WIDTH;
-            report[..words].fill(0);
+            report[..n * REPORT_WIDTH].fill(0);
             return Err(TypeRefusal::of(Fault::NarrowStride).at(i));
         }
         put_leaf_bytes(report, at, own);
@@ -204,17 +216,18 @@ fn counts_at(types: &[u32], rows: &[u32], i: u32, bytes: u64) -> Totals
     }
 }
 
-// The second pass: the counts of n types in place of what was kept, and their totals.
-// Kept: a count beside the report, as in `leaf_bytes_all`.
-fn counts_all(types: &[u32], rows: &[u32], report: &mut [u64], n: u32) -> Totals
-    requires n_in_bounds { n * 2 ≤ length report.old }
-    requires all_carry { AllCarry types.now rows.now report.old n }
-    ensures value { result ≡ totals_in types.now rows.now report.old n }
-    ensures report_after { report.new ≡ second_pass_words types.now rows.now report.old n }
+// The second pass: the counts of each type in place of what was kept, and their totals.
+fn counts_all(types: &[u32], rows: &[u32], report: &mut [u64]) -> Totals
+    requires few { type_count types.now ≤ most_types }
+    requires room { type_count types.now * 2 ≤ length report.old }
+    requires all_carry { AllCarry types.now rows.now report.old (type_count types.now) }
+    ensures value { result ≡ totals_in types.now rows.now report.old (type_count types.now) }
+    ensures report_after { report.new ≡ second_pass_words types.now rows.now report.old (type_count types.now) }
 {
     let mut carried: u64 = 0;
     let mut wasted: u64 = 0;
-    for i in 0..n {
+    let n = ir_records::type_count(types);
+    for i in 0..n as u32 {
         let at = (i as usize) * REPORT_WIDTH;
         let bytes = report[at];
         let counts = counts_at(types, rows, i, bytes);
@@ -226,33 +239,32 @@ fn counts_all(types: &[u32], rows: &[u32], report: &mut [u64], n: u32) -> Totals
 }
 
 // The report of accepted types: number 27, or both counts of each and the totals.
-// Kept: a count beside the report, as in `leaf_bytes_all`.
-fn fill(
-    types: &[u32],
-    members: &[u32],
-    rows: &[u32],
-    report: &mut [u64],
-    n: u32,
-) -> Result<Totals, Refusal>
-    requires n_value { n ≡ type_count types.now }
-    requires n_in_bounds { n * 2 ≤ length report.old }
+fn fill(types: &[u32], members: &[u32], rows: &[u32], report: &mut [u64]) -> Result<Totals, Refusal>
+    requires few { type_count types.now ≤ most_types }
+    requires room { type_count types.now * 2 ≤ length report.old }
     requires rows_of { RowsOf types.now members.now rows.now }
-    ensures value { report_answer_of result ≡ fill_answer types.now members.now rows.now n }
-    ensures report_after { report.new ≡ fill_words types.now members.now rows.now n report.old }
+    ensures value { report_answer_of result ≡ fill_answer types.now members.now rows.now (type_count types.now) }
+    ensures report_after { report.new ≡ fill_words types.now members.now rows.now (type_count types.now) report.old }
 {
-    leaf_bytes_all(types, members, rows, report, n)?;
-    Ok(counts_all(types, rows, report, n))
+    leaf_bytes_all(types, members, rows, report)?;
+    Ok(counts_all(types, rows, report))
 }
 
 // Number 1: the lengths and the capability word.
 // Kept: `types`, `members`, `rows`: three lengths that the call has as they are, and no tables, as in `ir_records::tables_fit`.
-fn lengths_fit(capabilities: u32, types: usize, members: usize, rows: usize, report: usize) -> bool
-    ensures { result ≡ lengths_fit capabilities types members rows report }
+#[tactic(auto, unfolding(crate::specs::Report::lengths_fit))]
+fn lengths_fit(
+    capabilities: u32,
+    types: usize,
+    members: usize,
+    rows: usize,
+    report: usize,
+) -> Result<(), Refusal>
+    ensures { LengthsTold result (lengths_fit capabilities types members rows report) }
 {
-    let known = ir_records::capabilities_known(capabilities);
-    let fit = ir_records::tables_fit(types, members, rows);
-    let words = types / ir_records::TYPE_WORDS * REPORT_WIDTH;
-    known & fit & (words <= report)
+    ir_records::capabilities_known(capabilities)?;
+    ir_records::tables_fit(types, members, rows)?;
+    ir_records::require_lengths(types / ir_records::TYPE_WORDS * REPORT_WIDTH <= report)
 }
 
 // The report over an arena: for each host-shareable struct the bytes carried and the bytes wasted in the lent report, two words a type, and the
@@ -270,20 +282,17 @@ pub fn report(
     ensures rows_after { rows.new ≡ report_rows rule capabilities types.now members.now rows.old report.old }
     ensures report_after { report.new ≡ report_words capabilities types.now members.now rows.old report.old }
 {
-    if !lengths_fit(
+    lengths_fit(
         capabilities,
         types.len(),
         members.len(),
         rows.len(),
         report.len(),
-    ) {
-        return Err(Refusal::of(Fault::TableLength));
-    }
-    let n = ir_records::type_count(types) as u32;
+    )?;
     if let Err(refusal) = valid_arena::check(types, members, capabilities, rule, rows) {
-        let words = (n as usize) * REPORT_WIDTH;
+        let words = ir_records::type_count(types) * REPORT_WIDTH;
         report[..words].fill(0);
         return Err(refusal);
     }
-    fill(types, members, rows, report, n)
+    fill(types, members, rows, report)
 }

@@ -21,7 +21,7 @@ use Rattle.ir_records.specs.Outcome.{Accepted, Refused}
 use Rattle.ir_records.specs.Fields.{row_words}
 use Rattle.ir_records.proofs.TableLaws.{flat_length, flat_word}
 use Rattle.ir_rows.specs.Rows.{with_part}
-use Rattle.ir_rows.proofs.RowLaws.{flat_more, drop_part}
+use Rattle.ir_rows.proofs.RowLaws.{flat_more}
 use Rattle.place_descent.specs.Place.{Place}
 use Rattle.place_descent.specs.Place.{At, NoPlace}
 use Rattle.place_descent.specs.Place.{place_of}
@@ -59,9 +59,6 @@ module _ (ts ms q : List ℕ) (j : ℕ) (answers answers' : List ℕ) (p : Place
 
   pub pair_written : take ((j + 1) * pair_width) answers' ≡ flat (pair_at ts ms q) (j + 1)
   pair_written = rw written (flat_more pair_width answers (pair_at ts ms q) j so_far (pair_wide (place_of ts ms (run_start q j) (run_steps q j))) room)
-
-  pub pair_rest : (m : ℕ) → j < m → drop (m * pair_width) answers' ≡ drop (m * pair_width) answers
-  pair_rest m h = rw after (drop_part pair_width answers (place_pair p) (j * pair_width) (pair_wide p) room (m * pair_width) (omega arith))
 
 module _ (c : ℕ) (ts ms scratch q : List ℕ) where
   -- what the code makes of run j is the lookup's answer

@@ -1,7 +1,7 @@
 -- 02, E10, for a loader that looks up thousands of places: lists of steps one after the other in lent words, as runs. A run is its start, how many
 -- steps it has, and the steps.
 -- Assumes nothing.
-use Rattle.std.specs.Prelude.{Bool, List, ℕ, zero, suc, ◌+◌, ◌*◌, eqb, ltb, length, get_or, take, drop}
+use Rattle.std.specs.Prelude.{Bool, List, ℕ, zero, suc, ◌+◌, eqb, ltb, length, get_or, take, drop}
 use Rattle.ir_records.specs.Result.{pick}
 
 -- how many steps the run that begins at `at` has, and where it ends

@@ -1,11 +1,9 @@
 -- Serves the contracts of functions inside the library: it adds nothing to what the other files say, and a reader may skip it.
 -- Assumes nothing.
-use Rattle.std.specs.Prelude.{◌≡◌, ◌≤◌, ◌+◌, List, [], ◌∷◌, ℕ, Bool, true, false, Option, Some, None, length, get_or, take, drop}
+use Rattle.std.specs.Prelude.{◌≡◌, ◌≤◌, ◌+◌, List, [], ◌∷◌, ℕ, Option, Some, None, length, get_or, take, drop}
 use Rattle.ir_records.specs.Result.{pick}
 use Rattle.place_runs.specs.Runs.{step_count, run_end, run_count, runs_whole, run_start, run_steps}
 use Rattle.place_runs.specs.declared.Run.{Run}
-use Rattle.ir_records.specs.Outcome.{Outcome}
-use Rattle.ir_records.specs.Outcome as outcome
 use Rattle.place_descent.specs.Place.{Place}
 use Rattle.place_descent.specs.Place.{At, NoPlace}
 use Rattle.place_descent.specs.Place.{place_of}

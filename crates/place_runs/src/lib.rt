@@ -59,7 +59,8 @@ fn runs_of(queries: &[u32]) -> Option<usize>
 {
     let mut n: usize = 0;
     let mut at: usize = 0;
-    // Kept: `at` goes on by a run of words, which no range does.
+    // Kept: `at` goes on by a run of words. An iterator of runs would end alike behind the last and before one that is cut short, which this count tells
+    // apart; one that gives either would be unwrapped again in `fill`, where none is cut short.
     while at < queries.len() {
         let run = run_from(queries, at)?;
         at = run.end;
@@ -69,6 +70,7 @@ fn runs_of(queries: &[u32]) -> Option<usize>
 }
 
 // Writes the two words of a place from `at` on.
+// Kept beside the pairs of `place_report`: neither crate uses the other, and a function for both in a crate below would hold this one line.
 fn put_place(answers: &mut [u64], at: usize, place: Option<Place>)
     requires { at + 2 ≤ length answers.old }
     ensures { answers.new ≡ with_part pair_width answers.old at (place_pair (found_place place)) }
@@ -80,17 +82,17 @@ fn put_place(answers: &mut [u64], at: usize, place: Option<Place>)
     answers[at..at + PAIR_WORDS].copy_from_slice(&pair);
 }
 
-// The answers of n runs, which are all there are, in an accepted arena.
-// Kept: a count beside the answers: it also says how many runs the words have, of which each has its pair; a slice of n pairs would be handed on
-// with the same n beside it.
-fn fill(types: &[u32], members: &[u32], queries: &[u32], answers: &mut [u64], n: usize)
+// The answers of all runs, a pair for each, in an accepted arena.
+// Kept: pairs by their number: by `chunks_exact_mut` `at` would go on beside it all the same, and the law of the pairs written so far would be stated
+// anew over the parts of the iterator.
+fn fill(types: &[u32], members: &[u32], queries: &[u32], answers: &mut [u64])
     requires descends { Descends (decoded types.now members.now) (type_count types.now) }
-    requires n_value { run_at queries.now n ≡ length queries.now }
-    requires n_in_bounds { n * 2 ≤ length answers.old }
-    ensures { answers.new ≡ flat (pair_at types.now members.now queries.now) n ++ drop (n * 2) answers.old }
+    requires whole { runs_whole queries.now ≡ true }
+    requires pairs { length answers.old ≡ run_count queries.now * 2 }
+    ensures { answers.new ≡ flat (pair_at types.now members.now queries.now) (run_count queries.now) }
 {
     let mut at: usize = 0;
-    for j in 0..n {
+    for j in 0..answers.len() / PAIR_WORDS {
         let run = run_from(queries, at).unwrap();
         let place = place_descent::place_of(types, members, run.start, run.steps);
         put_place(answers, j * PAIR_WORDS, place);
@@ -98,8 +100,8 @@ fn fill(types: &[u32], members: &[u32], queries: &[u32], answers: &mut [u64], n:
     }
 }
 
+// Kept: `types`, `members`, `capabilities`, `scratch`, `scratch.new ≡ short_words capabilities types.now members.now scratch.old`: as of `place_short::judge`.
 // One judging and then the answers, once all lengths are in order; in a refused arena there is no place.
-// Kept: a count beside the answers, as in `fill`.
 fn places_in(
     types: &[u32],
     members: &[u32],
@@ -107,21 +109,19 @@ fn places_in(
     scratch: &mut [u32],
     queries: &[u32],
     answers: &mut [u64],
-    n: usize,
 ) -> Result<(), Refusal>
-    requires scratch_value { short_fits capabilities types.now members.now scratch.old ≡ true }
-    requires queries_value { runs_whole queries.now ≡ true }
-    requires n_value { n ≡ run_count queries.now }
-    requires n_in_bounds { n * 2 ≤ length answers.old }
+    requires fits { short_fits capabilities types.now members.now scratch.old ≡ true }
+    requires whole { runs_whole queries.now ≡ true }
+    requires pairs { length answers.old ≡ run_count queries.now * 2 }
     ensures value { outcome_of result ≡ short_answer capabilities types.now members.now scratch.old }
     ensures scratch_after { scratch.new ≡ short_words capabilities types.now members.now scratch.old }
-    ensures answers_after { answers.new ≡ flat (answer_at capabilities types.now members.now scratch.old queries.now) n ++ drop (n * 2) answers.old }
+    ensures answers_after { answers.new ≡ flat (answer_at capabilities types.now members.now scratch.old queries.now) (run_count queries.now) }
 {
     let outcome = place_short::judge(types, members, capabilities, scratch);
     if outcome.is_ok() {
-        fill(types, members, queries, answers, n);
+        fill(types, members, queries, answers);
     } else {
-        answers[..n * PAIR_WORDS].fill(NONE);
+        answers.fill(NONE);
     }
     outcome
 }
@@ -139,12 +139,9 @@ pub fn places(
     ensures scratch_after { scratch.new ≡ places_scratch capabilities types.now members.now scratch.old queries.now answers.old }
     ensures answers_after { answers.new ≡ places_words capabilities types.now members.now scratch.old queries.now answers.old }
 {
-    if !place_short::lengths_fit(capabilities, types.len(), members.len(), scratch.len()) {
-        return Err(Refusal::of(Fault::TableLength));
-    }
+    place_short::lengths_fit(capabilities, types.len(), members.len(), scratch.len())?;
     let n = runs_of(queries).ok_or(Refusal::of(Fault::TableLength))?;
-    if answers.len() / PAIR_WORDS < n {
-        return Err(Refusal::of(Fault::TableLength));
-    }
-    places_in(types, members, capabilities, scratch, queries, answers, n)
+    ir_records::require_lengths(n <= answers.len() / PAIR_WORDS)?;
+    let pairs = &mut answers[..n * PAIR_WORDS];
+    places_in(types, members, capabilities, scratch, queries, pairs)
 }

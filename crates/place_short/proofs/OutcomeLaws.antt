@@ -2,11 +2,11 @@
 -- Assumes nothing.
 use mathlib.Core.Path.{◌≡◌, refl, sym, ◌∙◌}
 use mathlib.Core.Bool.{Bool, true, false, ◌&&◌}
-use mathlib.Core.List.{List, ◌++◌}
+use mathlib.Core.List.{List}
 use Prim.Native.Nat.{ℕ, zero, suc, ◌*◌, ◌/◌, ◌≤◌}
 use native.Mathlib.Omega.{arith}
 use lib.Dec.{leb, leb→le}
-use lib.ListN.{length, drop, replicate}
+use lib.ListN.{length}
 use Rattle.ir_records.specs.Result.{pick}
 use Rattle.ir_records.specs.Record.{type_words, type_count, decoded}
 use Rattle.ir_records.specs.Fields.{row_words, tables_fit, capabilities_known, record_at}
@@ -18,7 +18,7 @@ use Rattle.ir_records.proofs.TableLaws.{also_accepted, outcome_accepted, all_ok,
 use Rattle.proc_layouter.specs.Layouter.{layout_at, layout_outcome}
 use Rattle.valid_arena.specs.Arena.{common_at, judge_outcome, arena_outcome, arena}
 use Rattle.place_short_layout.specs.ShortRows.{short_width}
-use Rattle.place_short.specs.Short.{lengths_fit, short_fits, short_answer, scratch_after}
+use Rattle.place_short.specs.Short.{lengths_fit, short_fits, short_answer}
 use Rattle.place_short.specs.Serving.{three_result}
 use Rattle.place_short.proofs.ShortLaws.{layout_then_row, three_refusal}
 

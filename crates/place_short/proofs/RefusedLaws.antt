@@ -1,16 +1,16 @@
 -- What a refusal of one type, or of all records, leaves.
 -- Assumes nothing.
 use Rattle.std.specs.Prelude as std
-use mathlib.Core.Path.{◌≡◌, refl, sym, ap, ◌∙◌}
+use mathlib.Core.Path.{◌≡◌, refl, sym, ap}
 use mathlib.Core.List.{List, ◌++◌}
 use Prim.Native.Nat.{ℕ, ◌*◌}
 use lib.ListN.{drop, replicate}
-use Rattle.ir_records.specs.Result.{Result, ok, err, and_then}
+use Rattle.ir_records.specs.Result.{Result, and_then}
 use Rattle.ir_records.specs.Record.{type_count}
 use Rattle.ir_records.specs.Fields.{record_at}
 use Rattle.ir_records.specs.Table.{outcome_at, also, first_refusal}
 use Rattle.ir_records.specs.Outcome.{Outcome, Accepted, Refused}
-use Rattle.ir_records.specs.Refusal.{judged, outcome_of, at_type}
+use Rattle.ir_records.specs.Refusal.{judged, outcome_of, refused_by, at_type}
 use Rattle.ir_records.specs.declared.TypeRefusal.{TypeRefusal}
 use Rattle.ir_records.specs.declared.Refusal.{Refusal}
 use Rattle.ir_records.proofs.RefusalLaws.{IsRefused}
@@ -19,7 +19,7 @@ use Rattle.place_short_layout.specs.ShortRows.{short_width}
 use Rattle.place_short.specs.Short.{scratch_after}
 use Rattle.std.specs.Option.{unwrap_or}
 use Rattle.std.specs.Result.{result_err}
-use Rattle.place_short.specs.Serving.{written_after, refused_outcome}
+use Rattle.place_short.specs.Serving.{written_after}
 use Rattle.place_short.proofs.OutcomeLaws.{arena_records}
 
 -- a refused type is the answer, whatever would have followed
@@ -51,6 +51,6 @@ refused_scratch Accepted second c ts ms n words h = zero_scratch second h c ts m
 refused_scratch (Refused number ty member detail) second c ts ms n words h = refl
 
 -- a refusal that comes first, or the one that was found
-pub earlier : {A : Type 0} (r : std.Result A Refusal) (found : Refusal) → refused_outcome (unwrap_or (result_err r) found) ≡ also (outcome_of r) (refused_outcome found)
+pub earlier : {A : Type 0} (r : std.Result A Refusal) (found : Refusal) → refused_by (unwrap_or (result_err r) found) ≡ also (outcome_of r) (refused_by found)
 earlier (std.Ok a) found = refl
 earlier (std.Err e) found = refl

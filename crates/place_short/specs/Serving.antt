@@ -4,9 +4,6 @@ use Rattle.std.specs.Prelude.{List, ℕ}
 use Rattle.ir_records.specs.Result.{Result, err, ok, and_then}
 use Rattle.ir_records.specs.Record.{type_inner, struct_members}
 use Rattle.ir_records.specs.Table.{flat}
-use Rattle.ir_records.specs.Outcome.{Outcome, Refused}
-use Rattle.ir_records.specs.Refusal.{number_of}
-use Rattle.ir_records.specs.declared.Refusal.{Refusal}
 use Rattle.ir_rows.specs.Rows.{with_part}
 use Rattle.proc_type_alignment.specs.declared.TypeLayout.{TypeLayout}
 use Rattle.proc_type_layout.specs.TypeLayout.{layout_of}
@@ -36,7 +33,3 @@ laid_from ts ms words i = and_then (layout_from ts ms words i) (λ l. ok (three_
 abbrev pub written_after : Result (List ℕ) → (at : ℕ) → List ℕ → List ℕ
 written_after (ok three) at words = with_part short_width words at three
 written_after (err number member detail) at words = words
-
--- a refusal as the outcome of a call
-abbrev pub refused_outcome : Refusal → Outcome
-refused_outcome r = Refused (number_of r.fault) r.ty r.member r.detail

@@ -1,7 +1,7 @@
 // The place lookup with a scratch of three words for each type: size, alignment and flags. No verdict is made.
 #![tactic(auto)]
 
-ghost use Rattle.ir_records.specs.Refusal.{outcome_of};
+ghost use Rattle.ir_records.specs.Refusal.{outcome_of, refused_by, LengthsTold};
 ghost use Rattle.place_lookup.specs.Answer.{place_answer_of};
 ghost use Rattle.std.specs.Prelude.{◌≡◌, true, ◌+◌, ◌*◌, ◌≤◌, ◌<◌, length, take, drop};
 ghost use Rattle.ir_records.specs.Record.{type_count, decoded};
@@ -12,9 +12,9 @@ ghost use Rattle.ir_rows.specs.Rows.{cleared};
 ghost use Rattle.proc_layouter.specs.Layouter.{layout_at};
 ghost use Rattle.valid_arena.specs.Arena.{arena_outcome};
 ghost use Rattle.place_short.specs.Short.{three_at, lengths_fit, short_fits, short_answer, short_lookup, scratch_after, short_words};
-ghost use Rattle.place_short.specs.Serving.{three_result, three_from, laid_from, written_after, refused_outcome};
+ghost use Rattle.place_short.specs.Serving.{three_result, three_from, laid_from, written_after};
 
-use ir_records::{Fault, Refusal};
+use ir_records::Refusal;
 use place_descent::Place;
 use place_short_flags::Judging;
 use place_short_layout::{Before, SHORT_WORDS};
@@ -111,7 +111,7 @@ fn judge_all(arena: Recorded, words: &mut [u32]) -> Result<(), Refusal>
 // The refusal where one was found type by type: 4 to 7 of any type come before it. The words are zeroed.
 fn refused(arena: Recorded, words: &mut [u32], found: Refusal) -> Refusal
     requires { arena.n * 3 ≤ length words.old }
-    ensures value { refused_outcome result ≡ also (first_refusal (layout_at (decoded arena.entry.types.now arena.entry.members.now)) arena.entry.n) (refused_outcome found) }
+    ensures value { refused_by result ≡ also (first_refusal (layout_at (decoded arena.entry.types.now arena.entry.members.now)) arena.entry.n) (refused_by found) }
     ensures words_after { words.new ≡ cleared words.old (arena.entry.n * 3) }
 {
     let before = layout_all(arena, words);
@@ -163,17 +163,21 @@ fn judge_tables(
     judge_records(arena, words)
 }
 
-// Number 1: the lengths and the capability word. The tables are held to the lengths of the other calls, which lend a row for each type.
-pub fn lengths_fit(capabilities: u32, types: usize, members: usize, scratch: usize) -> bool
+/// Number 1: the lengths and the capability word. The tables are held to the lengths of the other calls, which lend a row for each type.
+#[tactic(auto, unfolding(crate::specs::Short::lengths_fit))]
+pub fn lengths_fit(
+    capabilities: u32,
+    types: usize,
+    members: usize,
+    scratch: usize,
+) -> Result<(), Refusal>
     requires { types ≤ 4611686018427387903 }
-    ensures { result ≡ lengths_fit capabilities types members scratch }
+    ensures { LengthsTold result (lengths_fit capabilities types members scratch) }
 {
     let n = types / ir_records::TYPE_WORDS;
-    let known = ir_records::capabilities_known(capabilities);
-    let rows = n * ir_records::ROW_WORDS;
-    let fit = ir_records::tables_fit(types, members, rows);
-    let three = n * SHORT_WORDS;
-    known & fit & (three <= scratch)
+    ir_records::capabilities_known(capabilities)?;
+    ir_records::tables_fit(types, members, n * ir_records::ROW_WORDS)?;
+    ir_records::require_lengths(n * SHORT_WORDS <= scratch)
 }
 
 // Judging with three words for each type, whatever these hold. Nothing is asked of the caller.
@@ -188,9 +192,7 @@ pub fn judge(
     ensures value { outcome_of result ≡ short_answer capabilities types.now members.now scratch.old }
     ensures scratch_after { scratch.new ≡ short_words capabilities types.now members.now scratch.old }
 {
-    if !lengths_fit(capabilities, types.len(), members.len(), scratch.len()) {
-        return Err(Refusal::of(Fault::TableLength));
-    }
+    lengths_fit(capabilities, types.len(), members.len(), scratch.len())?;
     let n = ir_records::type_count(types) as u32;
     judge_tables(capabilities, types, members, scratch, n)
 }

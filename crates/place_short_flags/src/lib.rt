@@ -70,6 +70,13 @@ fn array_flags(size: Option<u32>, base: u32) -> Result<u32, TypeRefusal>
 }
 
 impl<'a> Judging<'a> {
+    // The flags of an earlier type; none of another.
+    fn flags_at(self, t: u32) -> u32
+        ensures { result ≡ short_flags self.entry.words.now t }
+    {
+        place_short_layout::short_word(self.words, t, place_short_layout::FLAGS)
+    }
+
     // A pointer or binding array that names itself or a later type reads empty flags: the words are those of the types before it.
     #[tactic(auto, unfolding(valid_types::specs::ValidateType::non_data_flags))]
     fn non_data_flags(self, o: NonData) -> Result<u32, TypeRefusal>
@@ -77,10 +84,7 @@ impl<'a> Judging<'a> {
     {
         match o {
             NonData::Pointer(base, space) => {
-                valid_type_flags::pointer_to(
-                    place_short_layout::short_word(self.words, base, place_short_layout::FLAGS),
-                    space,
-                )
+                valid_type_flags::pointer_to(self.flags_at(base), space)
             }
             NonData::ValuePointer(kind, width, space) => {
                 valid_type_flags::value_pointer_flags(self.capabilities, kind, width, space)
@@ -95,7 +99,7 @@ impl<'a> Judging<'a> {
             NonData::BindingArray(base, form, count) => valid_type_flags::binding_array_of(
                 self.types,
                 base,
-                place_short_layout::short_word(self.words, base, place_short_layout::FLAGS),
+                self.flags_at(base),
                 (form == 0).then_some(count),
             ),
         }
@@ -116,15 +120,15 @@ impl<'a> Judging<'a> {
     {
         let t = part.type_of(j);
         let offset = part.offset_of(j);
-        let within = valid_member_bounds::is_within(valid_type_info::distance_to(previous, offset));
+        let distance = valid_type_info::distance_to(previous, offset);
         let member = BoundMember {
             j,
             offset,
             size: place_short_layout::short_word(self.words, t, place_short_layout::SIZE),
-            flags: place_short_layout::short_word(self.words, t, place_short_layout::FLAGS),
+            flags: self.flags_at(t),
             array: valid_member_bounds::is_array(self.types, t),
         };
-        valid_member_bounds::member_bounds(part.count, span, within, member, so_far)
+        valid_member_bounds::member_bounds(part.count, span, distance, member, so_far)
     }
 
     // The members of a struct, one after the other, by the rules that do not read blend sources.
@@ -154,6 +158,7 @@ impl<'a> Judging<'a> {
     }
 
     // The flags of a struct: number 16, then its members, then its blend sources; those of members before a refused one come first.
+    // Kept: beside `valid_structs::members_row`, which carries verdicts between the same steps and writes a row; see there.
     fn struct_flags(self, part: Members, span: u32) -> Result<u32, TypeRefusal>
         ensures { judged result ≡ flags_of self.entry.capabilities (type_inner self.entry.types.now) (short_sizes self.entry.words.now) (short_flags self.entry.words.now) (Struct part.entry.count span) part.entry.words.now }
     {
@@ -165,7 +170,7 @@ impl<'a> Judging<'a> {
                 taken.sourced,
                 self.capabilities,
                 self.types,
-                |t| place_short_layout::short_word(self.words, t, place_short_layout::FLAGS),
+                |t| self.flags_at(t),
                 part,
                 taken.bounds.flags,
             ),
@@ -188,16 +193,8 @@ impl<'a> Judging<'a> {
                 base,
                 count,
                 stride: _,
-            } => array_flags(
-                Some(count),
-                place_short_layout::short_word(self.words, base, place_short_layout::FLAGS),
-            ),
-            TypeInner::RuntimeArray { base, stride: _ } => {
-                array_flags(
-                    None,
-                    place_short_layout::short_word(self.words, base, place_short_layout::FLAGS),
-                )
-            }
+            } => array_flags(Some(count), self.flags_at(base)),
+            TypeInner::RuntimeArray { base, stride: _ } => array_flags(None, self.flags_at(base)),
             TypeInner::Struct { count, span } => {
                 self.struct_flags(Members { words: part, count }, span)
             }

@@ -31,6 +31,7 @@ pub fn short_word(words: &[u32], k: u32, j: u32) -> u32
 }
 
 // Writes the three words of type i.
+// Kept: three stores; `copy_from_slice` would copy them from an array that is made for it.
 // Kept: `i * 3 + 3 ≤ length words.old`: the words are lent with `&mut`, so no struct that is copied holds them beside their length.
 pub fn put_three(words: &mut [u32], i: u32, size: u32, alignment: u32, flags: u32)
     requires { i * 3 + 3 ≤ length words.old }
@@ -66,6 +67,7 @@ fn leaf_alignment(leaf: Leaf) -> Result<u32, TypeRefusal>
 }
 
 /// The three words of each type before type i.
+// Kept: beside `ir_rows::Earlier`: this one asks nothing of its words, and a type that they lack reads as zeros.
 #[derive(Clone, Copy, Debug, PartialEq, Eq)]
 pub struct Before<'a> {
     pub words: &'a [u32],
@@ -74,7 +76,8 @@ pub struct Before<'a> {
 
 impl<'a> Before<'a> {
     // Number 5 for an element that is no earlier type.
-    // Kept: a test and a read, as `proc_type_alignment::base_alignment` has them for rows of fourteen words. What both could call is the test alone.
+    // Kept: a test and a read, as `proc_type_alignment::base_alignment` has them for rows of fourteen words; with the width as a parameter the read's
+    // definition, short_word or row_word, would be one too.
     fn base_alignment(self, base: u32) -> Result<u32, TypeRefusal>
         ensures { judged result ≡ base_alignment (short_layouts self.entry.words.now) self.entry.i base }
     {

@@ -1,17 +1,18 @@
 // Alignment of naga's proc/layouter.rs, carried as its number.
 #![tactic(auto)]
 
-ghost use Rattle.std.specs.Prelude.{◌≡◌, ◌*◌, ◌&&◌};
+ghost use Rattle.std.specs.Prelude.{◌≡◌, ◌+◌, ◌*◌, ◌≤◌, ◌&&◌};
 ghost use Rattle.proc_alignment.specs.Alignment.{power_of_two, is_mask, vector_alignment, is_aligned, divide, ceiling};
 
 // The largest number of 32 bits.
-pub const MOST: u64 = 4294967295;
+pub const MOST: u64 = u32::MAX as u64;
 
 // Alignment::new on a width: whether it is one.
+// Kept: a mask and no `is_power_of_two`, which counts all the ones of the word; and this ends at 128.
 pub fn power_of_two(w: u32) -> bool
     ensures { result ≡ power_of_two w }
 {
-    let below = std::num::wrapping_sub_u32(w, 1);
+    let below = w.wrapping_sub(1);
     (below < 128) & (w & below == 0)
 }
 
@@ -23,6 +24,7 @@ pub fn vector_alignment(n: u32) -> u32
 }
 
 // Whether n is a multiple of the alignment; of 0 only 0 is.
+// Kept: beside `is_multiple_of`, which divides: a power of two, as naga's alignments are, is told by its mask.
 pub fn is_aligned(alignment: u32, n: u32) -> bool
     ensures { result ≡ is_aligned alignment n }
 {
@@ -41,27 +43,25 @@ pub fn is_aligned(alignment: u32, n: u32) -> bool
 pub fn is_masked(alignment: u32, n: u32) -> bool
     ensures { result ≡ (is_mask alignment && is_aligned alignment n) }
 {
-    let below = std::num::wrapping_sub_u32(alignment, 1);
+    let below = alignment.wrapping_sub(1);
     (alignment & below == 0) & (n & below == 0)
 }
 
-// The ceiling of a division: one more than the quotient where something is left over.
-fn ceiling_of(quotient: u32, remainder: u32) -> u64
-    ensures { result ≡ ceiling (record { quotient = quotient; remainder = remainder }) }
-{
-    if remainder == 0 {
-        return quotient as u64;
-    }
-    (quotient as u64) + 1
-}
-
-// Rounding up as the standard has it: divide, take the ceiling, multiply. The product is wider than n, so that it never wraps.
-pub fn round_up(alignment: u32, n: u32) -> u64
-    ensures { result ≡ ceiling (divide n alignment) * alignment }
+/// Rounding up as the standard has it: divide, take the ceiling, multiply.
+pub fn round_up_wide(alignment: u32, n: u64) -> u64
+    requires { n ≤ 1152921504606846976 }
+    ensures { (result ≡ ceiling (divide n alignment) * alignment) × (result ≤ n + alignment) }
 {
     if alignment == 0 {
         return 0;
     }
-    let steps = ceiling_of(n / alignment, n % alignment);
-    steps * (alignment as u64)
+    let k = u64::from(alignment);
+    n.div_ceil(k) * k
+}
+
+/// The same of 32 bits. The product is wider than n, so that it never wraps.
+pub fn round_up(alignment: u32, n: u32) -> u64
+    ensures { result ≡ ceiling (divide n alignment) * alignment }
+{
+    round_up_wide(alignment, u64::from(n))
 }

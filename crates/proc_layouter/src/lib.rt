@@ -1,10 +1,11 @@
 // Layouts: Layouter::update of naga's proc/layouter.rs, over lent rows.
 // Kept: `rows`, `n`: the caller may lend rows for more types than there are, and gets the rest back as it was.
-// Kept: `n ≡ type_count types.now`: worked out once a call and handed on; without n each function below would have the same division by six.
+// Kept: `n ≡ type_count types.now`: without n each function below would work it out of the table again, and prove again that it fits 32 bits.
 // Kept: `types`, `members`, `rows`, `i`: the tables that a caller lends, and the type whose row is made; as in ir_records.
 // Kept: `i * 6 + 6 ≤ length types.now`, `n * 14 ≤ length rows.old`: that there is a record and a row for each type, which tables_fit tells once a call;
 // the rows are lent with `&mut`, so that no struct that says so can outlive the write of one row.
-// Kept: `i * 14 + 14 ≤ length rows.old`: of rows that each type writes in turn; a part of them made for each type would be one more slice a type.
+// Kept: `i * 14 + 14 ≤ length rows.old`: of rows that each type writes in turn. With `split_at_mut` a function would be lent the rows before its type
+// and its own row, and each caller would have to put together what is said of both.
 #![tactic(auto)]
 
 ghost use Rattle.std.specs.Prelude.{◌≡◌, ◌+◌, ◌*◌, ◌≤◌, ◌<◌, length, take};
@@ -16,7 +17,7 @@ ghost use Rattle.proc_type_layout.specs.Serving.{record_layout};
 ghost use Rattle.proc_layouter.specs.Layouter.{layout_rows, rows_after, layout_outcome, layout_answer, layout_words};
 ghost use Rattle.proc_layouter.specs.Serving.{words_after, record_then_layout};
 
-use ir_records::{Fault, Refusal, TypeRefusal};
+use ir_records::{Refusal, TypeRefusal};
 use ir_rows::Earlier;
 use proc_type_alignment::TypeLayout;
 
@@ -74,9 +75,7 @@ pub fn layout(types: &[u32], members: &[u32], rows: &mut [u32]) -> Result<(), Re
     ensures value { outcome_of result ≡ layout_answer types.now members.now rows.old }
     ensures rows_after { rows.new ≡ layout_words types.now members.now rows.old }
 {
-    if !ir_records::tables_fit(types.len(), members.len(), rows.len()) {
-        return Err(Refusal::of(Fault::TableLength));
-    }
+    ir_records::tables_fit(types.len(), members.len(), rows.len())?;
     let n = ir_records::type_count(types) as u32;
     layout_tables(types, members, rows, n)
 }

@@ -8,6 +8,7 @@ ghost use Rattle.proc_plain_types.specs.Serving.{entry_in};
 use ir_records::{Fault, Refusal};
 
 /// Of a plain type; the step is 0 where there are no columns.
+// Kept: 0 and no Option: the definition gives three numbers, and the call of the C interface writes them.
 #[derive(Clone, Copy, Debug, PartialEq, Eq)]
 pub struct PlainLayout {
     pub size: u32,
@@ -16,6 +17,8 @@ pub struct PlainLayout {
 }
 
 // Shape by shape, at widths 1, 2, 4 and 8: size, alignment and column step.
+// Kept: a flat table, as the definition `entry_in` reads it: as 52 structs of three fields it would be 200 lines, and as arrays in arrays three brackets
+// an entry, with a definition that opens them one after the other.
 const NUMBERS: [u32; 156] = [
     // scalar
     1, 1, 0, 2, 2, 0, 4, 4, 0, 8, 8, 0,
@@ -70,6 +73,7 @@ fn entry(shape: u32, place: u32) -> PlainLayout
     entry_in(&NUMBERS, shape, place)
 }
 
+// Kept: a shape by its number, which is what the call of the C interface takes; an enum of thirteen would be made of it for the table's index.
 /// The numbers of a shape at a width; number 2 for another shape or width. Nothing is asked of the caller.
 pub fn plain(shape: u32, width: u32) -> Result<PlainLayout, Refusal>
     ensures { plain_answer_of result ≡ plain_answer shape width }
@@ -77,7 +81,6 @@ pub fn plain(shape: u32, width: u32) -> Result<PlainLayout, Refusal>
     if MOST_SHAPE < shape {
         return Err(Refusal::of(Fault::FieldOutside));
     }
-    // Kept: four widths, and no kinds; each arm is a column of the table.
     match width {
         1 => Ok(entry(shape, 0)),
         2 => Ok(entry(shape, 1)),

@@ -27,7 +27,7 @@ pub struct Located {
 }
 
 // Number 7 for a width that is no power of two.
-// Kept: `width ≤ 255`: what number 2 has left of one word of a record; as a type it would be made for this product alone.
+// Kept: `width ≤ 255`: as in proc_type_methods.
 pub fn leaf_alignment(factor: u32, width: u32) -> Result<u32, TypeRefusal>
     requires factor_bound { factor ≤ 16 }
     requires width_bound { width ≤ 255 }
@@ -41,7 +41,7 @@ pub fn leaf_alignment(factor: u32, width: u32) -> Result<u32, TypeRefusal>
 }
 
 // Number 5 for an element that is no earlier type.
-// Kept: `rows`, `i`: of any rows, where Earlier would ask that they end before type i.
+// Kept: `rows`, `i`: any rows will do; an Earlier, which its callers could make, says that they end before type i, and would ask that of every caller.
 pub fn base_alignment(rows: &[u32], i: u32, base: u32) -> Result<u32, TypeRefusal>
     ensures { judged result ≡ base_alignment (layouts_in rows.now) i base }
 {

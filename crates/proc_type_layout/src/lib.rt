@@ -63,6 +63,8 @@ pub fn cooperative_layout(w: Words) -> Result<TypeLayout, TypeRefusal>
     })
 }
 
+// Kept: the kinds below that have no width are two lines each: its fields, which differ by kind, and its size. One function would take the fields as a
+// closure, and its contract could not name the kind.
 // Of a type that has no width: its size is given, its alignment is 1.
 fn handle_layout(size: u32) -> TypeLayout
     ensures { result ≡ record { size = size; alignment = 1 } }
@@ -70,22 +72,11 @@ fn handle_layout(size: u32) -> TypeLayout
     TypeLayout { size, alignment: 1 }
 }
 
-// Number 3 where the base of a pointer or a binding array is no type of the arena.
-fn base_within(types: &[u32], w: Words) -> Result<(), TypeRefusal>
-    ensures { judged result ≡ require (ltb w.a (type_count types.now)) 3 0 0 (ok tt) }
-{
-    if (w.a as usize) < ir_records::type_count(types) {
-        Ok(())
-    } else {
-        Err(TypeRefusal::of(Fault::BaseOutside))
-    }
-}
-
 pub fn pointer_layout(types: &[u32], w: Words) -> Result<TypeLayout, TypeRefusal>
     ensures { (m i : ℕ) (layouts : ℕ → layout.TypeLayout) (members : List ℕ) → judged result ≡ words_layout m (type_count types.now) layouts i pointer_kind w.a w.b w.c w.d w.e members }
 {
     ir_fields::pointer_fields(w)?;
-    base_within(types, w)?;
+    ir_fields::base_within(types, w.a)?;
     Ok(handle_layout(4))
 }
 
@@ -129,12 +120,12 @@ pub fn binding_array_layout(types: &[u32], w: Words) -> Result<TypeLayout, TypeR
     ensures { (m i : ℕ) (layouts : ℕ → layout.TypeLayout) (members : List ℕ) → judged result ≡ words_layout m (type_count types.now) layouts i binding_array_kind w.a w.b w.c w.d w.e members }
 {
     ir_fields::binding_array_fields(w)?;
-    base_within(types, w)?;
+    ir_fields::base_within(types, w.a)?;
     Ok(handle_layout(0))
 }
 
 // The size is tried before the reference.
-// Kept: `rows`, `i`, `w`: as `proc_type_alignment::base_alignment`.
+// Kept: `rows`, `i`, `w`: any rows will do, as for `proc_type_alignment::base_alignment`; with an Earlier this would ask more of a caller.
 pub fn array_record(rows: &[u32], i: u32, w: Words) -> Result<TypeLayout, TypeRefusal>
     ensures { (m n : ℕ) (members : List ℕ) → judged result ≡ words_layout m n (layouts_in rows.now) i array_kind w.a w.b w.c w.d w.e members }
 {

@@ -11,7 +11,7 @@ use ir_records::{Leaf, NonData, TypeInner};
 // MAX_TYPE_SIZE of naga's valid/mod.rs.
 const MOST_SIZE: u32 = 2147483647;
 
-// Kept: `width ≤ 255`: of one word of such a record.
+// Kept: `width ≤ 255`: what number 2 has left of one word of a record. A u8 would say it, and be made of the word by a conversion that can fail.
 pub fn vector_size(size: u32, width: u32) -> u32
     requires size_bound { size ≤ 4 }
     requires width_bound { width ≤ 255 }
@@ -90,11 +90,7 @@ fn array_size(count: u32, stride: u32) -> Option<u32>
 fn runtime_array_size(stride: u32) -> Option<u32>
     ensures { size_result result ≡ runtime_array_size stride }
 {
-    if stride <= MOST_SIZE {
-        Some(stride)
-    } else {
-        None
-    }
+    (stride <= MOST_SIZE).then_some(stride)
 }
 
 // Of an array of so many elements; none: a runtime array.

@@ -46,9 +46,6 @@ module _ (w : List ℕ) (ws : List (List ℕ)) (place : ℕ) (c : Command) (left
   unfolding numbers_of
   number_none r e = wrong_is (number_of w) place r (numbers_of c left (suc place) ws) e
 
-one_more : (n k : ℕ) → k < n → n - k ≡ suc (n - (k + 1))
-one_more n k h = omega arith
-
 module _ (c : Command) (most k : ℕ) (xs : List ℕ) (u : List (List ℕ)) where
   abbrev left : Arguments
   left = prepend (take k xs) (numbers_of c (most - k) (k + 2) u)
@@ -57,13 +54,14 @@ module _ (c : Command) (most k : ℕ) (xs : List ℕ) (u : List (List ℕ)) wher
       → ((d : Command) (m j : ℕ) → numbers_of d (suc m) j u ≡ before n (numbers_of d m (suc j) w))
       → left ≡ prepend (take (k + 1) (set xs k n)) (numbers_of c (most - (k + 1)) (k + 1 + 2) w)
   numbers_more w n h l step =
+      let one : most - k ≡ suc (most - (k + 1)) = omega arith in
       let j : suc (k + 2) ≡ k + 1 + 2 = omega arith in
       rw
-      (one_more most k h, step c (most - (k + 1)) (k + 2), j, prepend_one (take k xs) n (numbers_of c (most - (k + 1)) (k + 1 + 2) w), add-one k, take-suc-set xs k n l)
+      (one, step c (most - (k + 1)) (k + 2), j, prepend_one (take k xs) n (numbers_of c (most - (k + 1)) (k + 1 + 2) w), add-one k, take-suc-set xs k n l)
       refl
 
   pub numbers_wrong : (r : Reason) → k < most → ((d : Command) (m : ℕ) → numbers_of d (suc m) (k + 2) u ≡ wrong r) → left ≡ wrong r
-  numbers_wrong r h step = rw (one_more most k h, step c (most - (k + 1))) refl
+  numbers_wrong r h step = let one : most - k ≡ suc (most - (k + 1)) = omega arith in rw (one, step c (most - (k + 1))) refl
 
   pub numbers_end : u ≡ [] → left ≡ read (take k xs)
   unfolding numbers_of
@@ -73,12 +71,12 @@ module _ (c : Command) (most k : ℕ) (xs : List ℕ) (u : List (List ℕ)) wher
   unfolding numbers_of
   numbers_many w ws h e = let z : most - k ≡ 0 = omega arith in rw (e, z)
 
--- a word that is looked for from `at` on
-module _ (s : List ℕ) (at : ℕ) where
-  pub some_word : (r : Option Span) → WordAt s at r → is_some r ≡ true → (w : List ℕ) × (ws : List (List ℕ)) × (words (drop at s) ≡ w ∷ ws)
+-- the first word of a text
+module _ (s : List ℕ) where
+  pub some_word : (r : Option Span) → WordAt s 0 r → is_some r ≡ true → (w : List ℕ) × (ws : List (List ℕ)) × (words s ≡ w ∷ ws)
   some_word None h e = cc
   some_word (Some word) h e = (part s word.start word.end, words (drop word.end s), h.2)
 
-  pub no_word : (r : Option Span) → WordAt s at r → is_some r ≡ false → words (drop at s) ≡ []
+  pub no_word : (r : Option Span) → WordAt s 0 r → is_some r ≡ false → words s ≡ []
   no_word None h e = h
   no_word (Some word) h e = cc

@@ -7,7 +7,7 @@ use Rattle.program_words.specs.Words.{words}
 use Rattle.program_words.specs.declared.NumberError.{NumberError}
 use Rattle.program_arguments.specs.declared.Command.{Command}
 use Rattle.program_arguments.specs.declared.Reason.{Reason}
-use Rattle.program_arguments.specs.declared.NumberRead.{NumberRead}
+use Rattle.program_words.specs.declared.NumberRead.{NumberRead}
 use Rattle.program_arguments.specs.Arguments.{Arguments, read, wrong, before, reason_of, numbers_of}
 
 -- the number that a word is, with the reason where it is none
@@ -18,8 +18,8 @@ abbrev pub numbers_in : Result (Bor (List ℕ)) Reason → Arguments
 numbers_in (Ok ns) = read ns.now
 numbers_in (Err r) = wrong r
 
--- the answer is the next number from `at` on, word `place` of the line, and the other words follow it
-abbrev pub NumberAt : List ℕ → (at place : ℕ) → Result (Option NumberRead) Reason → Type 0
-NumberAt s at place (Ok None) = words (drop at s) ≡ []
-NumberAt s at place (Ok (Some n)) = (n.end ≤ length s) × ((c : Command) (left k : ℕ) → numbers_of c (suc left) k (words (drop at s)) ≡ before n.value (numbers_of c left (suc k) (words (drop n.end s))))
-NumberAt s at place (Err r) = (c : Command) (left : ℕ) → numbers_of c (suc left) place (words (drop at s)) ≡ wrong r
+-- the answer is the first number of a text, word `place` of the line, and the other words follow it
+abbrev pub NumberAt : List ℕ → (place : ℕ) → Result (Option NumberRead) Reason → Type 0
+NumberAt s place (Ok None) = words s ≡ []
+NumberAt s place (Ok (Some n)) = (n.at ≤ length s) × ((c : Command) (left k : ℕ) → numbers_of c (suc left) k (words s) ≡ before n.value (numbers_of c left (suc k) (words (drop n.at s))))
+NumberAt s place (Err r) = (c : Command) (left : ℕ) → numbers_of c (suc left) place (words s) ≡ wrong r

@@ -1,14 +1,13 @@
 // The numbers after a command, read one by one.
-// Kept: `at ≤ length s.now`: of a place in the text that is lent whole, as in program_words; a rest of the text would lose which word it is.
 #![tactic(auto)]
 
-ghost use Rattle.std.specs.Prelude.{◌≡◌, ◌≤◌, length, drop};
+ghost use Rattle.std.specs.Prelude.{◌≡◌, ◌≤◌, length};
 ghost use Rattle.program_words.specs.Words.{words};
 ghost use Rattle.program_words.specs.Number.{number_of};
 ghost use Rattle.program_arguments.specs.Arguments.{numbers_of, reason_of, reason_of_stray};
 ghost use Rattle.program_arguments.specs.Serving.{told_at, numbers_in, NumberAt};
 
-use program_words::{NumberError, Stray};
+use program_words::{NumberError, NumberRead, Stray};
 
 #[derive(Clone, Copy, Debug, PartialEq, Eq)]
 pub enum Command {
@@ -60,13 +59,6 @@ impl From<Stray> for Reason {
     }
 }
 
-// A number of a text, and where it ends.
-#[derive(Clone, Copy, Debug, PartialEq, Eq)]
-struct NumberRead {
-    value: u32,
-    end: usize,
-}
-
 // Why word `at` of a line is no number.
 fn reason_of(error: NumberError, at: u32) -> Reason
     ensures { result ≡ reason_of error at }
@@ -84,41 +76,40 @@ fn number_at(word: &[u8], place: u32) -> Result<u32, Reason>
     program_words::number_of(word).map_err(|error| reason_of(error, place))
 }
 
-// The next number from `at` on, where there is a word, which is that of so many of the line.
-fn next_number(s: &[u8], at: usize, place: u32) -> Result<Option<NumberRead>, Reason>
-    requires { at ≤ length s.now }
-    ensures { NumberAt s.now at place result }
+// The first number of a text, where there is a word, which is that of so many of the line.
+fn next_number(s: &[u8], place: u32) -> Result<Option<NumberRead>, Reason>
+    ensures { NumberAt s.now place result }
 {
-    let Some(word) = program_words::next_word(s, at) else {
+    let Some(word) = program_words::next_word(s, 0) else {
         return Ok(None);
     };
-    let value = number_at(&s[word.start..word.end], place)?;
+    let value = number_at(word.bytes(s), place)?;
     Ok(Some(NumberRead {
         value,
-        end: word.end,
+        at: word.end,
     }))
 }
 
-/// Reads the numbers from `at` on into the lent words, as many as there is room for at most, and gives them.
+/// Reads the numbers of a text into the lent words, as many as there is room for at most, and gives them.
 pub fn read_numbers<'a>(
     s: &[u8],
-    at: usize,
     command: Command,
     numbers: &'a mut [u32],
 ) -> Result<&'a [u32], Reason>
-    requires at_in_bounds { at ≤ length s.now }
-    requires few { length numbers.old ≤ 1025 }
-    ensures value { numbers_in result ≡ numbers_of command (length numbers.old) 2 (words (drop at s.now)) }
+    requires { length numbers.old ≤ 1025 }
+    ensures { numbers_in result ≡ numbers_of command (length numbers.old) 2 (words s.now) }
 {
-    let mut from = at;
+    let mut rest = s;
+    // Kept: an index: where the text ends the answer is the part before k, and the invariant says what stands there; `iter_mut` would hold that part until the
+    // loop ends.
     for k in 0..numbers.len() {
-        let Some(number) = next_number(s, from, k as u32 + 2)? else {
+        let Some(number) = next_number(rest, k as u32 + 2)? else {
             return Ok(&numbers[..k]);
         };
         numbers[k] = number.value;
-        from = number.end;
+        rest = &rest[number.at..];
     }
-    if program_words::next_word(s, from).is_some() {
+    if program_words::next_word(rest, 0).is_some() {
         return Err(Reason::Usage(command));
     }
     Ok(numbers)

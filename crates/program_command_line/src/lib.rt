@@ -15,7 +15,6 @@ fn is_help(name: &[u8]) -> bool
     name == b"--help".as_slice()
 }
 
-// Kept: it puts one text, as functions of the sheets do; each text is its own.
 #[tactic(auto, unfolding(crate::specs::Arguments::help_text))]
 fn put_help(out: &mut Output)
     ensures { Adds out.old help_text out.new }

@@ -7,7 +7,7 @@ ghost use Rattle.program_commands.specs.Commands.{started, stopped, part_of, typ
 ghost use Rattle.program_commands.specs.Serving.{after_change};
 
 use immediates_pass::Pass;
-use ir_records::Refusal;
+use ir_records::{Records, Refusal};
 use program_arguments::Reason;
 use program_input::ReadError;
 use program_lines::Change;
@@ -15,14 +15,15 @@ use program_output::{Output, Stop};
 use valid_type_info::UniformRule;
 
 // The arena is one run of words: the types from its start on, the members from here on.
-pub const MEMBERS_AT: usize = 6144;
+// Kept: as two arrays the end of the members would be counted from their own start, and the definitions of a session say where it stands in this run.
+pub const MEMBERS_AT: usize = ir_records::TYPE_TABLE;
 
-pub const ARENA_WORDS: usize = 22528;
+pub const ARENA_WORDS: usize = MEMBERS_AT + ir_records::MEMBER_TABLE;
 
 pub type Arena = [u32; ARENA_WORDS];
 
 // The rows of a full arena. The session keeps them from line to line.
-pub type Rows = [u32; 14336];
+pub type Rows = [u32; ir_records::ROW_TABLE];
 
 // Kept: no Option or Result: that the input has ended is neither a reason to stop nor a wish to read on.
 /// Whether a session goes on.
@@ -100,6 +101,7 @@ impl Session {
     }
 
     /// How many types the arena holds.
+    // Kept: 0, here and in the next, is a count: where a table would end past its room no record is held, and `types_in` and `members_in` give none.
     pub fn types_held(self) -> u32
         ensures { result ≡ types_held self }
     {
@@ -119,13 +121,13 @@ impl Session {
         (self.members.saturating_sub(MEMBERS_AT) / ir_records::MEMBER_WORDS) as u32
     }
 
-    /// One type and some member rows more than n and m.
-    pub fn hold(&mut self, n: u32, m: u32, more: usize)
-        ensures { self.new ≡ held_after n m more self.old }
+    /// One type and some member rows more than so many.
+    pub fn hold(&mut self, held: Records, more: usize)
+        ensures { self.new ≡ held_after held.types held.members more self.old }
     {
-        self.types = (n as usize + 1) * ir_records::TYPE_WORDS;
+        self.types = (held.types as usize + 1) * ir_records::TYPE_WORDS;
         if more < 8 {
-            self.members = MEMBERS_AT + (m as usize + more) * ir_records::MEMBER_WORDS;
+            self.members = MEMBERS_AT + (held.members as usize + more) * ir_records::MEMBER_WORDS;
         }
     }
 
@@ -154,7 +156,7 @@ impl Session {
             Change::Capabilities(word) => self.capabilities = word,
             Change::Rule(word) => self.rule = UniformRule::try_from(word),
             Change::TypeRecord(w) => {
-                let words = [w.kind, w.a, w.b, w.c, w.d, w.e];
+                let words = w.words();
                 self.types = append(arena, self.types, MEMBERS_AT, &words).ok_or(Stop::TypesFull)?;
             }
             Change::MemberRecord(m) => {

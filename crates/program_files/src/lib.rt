@@ -12,9 +12,6 @@ pub use program_input::ReadError;
 use std::io::Read;
 use std::rt::{Env, Files};
 
-// Kept: as program_output's.
-const STDERR: i32 = 2;
-
 // What a program reads.
 #[derive(Drop)]
 pub enum Source<S, F> {
@@ -32,7 +29,7 @@ impl<S: Read, F: Read> Read for Source<S, F> {
 }
 
 pub fn tell(why: &[u8]) {
-    io::write_all(STDERR, why);
+    io::write_all(program_input::STDERR, why);
 }
 
 // The file of that name, where it can be opened; a name that is no UTF-8 names none.

@@ -5,6 +5,7 @@ ghost use Rattle.std.specs.Prelude.{◌≤◌, length};
 ghost use Rattle.program_input.specs.Input.{ReadAfter, ReadMore, Kept, end_of, read_of};
 
 use std::io::Read;
+use std::ops::Range;
 
 /// Why nothing was read.
 #[derive(Clone, Copy, Debug, PartialEq, Eq)]
@@ -25,6 +26,13 @@ pub struct Input {
 
 const NEWLINE: u8 = 10;
 
+/// The system's numbers of the streams that a program writes to.
+pub const STDOUT: i32 = 1;
+
+pub const STDERR: i32 = 2;
+
+// Kept: here and in the next a buffer and how many bytes of it are held: there is no heap for a vector. A struct of both would lend the buffer, and the number
+// stays where the buffer is not: in the session of `inspect`, from read to read.
 /// Reads once, after the bytes that are held, and tells how many bytes came; none at the end of the input.
 pub fn read_after<R: Read>(
     input: &mut R,
@@ -59,12 +67,12 @@ pub fn read_more<R: Read>(input: &mut R, buffer: &mut [u8], held: usize) -> Resu
     })
 }
 
-/// Moves the bytes from `from` up to `end` to the front.
-pub fn keep_rest(buffer: &mut [u8], from: usize, end: usize)
-    requires { end ≤ length buffer.old }
-    ensures { Kept buffer.old from end buffer.new }
+/// Moves the bytes of a range to the front.
+pub fn keep_rest(buffer: &mut [u8], rest: Range<usize>)
+    requires { rest.end ≤ length buffer.old }
+    ensures { Kept buffer.old rest.start rest.end buffer.new }
 {
-    if from < end {
-        buffer.copy_within(from..end, 0);
+    if rest.start < rest.end {
+        buffer.copy_within(rest, 0);
     }
 }

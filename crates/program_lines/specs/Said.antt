@@ -3,7 +3,6 @@
 use Rattle.std.specs.Prelude.{List, ℕ, get_or, Option, Result}
 use Rattle.std.specs.Option.{option_map}
 use Rattle.std.specs.Result.{result_map_both}
-use Rattle.ir_records.specs.declared.Words.{Words}
 use Rattle.ir_member_words.specs.declared.Member.{Member}
 use Rattle.program_arguments.specs.declared.Reason.{Reason}
 use Rattle.program_lines.specs.declared.Change.{Change}
@@ -17,9 +16,6 @@ use Rattle.program_lines.specs.declared.Line.TheVariants as line
 use Rattle.program_lines.specs.Line as told
 
 -- records whose words are the numbers; words left off are 0
-abbrev pub words_in : List ℕ → Words
-words_in ns = record { kind = get_or ns 0 0; a = get_or ns 1 0; b = get_or ns 2 0; c = get_or ns 3 0; d = get_or ns 4 0; e = get_or ns 5 0 }
-
 abbrev pub member_in : List ℕ → Member
 member_in ns = record { ty = get_or ns 0 0; offset = get_or ns 1 0; location = get_or ns 2 0; source = get_or ns 3 0 }
 

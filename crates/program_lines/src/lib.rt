@@ -1,12 +1,12 @@
 // Reads a line of the program `inspect`: the command and the numbers after it.
-// Kept: `at ≤ length s.now`: as in program_arguments.
-// Kept: `1025 ≤ length numbers.old`: the buffer is the session's, and lent as it is: a reference to an array of so many would ask more of a caller.
+// Kept: `1025 ≤ length numbers.old`: `read_line` takes each slice that is long enough, and a reference to an array there would ask more of its callers;
+// for the two functions below it a slice would have to become an array, which can fail.
 #![tactic(auto)]
 
-ghost use Rattle.std.specs.Prelude.{◌≡◌, ◌≤◌, length, drop};
+ghost use Rattle.std.specs.Prelude.{◌≡◌, ◌≤◌, length};
 ghost use Rattle.program_words.specs.Words.{text_of, words};
 ghost use Rattle.program_lines.specs.Line.{last_command_of, answer_command_of, later_command_of, command_of, least_of, most_of, arguments_of, line_by, line_with, line_of, line_in};
-ghost use Rattle.program_lines.specs.Said.{words_in, member_in, said, said_of, said_in};
+ghost use Rattle.program_lines.specs.Said.{member_in, said, said_of, said_in};
 
 use ir_member_words::Member;
 use ir_records::Words;
@@ -87,6 +87,9 @@ pub fn command_of(word: &[u8]) -> Option<Command>
     Some(command)
 }
 
+/// So many numbers may follow a command: a type and 1,024 steps.
+pub const MOST_NUMBERS: usize = 1025;
+
 // The fewest and the most numbers that a command takes.
 #[derive(Clone, Copy, Debug, PartialEq, Eq)]
 struct Usage {
@@ -111,11 +114,11 @@ fn usage_of(command: Command) -> Usage
         Command::Range => Usage { least: 2, most: 2 },
         Command::Place => Usage {
             least: 1,
-            most: 1025,
+            most: MOST_NUMBERS,
         },
         Command::Short => Usage {
             least: 1,
-            most: 1025,
+            most: MOST_NUMBERS,
         },
         Command::Report => Usage { least: 0, most: 0 },
         Command::Plain => Usage { least: 2, most: 2 },
@@ -126,22 +129,8 @@ fn usage_of(command: Command) -> Usage
         Command::Clear => Usage { least: 0, most: 0 },
         Command::Order => Usage {
             least: 1,
-            most: 1025,
+            most: MOST_NUMBERS,
         },
-    }
-}
-
-// The words of a type record; words left off are 0.
-fn words_in(numbers: &[u32]) -> Words
-    ensures { result ≡ words_in numbers.now }
-{
-    Words {
-        kind: ir_records::word_at(numbers, 0),
-        a: ir_records::word_at(numbers, 1),
-        b: ir_records::word_at(numbers, 2),
-        c: ir_records::word_at(numbers, 3),
-        d: ir_records::word_at(numbers, 4),
-        e: ir_records::word_at(numbers, 5),
     }
 }
 
@@ -169,7 +158,9 @@ fn line_by<'a>(command: Command, numbers: &'a [u32]) -> Line<'a>
     match command {
         Command::Capabilities => Line::Change(Change::Capabilities(a)),
         Command::Rule => Line::Change(Change::Rule(a)),
-        Command::TypeRecord => Line::Change(Change::TypeRecord(words_in(numbers))),
+        Command::TypeRecord => {
+            Line::Change(Change::TypeRecord(ir_records::record_words(numbers, 0)))
+        }
         Command::MemberRecord => Line::Change(Change::MemberRecord(member_in(numbers))),
         Command::Layout => Line::Query(Query::Layout),
         Command::Judge => Line::Query(Query::Judge),
@@ -199,19 +190,13 @@ fn line_by<'a>(command: Command, numbers: &'a [u32]) -> Line<'a>
     }
 }
 
-// A command, with its numbers from `at` on.
-fn read_command<'a>(
-    s: &[u8],
-    at: usize,
-    command: Command,
-    numbers: &'a mut [u32],
-) -> Result<Line<'a>, Reason>
-    requires at_in_bounds { at ≤ length s.now }
-    requires in_bounds { 1025 ≤ length numbers.old }
-    ensures value { said_of result ≡ line_with command (arguments_of command (words (drop at s.now))) }
+// A command, with the numbers of the text after it.
+fn read_command<'a>(s: &[u8], command: Command, numbers: &'a mut [u32]) -> Result<Line<'a>, Reason>
+    requires { 1025 ≤ length numbers.old }
+    ensures { said_of result ≡ line_with command (arguments_of command (words s.now)) }
 {
     let usage = usage_of(command);
-    let given = program_arguments::read_numbers(s, at, command, &mut numbers[..usage.most])?;
+    let given = program_arguments::read_numbers(s, command, &mut numbers[..usage.most])?;
     if given.len() < usage.least {
         return Err(Reason::Usage(command));
     }
@@ -221,21 +206,21 @@ fn read_command<'a>(
 // What the words of a line say; none where there is no word.
 fn read_words<'a>(line: &[u8], numbers: &'a mut [u32]) -> Result<Option<Line<'a>>, Reason>
     requires { 1025 ≤ length numbers.old }
-    ensures value { said_in result ≡ line_of (words (text_of line.now)) }
+    ensures { said_in result ≡ line_of (words (text_of line.now)) }
 {
     let s = program_words::text_of(line);
     let Some(word) = program_words::next_word(s, 0) else {
         return Ok(None);
     };
-    let command = command_of(&s[word.start..word.end]).ok_or(Reason::NoCommand)?;
-    let read = read_command(s, word.end, command, numbers)?;
+    let command = command_of(word.bytes(s)).ok_or(Reason::NoCommand)?;
+    let read = read_command(&s[word.end..], command, numbers)?;
     Ok(Some(read))
 }
 
 /// What a line says; none where it asks for nothing. The steps of a place and the types given for an order are a part of the lent words.
 pub fn read_line<'a>(line: &[u8], numbers: &'a mut [u32]) -> Result<Option<Line<'a>>, Reason>
     requires { 1025 ≤ length numbers.old }
-    ensures value { said_in result ≡ line_in line.now }
+    ensures { said_in result ≡ line_in line.now }
 {
     if let Some(stray) = program_words::stray_in(line) {
         return Err(Reason::from(stray));

@@ -1,22 +1,15 @@
--- The digits of a number, and the lines of a text, byte by byte.
+-- The digits of a number.
 -- Assumes nothing.
-use mathlib.Core.Path.{◌≡◌, refl, sym, ◌∙◌, ap}
-use mathlib.Core.Bool.{Bool, true, false, cond}
+use mathlib.Core.Path.{◌≡◌, ap}
 use mathlib.Core.List.{List, [], ◌∷◌, ◌++◌}
-use Prim.Native.Nat.{ℕ, zero, suc, ◌+◌, ◌-◌, ◌/◌, ◌%◌, ◌^◌, ◌≤◌, ◌<◌}
+use Prim.Native.Nat.{ℕ, zero, suc, ◌-◌, ◌/◌, ◌%◌, ◌^◌, ◌≤◌, ◌<◌}
 use native.Mathlib.Nat.{pow-suc, one-le-pow, pow-le-pow_right}
 use native.Mathlib.Decide.{dec_le}
 use native.Mathlib.Omega.{arith}
-use borrow.Author.Tests.{lt-ltb, le-ltb, ltb-true, ltb-false}
-use Rattle.std.specs.Prelude.{Option, None, Some, MatchOption}
-use Rattle.std.specs.List.{position, position_or_len}
-use Rattle.program_output.specs.Serving.{line_length}
-use lib.Dec.{eqb, ltb}
-use lib.ListN.{length, take, drop}
+use borrow.Author.Tests.{lt-ltb, le-ltb}
 use Rattle.io.specs.Digits.{last_digits, hex_digit_ascii, IsDigitCount}
-use Rattle.program_output.specs.Bytes.{decimal_in, digit, line_at}
+use Rattle.program_output.specs.Bytes.{decimal_in, digit}
 
--- ---- numbers
 below : (n : ℕ) → n < 10 → hex_digit_ascii (n % 10) ≡ digit n
 below n h = let e : n % 10 ≡ n = omega arith in rw (e, lt-ltb n 10 h)
 
@@ -51,56 +44,3 @@ fewest_few n k f h = by (dec_le k 20)
         let ten : 0 < 10 = omega arith in
         let large : 10 ^ 20 ≤ 10 ^ (k - 1) = pow-le-pow_right ten far in
         absurd (omega (arith, f.2 (omega arith), large))
-
--- ---- lines
-pub line_length_within : (s : List ℕ) → line_length s ≤ length s
-unfolding line_length
-line_length_within [] = omega arith
-line_length_within (b ∷ s) = by (eqb b 10) refl (line_length_within s)
-  where
-    by : (t : Bool) → eqb b 10 ≡ t → line_length s ≤ length s → line_length (b ∷ s) ≤ length (b ∷ s)
-    by true e ih = rw e (omega arith)
-    by false e ih = rw e (omega (arith, ih))
-
--- the first newline is the first line's last byte; without one the line is all
-abbrev first_newline : List ℕ → ℕ
-first_newline s = position_or_len (λ b. eqb b 10) s
-
-one_further : (n m : ℕ) (t : Bool) → ltb n m ≡ t → suc (cond t (n + 1) m) ≡ cond (ltb (1 + n) (suc m)) (1 + n + 1) (suc m)
-one_further n m true e = let h : 1 + n < suc m = omega (arith, ltb-true n m e) in rw (lt-ltb (1 + n) (suc m) h) (omega arith)
-one_further n m false e = let h : suc m ≤ 1 + n = omega (arith, ltb-false n m e) in rw (le-ltb (1 + n) (suc m) h) refl
-
-length_by : (s : List ℕ) → line_length s ≡ cond (ltb (first_newline s) (length s)) (first_newline s + 1) (length s)
-unfolding line_length
-length_by [] = refl
-length_by (b ∷ s) = by (eqb b 10) refl (length_by s)
-  where
-    by : (t : Bool) → eqb b 10 ≡ t → line_length s ≡ cond (ltb (first_newline s) (length s)) (first_newline s + 1) (length s)
-        → line_length (b ∷ s) ≡ cond (ltb (first_newline (b ∷ s)) (length (b ∷ s))) (first_newline (b ∷ s) + 1) (length (b ∷ s))
-    by true e ih = let h : 0 < suc (length s) = omega arith in rw (e, lt-ltb 0 (suc (length s)) h) refl
-    by false e ih = rw (e, ih) (one_further (first_newline s) (length s) (ltb (first_newline s) (length s)) refl)
-
-pub length_is : (s : List ℕ) (r : Option ℕ) (m : ℕ) → r ≡ position (λ b. eqb b 10) s → MatchOption r (m ≡ length s) (λ end. m ≡ end + 1) → m ≡ line_length s
-length_is s r m e h = by (ltb (first_newline s) (length s)) refl (rw e at h)
-  where
-    by : (t : Bool) → ltb (first_newline s) (length s) ≡ t → MatchOption (cond t (Some (first_newline s)) None) (m ≡ length s) (λ end. m ≡ end + 1) → m ≡ line_length s
-    by true t k = k ∙ sym (length_by s ∙ rw t refl)
-    by false t k = k ∙ sym (length_by s ∙ rw t refl)
-
-pub line_first : (s : List ℕ) → line_at 0 s ≡ take (line_length s) s
-unfolding line_at line_length
-line_first [] = refl
-line_first (b ∷ s) = by (eqb b 10) refl (line_first s)
-  where
-    by : (t : Bool) → eqb b 10 ≡ t → line_at 0 s ≡ take (line_length s) s → line_at 0 (b ∷ s) ≡ take (line_length (b ∷ s)) (b ∷ s)
-    by true e ih = rw e refl
-    by false e ih = rw e (ap (λ (l : List ℕ). b ∷ l) ih)
-
-pub line_after : (k : ℕ) (s : List ℕ) → line_at (suc k) s ≡ line_at k (drop (line_length s) s)
-unfolding line_at line_length
-line_after k [] = refl
-line_after k (b ∷ s) = by (eqb b 10) refl (line_after k s)
-  where
-    by : (t : Bool) → eqb b 10 ≡ t → line_at (suc k) s ≡ line_at k (drop (line_length s) s) → line_at (suc k) (b ∷ s) ≡ line_at k (drop (line_length (b ∷ s)) (b ∷ s))
-    by true e ih = rw e refl
-    by false e ih = rw e ih

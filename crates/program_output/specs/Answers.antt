@@ -1,7 +1,6 @@
 -- The bytes of each answer, by what is answered.
 -- Assumes nothing.
-use Rattle.std.specs.Prelude.{List, [], ◌∷◌, ◌++◌, ℕ, ◌-◌, ltb, Option, None, Some}
-use Rattle.ir_records.specs.Result.{pick}
+use Rattle.std.specs.Prelude.{List, [], ◌∷◌, ◌++◌, ℕ, Option, None, Some}
 use Rattle.ir_records.specs.Outcome.{Outcome}
 use Rattle.ir_records.specs.Outcome as outcome
 use Rattle.immediates_ranges.specs.Answer.{SlotsAnswer}
@@ -12,7 +11,7 @@ use Rattle.program_arguments.specs.declared.Reason.TheVariants as reason
 use Rattle.program_input.specs.declared.ReadError.TheVariants as error
 use Rattle.program_output.specs.declared.Stop.{Stop}
 use Rattle.program_output.specs.declared.Stop.TheVariants as stop
-use Rattle.program_output.specs.Bytes.{ascii, line_at, number, named, newline, words_line, row_lines, report_lines}
+use Rattle.program_output.specs.Bytes.{ascii, number, named, newline, words_line, row_lines, report_lines}
 
 abbrev pub refusal_line : (number ty member detail : ℕ) → List ℕ
 refusal_line number ty member detail = words_line (ascii "refused") (number ∷ ty ∷ member ∷ detail ∷ [])
@@ -96,8 +95,3 @@ word_part (Some word) = named (ascii ": word") word
 -- the line at which a session stops, the word of it that is wrong, if one is, and why
 unfoldable pub stop_line : (line : ℕ) → Stop → List ℕ
 stop_line line why = named (ascii "line") line ++ word_part (word_of why) ++ why_text why
-
--- ---- texts of several lines
--- line k of a text whose lines are numbered from `first` on; nothing below that
-abbrev pub numbered_line : List ℕ → (first k : ℕ) → List ℕ
-numbered_line text first k = pick (ltb k first) [] (line_at (k - first) text)

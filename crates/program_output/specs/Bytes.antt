@@ -1,6 +1,6 @@
 -- Bytes in the buffer of the answers: what is put there, numbers in decimal, and texts.
 -- Assumes nothing.
-use Rattle.std.specs.Prelude.{◌≡◌, List, [], ◌∷◌, ◌++◌, ℕ, zero, suc, ◌+◌, ◌*◌, ◌/◌, ◌%◌, min, max, eqb, ltb, length, get_or, take, drop}
+use Rattle.std.specs.Prelude.{◌≡◌, List, [], ◌∷◌, ◌++◌, ℕ, zero, suc, ◌+◌, ◌*◌, ◌/◌, ◌%◌, min, max, ltb, length, get_or, take, drop}
 use Prim.Native.Char.{code}
 use Prim.Native.String.{String, [] as none, ◌∷◌ as ◌then◌}
 use Rattle.ir_records.specs.Result.{pick}
@@ -36,12 +36,6 @@ ascii (c then s) = code c ∷ ascii s
 unfoldable pub joined : (ℕ → List ℕ) → ℕ → List ℕ
 joined f zero = []
 joined f (suc n) = joined f n ++ f n
-
--- line k of a text, with its end, from 0
-unfoldable pub line_at : (k : ℕ) → List ℕ → List ℕ
-line_at k [] = []
-line_at zero (b ∷ s) = pick (eqb b 10) (b ∷ []) (b ∷ line_at zero s)
-line_at (suc k) (b ∷ s) = pick (eqb b 10) (line_at k s) (line_at (suc k) s)
 
 -- ---- numbers
 abbrev pub digit : ℕ → ℕ

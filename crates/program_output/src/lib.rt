@@ -6,28 +6,23 @@ ghost use Rattle.ir_records.specs.Outcome.{Accepted, Refused};
 ghost use Rattle.ir_records.specs.Refusal.{number_of};
 ghost use Rattle.immediates_ranges.specs.Answer as answer;
 ghost use Rattle.program_output.specs.declared.WriteError.TheVariants as error;
-ghost use Rattle.program_output.specs.Bytes.{Adds, line_at, decimal, number, named, numbers, newline, words_line, row_line, row_lines, report_line, report_lines};
-ghost use Rattle.program_output.specs.Answers.{refusal_line, outcome_lines, slots_line, step_line, dispatch_lines, word_of, why_text, usage_text, word_part, numbered_line, stop_line};
-ghost use Rattle.program_output.specs.Serving.{line_length};
+ghost use Rattle.program_output.specs.Bytes.{Adds, decimal, number, named, numbers, newline, words_line, row_line, row_lines, report_line, report_lines};
+ghost use Rattle.program_output.specs.Answers.{refusal_line, outcome_lines, slots_line, step_line, dispatch_lines, word_of, why_text, usage_text, word_part, stop_line};
 
 use immediates_ranges::Slots;
 use ir_records::Refusal;
 use program_arguments::{Command, Reason};
-use program_input::ReadError;
+use program_input::{ReadError, STDERR, STDOUT};
 
-// A reference to an array of a known length is proved sooner than one to a slice.
 // There is room for every answer: 1,048,576 bytes of a WGSL text, which may be one token, and what is said of it.
-pub type Buffer = [u8; 1114112];
+const ROOM: usize = 1114112;
 
-const STDOUT: i32 = 1;
-
-// Kept: the system's number of the stream, as in each crate that writes to it.
-const STDERR: i32 = 2;
+pub type Buffer = [u8; ROOM];
 
 const NEWLINE: u8 = b'\n';
 
 // Past the buffer's end: nothing more is put or written.
-const FULL: usize = 1114113;
+const FULL: usize = ROOM + 1;
 
 /// Why the answers that waited are not written.
 #[derive(Clone, Copy, Debug, PartialEq, Eq)]
@@ -53,7 +48,7 @@ impl Output {
         ensures { result.end ≡ 0 }
     {
         Output {
-            bytes: [0; 1114112],
+            bytes: [0; ROOM],
             end: 0,
         }
     }
@@ -88,6 +83,7 @@ impl Output {
     pub fn make_room(&mut self, n: usize)
         ensures fits { self.old.end + n ≤ 1114112 → self.new ≡ self.old }
         ensures made { 1114112 < self.old.end + n → (self.new.end ≡ 0) ⊎ (self.new.end ≡ 1114113) }
+        ensures past { 1114112 < self.old.end → self.new.end ≡ 1114113 }
     {
         let fits = self.end.saturating_add(n) <= self.bytes.len();
         if !fits && self.flush().is_err() {
@@ -260,15 +256,6 @@ impl Output {
         self.put_one(b"missing", missing);
     }
 
-    /// A line of a text, with its end. Its lines are numbered from `first` on.
-    pub fn put_line_of(&mut self, text: &[u8], first: u32, number: u32)
-        ensures { Adds self.old (numbered_line text.now first number) self.new }
-    {
-        if first <= number {
-            self.put_text(line_of(text, number - first));
-        }
-    }
-
     // The number of a word that is wrong.
     fn put_word(&mut self, word: Option<u32>)
         ensures { Adds self.old (word_part word) self.new }
@@ -332,6 +319,7 @@ impl Stop {
 }
 
 // What a command takes.
+// Kept: how many numbers a command takes stands in `usage_of` of program_lines: a row of both would take what is printed into the crate that reads.
 #[tactic(auto, unfolding(crate::specs::Answers::usage_text))]
 fn usage_text(command: Command) -> &'static [u8]
     ensures { result.now ≡ usage_text command }
@@ -359,25 +347,4 @@ fn usage_text(command: Command) -> &'static [u8]
         Command::Clear => b": clear takes no number\n",
         Command::Order => b": order takes a span and at most 1024 types\n",
     }
-}
-
-// How long the first line of a text is, with its end.
-fn line_length(text: &[u8]) -> usize
-    ensures value { result ≡ line_length text.now }
-    ensures within { result ≤ length text.now }
-{
-    text.iter()
-        .position(|b| *b == NEWLINE)
-        .map_or(text.len(), |end| end + 1)
-}
-
-// Line k of a text, with its end, from 0; nothing where it has fewer lines.
-fn line_of(text: &[u8], k: u32) -> &[u8]
-    ensures { result.now ≡ line_at k text.now }
-{
-    let mut rest = text;
-    for _ in 0..k {
-        rest = &rest[line_length(rest)..];
-    }
-    &rest[..line_length(rest)]
 }

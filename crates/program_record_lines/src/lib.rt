@@ -26,9 +26,9 @@ fn put_record<const WIDTH: usize, const SHOWN: usize>(
     }
 }
 
-// Kept: n is how many records a reader says that it made. Nothing here says that the table has so many, so no part of n records can be cut from it;
-// a record that is not there has no line.
-// A line for each of the first n records.
+// A line for each of the first n records; one that is not there has no line.
+// Kept: `words.chunks(WIDTH).take(n)` would give the same lines. The contract speaks of records by their numbers, as the readers do, and a law of its own
+// would have to tie these to the chunks.
 fn put_lines<const WIDTH: usize, const SHOWN: usize>(
     out: &mut Output,
     head: &[u8],

@@ -3,7 +3,7 @@ ghost use Rattle.program_output.specs.Bytes.{Adds};
 ghost use Rattle.program_output.specs.Answers.{place_line, totals_lines};
 
 use immediates_pass::Pass;
-use ir_records::Refusal;
+use ir_records::{Records, Refusal};
 use place_descent::Place;
 use place_report::Totals;
 use program_commands::{Arena, Rows, Session};
@@ -76,6 +76,8 @@ fn put_report(totals: Totals, report: &[u64], out: &mut Output)
     out.put_report_lines(report);
 }
 
+// Kept: here and in the next the tables, the rows and the output are three parameters: `Program` has the last two, and the tables lend its arena. A method of
+// `Program` would lend all of it while `t` still lends a part, and a struct of the three would hold two `&mut`, made at both calls to be taken apart at once.
 // Tries a step of the pass, which a refused one leaves.
 fn try_step(
     step: Step,
@@ -176,18 +178,19 @@ fn put_answer(query: Query, t: Tables, rows: &mut Rows, out: &mut Output) -> Res
 const LONGEST: usize = 262144;
 
 impl Program {
-    // The members are copied for the call, since both tables stand in one run of words; a struct that was found is then part of the arena.
+    // A struct that was found is then part of the arena.
     fn order(&mut self, given: &[u32], span: u32) -> Result<(), Refusal> {
-        let mut members = [0u32; 16384];
-        members.copy_from_slice(&self.arena[program_commands::MEMBERS_AT..]);
+        let (types, members) = self.arena.split_at_mut(program_commands::MEMBERS_AT);
         let s = self.session;
-        let n = s.types_held();
-        let m = s.rows_held();
+        let held = Records {
+            types: s.types_held(),
+            members: s.rows_held(),
+        };
         let found = order_call::order(
-            &mut self.arena,
-            n,
-            &mut members,
-            m,
+            types,
+            held.types,
+            members,
+            held.members,
             s.capabilities,
             s.rule?,
             &mut self.rows,
@@ -197,8 +200,7 @@ impl Program {
         let words = order_words::found_words(found);
         self.out
             .put_words(b"order", words.get(..given.len() + 2).unwrap_or(&[]));
-        self.arena[program_commands::MEMBERS_AT..].copy_from_slice(&members);
-        self.session.hold(n, m, given.len());
+        self.session.hold(held, given.len());
         Ok(())
     }
 
@@ -229,7 +231,7 @@ impl Program {
     /// Answers a line.
     pub fn answer(&mut self, line: &[u8]) {
         self.out.make_room(LONGEST);
-        let mut numbers = [0u32; 1025];
+        let mut numbers = [0u32; program_lines::MOST_NUMBERS];
         match program_lines::read_line(line, &mut numbers) {
             Ok(Some(read)) => {
                 if let Err(refusal) = self.answer_read(read) {

@@ -6,9 +6,8 @@ mod answer;
 ghost use Rattle.std.specs.Prelude.{◌≤◌, length};
 
 use answer::Program;
-use program_commands::{Session, State};
+use program_commands::{ARENA_WORDS, Session, State};
 use program_output::{Output, Stop};
-use program_words::Class;
 use std::io::Read;
 
 impl Program {
@@ -17,8 +16,9 @@ impl Program {
         ensures { self.new.session.held ≤ length input.now }
     {
         let mut at: usize = 0;
-        let mut end = program_words::run_end(input, at, Class::Line);
-        // Kept: a step is as long as a line, and the bytes after the last one stay, so no range counts it.
+        let mut end = program_words::run_end(input, at, |b| b != b'\n');
+        // Kept: a line is answered once its newline is there, and what stands after the last one stays: `split_inclusive` gives that rest as a piece too, which
+        // would have to be told by its last byte, and the bytes answered would be counted by hand to know how many are left.
         while end < input.len() {
             self.answer(&input[at..end]);
             if let State::Stopped(_) = self.session.state {
@@ -27,7 +27,7 @@ impl Program {
             }
             self.session.line = std::num::wrapping_add_u64(self.session.line, 1);
             at = end + 1;
-            end = program_words::run_end(input, at, Class::Line);
+            end = program_words::run_end(input, at, |b| b != b'\n');
         }
         self.session.held = input.len() - at;
     }
@@ -40,7 +40,7 @@ impl Program {
                     self.session.state = State::Ended;
                 }
                 self.answer_lines(&buffer[..input.end]);
-                program_input::keep_rest(buffer, input.end - self.session.held, input.end);
+                program_input::keep_rest(buffer, input.end - self.session.held..input.end);
             }
             Err(error) => self.session.state = State::Stopped(Stop::Input(error)),
         }
@@ -49,17 +49,17 @@ impl Program {
 }
 
 // The whole program: it ends with the input, or at a line that cannot be read.
-// A proved loop has to end, and nothing says that the input does: the turns are counted, up to a number that no run reaches.
 // The reader holds no bytes of its own: each turn answers what one read gives, as it comes.
 pub fn run<R: Input>(rt: &R) {
     let mut source = rt.reader();
     let mut buffer = [0u8; 65536];
     let mut program = Program {
         session: Session::new(),
-        arena: [0; 22528],
-        rows: [0; 14336],
+        arena: [0; ARENA_WORDS],
+        rows: [0; ir_records::ROW_TABLE],
         out: Output::new(),
     };
+    // Kept: a proved loop has to end, and nothing says that the input does: the turns are counted, up to a number that no run reaches.
     for _ in 0..u64::MAX {
         program.turn(&mut source, &mut buffer);
         if program.session.state != State::Reading {

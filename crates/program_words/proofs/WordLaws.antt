@@ -4,30 +4,15 @@ use mathlib.Core.Path.{◌≡◌, refl, sym, ◌∙◌}
 use mathlib.Core.Bool.{Bool, true, false, not, cond}
 use mathlib.Core.List.{List, [], ◌∷◌}
 use Prim.Native.Nat.{ℕ, suc, ◌+◌, ◌-◌, ◌≤◌, ◌<◌}
-use native.Mathlib.Numerals.{add-one}
 use native.Mathlib.Omega.{arith}
-use lib.ListN.{length, get_or, take, drop, length-drop, drop_of_length-le}
+use lib.ListN.{length, take, drop, length-drop}
 use lib.Dec.{ltb}
-use lib.Seq.{drop-cons, drop-drop}
+use lib.Seq.{drop-drop}
 use borrow.Author.Tests.{ltb-false}
 use Rattle.std.specs.Prelude.{None, Some}
 use Rattle.std.specs.List.{position, position_or_len}
 use Rattle.std.specs.Option.{unwrap_or}
-use Rattle.program_words.specs.Words.{is_blank, is_in, run_of, pieces, non_empty, words, part}
-use Rattle.program_words.specs.declared.Class.TheVariants.{Blank, Word}
-
-module _ (p : ℕ → Bool) (s : List ℕ) (i : ℕ) where
-  pub run_more : i < length s → p (get_or s i 0) ≡ true → run_of p (drop i s) ≡ suc (run_of p (drop (i + 1) s))
-  unfolding run_of
-  run_more h e = rw (add-one, drop-cons s i 0 h, e)
-
-  pub run_stop : i < length s → p (get_or s i 0) ≡ false → run_of p (drop i s) ≡ 0
-  unfolding run_of
-  run_stop h e = rw (drop-cons s i 0 h, e)
-
-  pub run_done : length s ≤ i → run_of p (drop i s) ≡ 0
-  unfolding run_of
-  run_done h = rw (drop_of_length-le s h)
+use Rattle.program_words.specs.Words.{is_blank, in_word, run_of, pieces, non_empty, words, part}
 
 -- a run is what stands before the first byte that fails the test
 module _ (p : ℕ → Bool) where
@@ -43,7 +28,7 @@ module _ (p : ℕ → Bool) where
       by true e ih = rw e (omega (arith, ih))
       by false e ih = rw e refl
 
-  pub run_within : (s : List ℕ) → run_of p s ≤ length s
+  run_within : (s : List ℕ) → run_of p s ≤ length s
   unfolding run_of
   run_within [] = omega arith
   run_within (b ∷ s) = by (p b) refl (run_within s)
@@ -65,7 +50,7 @@ rest [] = []
 rest (w ∷ ws) = ws
 
 abbrev run : List ℕ → ℕ
-run s = run_of (is_in Word) s
+run s = run_of in_word s
 
 first_piece : (s : List ℕ) → pieces s ≡ take (run s) s ∷ rest (pieces s)
 unfolding pieces run_of
@@ -89,7 +74,7 @@ other_pieces (b ∷ s) = by (is_blank b) refl (other_pieces s)
 
 -- ---- words
 abbrev blanks : List ℕ → ℕ
-blanks s = run_of (is_in Blank) s
+blanks s = run_of is_blank s
 
 -- t begins with a word, and the words of u are those of t
 abbrev Begins : List ℕ → List ℕ → Type 0

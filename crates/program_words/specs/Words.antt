@@ -1,20 +1,23 @@
 -- The words of a line: what stands before its comment, split at blanks.
 -- Assumes nothing.
 use Rattle.std.specs.Prelude.{◌≡◌, Bool, cond, not, ◌||◌, List, [], ◌∷◌, ℕ, zero, suc, ◌-◌, ◌≤◌, ◌<◌, eqb, length, get_or, take, drop, Option, None, Some}
-use Rattle.program_words.specs.declared.Class.{Class}
-use Rattle.program_words.specs.declared.Class.TheVariants.{Blank, Word, Text, Line}
 use Rattle.program_words.specs.declared.Span.{Span}
 
 -- a space or a tab
 abbrev pub is_blank : ℕ → Bool
 is_blank b = eqb b 32 || eqb b 9
 
--- Text: no '#'; Line: no newline
-abbrev pub is_in : Class → ℕ → Bool
-is_in Blank b = is_blank b
-is_in Word b = not (is_blank b)
-is_in Text b = not (eqb b 35)
-is_in Line b = not (eqb b 10)
+-- a byte of a word
+abbrev pub in_word : ℕ → Bool
+in_word b = not (is_blank b)
+
+-- a byte before a comment
+abbrev pub in_text : ℕ → Bool
+in_text b = not (eqb b 35)
+
+-- what a function answers of a byte is a test of it
+abbrev pub Tells : (post : ℕ → Bool → Type 0) (test : ℕ → Bool) → Type 0
+Tells post test = (b : ℕ) (r : Bool) → post b r → r ≡ test b
 
 -- how many bytes at the start pass the test
 unfoldable pub run_of : (ℕ → Bool) → List ℕ → ℕ
@@ -22,7 +25,7 @@ run_of p [] = zero
 run_of p (b ∷ s) = cond (p b) (suc (run_of p s)) zero
 
 unfoldable pub before_comment : List ℕ → List ℕ
-before_comment s = take (run_of (is_in Text) s) s
+before_comment s = take (run_of in_text s) s
 
 -- a carriage return at the end is dropped
 unfoldable pub without_return : List ℕ → List ℕ

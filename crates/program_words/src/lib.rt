@@ -1,29 +1,33 @@
 // The words of a line, the number that a word is, and the bytes that no line may hold.
 #![tactic(auto)]
 
-ghost use Rattle.std.specs.Prelude.{◌≡◌, ◌+◌, ◌≤◌, ◌<◌, min, ltb, length, get_or, drop};
-ghost use Rattle.program_words.specs.Words.{is_in, run_of, before_comment, text_of, WordAt};
+ghost use Rattle.std.specs.Prelude.{◌≡◌, Bool, ℕ, ◌+◌, ◌≤◌, ◌<◌, min, ltb, length, get_or, drop};
+ghost use Rattle.program_words.specs.Words.{Tells, is_blank, run_of, before_comment, text_of, part, WordAt};
 ghost use Rattle.program_words.specs.Number.{is_digit, all_digits, decimal, number_of};
 ghost use Rattle.program_words.specs.Stray.{is_mark, stray_of, stray_at, stray_in};
-
-/// What a byte is looked at for.
-#[derive(Clone, Copy, Debug, PartialEq, Eq)]
-pub enum Class {
-    /// A space or a tab.
-    Blank,
-    /// A byte of a word.
-    Word,
-    /// A byte before a comment.
-    Text,
-    /// A byte before the end of a line.
-    Line,
-}
 
 /// Where a word stands in a text.
 #[derive(Clone, Copy, Debug, PartialEq, Eq)]
 pub struct Span {
     pub start: usize,
     pub end: usize,
+}
+
+impl Span {
+    /// The bytes of the text that stand there.
+    pub fn bytes(self, s: &[u8]) -> &[u8]
+        requires { (self.start ≤ self.end) × (self.end ≤ length s.now) }
+        ensures { result.now ≡ part s.now self.start self.end }
+    {
+        &s[self.start..self.end]
+    }
+}
+
+/// A number of a text, and where the text goes on after it.
+#[derive(Clone, Copy, Debug, PartialEq, Eq)]
+pub struct NumberRead {
+    pub value: u32,
+    pub at: usize,
 }
 
 /// Why a word is no number from 0 to 4294967295.
@@ -45,30 +49,22 @@ pub enum Stray {
 // One above the largest number.
 const ABOVE: u64 = 4294967296;
 
-// Kept: the match is these four tests, each under its name; as closures they would need clauses of their own at `run_end` and at each call.
-fn is_in(class: Class, b: u8) -> bool
-    ensures { result ≡ is_in class b }
+// A space or a tab.
+fn is_blank(b: u8) -> bool
+    ensures { result ≡ is_blank b }
 {
-    match class {
-        Class::Blank => matches!(b, b' ' | b'\t'),
-        Class::Word => !matches!(b, b' ' | b'\t'),
-        Class::Text => b != b'#',
-        Class::Line => b != b'\n',
-    }
+    matches!(b, b' ' | b'\t')
 }
 
-/// Where the run of bytes of a class that starts at `at` ends.
-// Kept: `run_end` of wgsl_tokens is the same search by a test that is lent; the classes here have names in the definitions of lines and words.
-pub fn run_end(s: &[u8], at: usize, class: Class) -> usize
-    requires { at ≤ length s.now }
-    ensures value { result ≡ at + run_of (is_in class) (drop at s.now) }
+/// Where the run of bytes that pass a test ends, which starts at `at`.
+pub fn run_end<F: Fn(u8) -> bool>(s: &[u8], at: usize, in_run: F) -> usize
+    requires callable { F.IsAlwaysCallable in_run }
+    requires within { at ≤ length s.now }
+    ensures value { (test : ℕ → Bool) → Tells (F.post in_run) test → result ≡ at + run_of test (drop at s.now) }
     ensures lower_bound { (at ≤ result) × (result ≤ length s.now) }
 {
     let rest = &s[at..];
-    let length = rest
-        .iter()
-        .position(|b| !is_in(class, *b))
-        .unwrap_or(rest.len());
+    let length = rest.iter().position(|b| !in_run(*b)).unwrap_or(rest.len());
     at + length
 }
 
@@ -77,11 +73,11 @@ pub fn next_word(s: &[u8], at: usize) -> Option<Span>
     requires { at ≤ length s.now }
     ensures { WordAt s.now at result }
 {
-    let start = run_end(s, at, Class::Blank);
+    let start = run_end(s, at, is_blank);
     if start == s.len() {
         return None;
     }
-    let end = run_end(s, start, Class::Word);
+    let end = run_end(s, start, |b| !is_blank(b));
     Some(Span { start, end })
 }
 
@@ -98,11 +94,12 @@ pub fn text_of(line: &[u8]) -> &[u8]
 fn before_comment(line: &[u8]) -> &[u8]
     ensures { result.now ≡ before_comment line.now }
 {
-    let end = run_end(line, 0, Class::Text);
+    let end = run_end(line, 0, |b| b != b'#');
     &line[..end]
 }
 
-fn is_digit(b: u8) -> bool
+/// Whether a byte is a decimal digit.
+pub fn is_digit(b: u8) -> bool
     ensures { result ≡ is_digit b }
 {
     b.is_ascii_digit()
@@ -128,7 +125,7 @@ fn capped(word: &[u8]) -> u64
 }
 
 /// The number that a word is.
-// Kept: a word is bytes, and `FromStr` reads a `str`.
+// Kept: a word is bytes, where `FromStr` reads a `str`; `TryFrom<&[u8]>` for `u32` would be a trait of std for types of std, which no crate but std may write.
 #[tactic(auto, unfolding(crate::specs::Number::number_of))]
 pub fn number_of(word: &[u8]) -> Result<u32, NumberError>
     ensures { result ≡ number_of word.now }
@@ -157,6 +154,8 @@ fn stray_at(line: &[u8], i: usize) -> Option<Stray>
 pub fn stray_in(line: &[u8]) -> Option<Stray>
     ensures { result ≡ stray_in line.now }
 {
+    // Kept: the byte is looked at again. `find_map` would give it at once, but the library has the law of a search over a range for `find` alone, so the one
+    // for `find_map` would have to be proved here from its steps.
     let at = (0..line.len()).find(|i| stray_at(line, *i).is_some())?;
     stray_at(line, at)
 }

@@ -51,8 +51,8 @@ impl Asked {
     }
 
     fn answer_text(self, out: &mut Writer, text: &[u8]) {
-        let mut types = [0; 6144];
-        let mut members = [0; 16384];
+        let mut types = [0; ir_records::TYPE_TABLE];
+        let mut members = [0; ir_records::MEMBER_TABLE];
         match wgsl_read::read_at(text, &mut types, &mut members) {
             Ok(records) => self.answer_records(
                 out,
@@ -75,8 +75,8 @@ impl Asked {
     }
 
     fn answer_words(self, out: &mut Writer, bytes: &[u8], words: &[u32]) {
-        let mut types = [0; 6144];
-        let mut members = [0; 16384];
+        let mut types = [0; ir_records::TYPE_TABLE];
+        let mut members = [0; ir_records::MEMBER_TABLE];
         match spirv_reader::read_module(words, &mut types, &mut members) {
             Ok(records) => {
                 let module = Module {

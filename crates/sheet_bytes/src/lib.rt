@@ -16,9 +16,6 @@ struct Byte<'a> {
     at: u64,
 }
 
-// Types that stand in one another are fewer than this.
-const MOST_DEPTH: u32 = 1024;
-
 // Whether member j of a struct holds a byte of it.
 fn holds(t: Type, j: u32, byte: u64) -> bool
     ensures { result ≡ holds (struct_members t.entry.sheet.types.now t.entry.sheet.members.now t.entry.i) t.entry.sheet.rows.now j byte }
@@ -87,7 +84,8 @@ impl<'a> Byte<'a> {
 /// Whether a leaf of a type holds a byte of it.
 pub fn in_leaf(t: Type, byte: u64) -> bool {
     let start = Byte { of: t, at: byte };
-    (0..MOST_DEPTH)
+    // A type stands in later ones alone, so a way has fewer steps than there are types.
+    (0..sheet_names::MOST_TYPES)
         .try_fold(start, |byte, _| byte.step())
         .break_value()
         .unwrap_or(false)

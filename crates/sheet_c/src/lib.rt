@@ -2,7 +2,7 @@
 #![tactic(auto)]
 
 ghost use Rattle.std.specs.Prelude.{◌≡◌};
-ghost use Rattle.ir_records.specs.Record.{type_word, type_inner, struct_members};
+ghost use Rattle.ir_records.specs.Record.{type_word, struct_members};
 ghost use Rattle.ir_rows.specs.Rows.{row_word};
 ghost use Rattle.sheet_names.specs.Runtime.{is_runtime};
 ghost use Rattle.sheet_c.specs.Last.{is_open_at, last_byte_of};
@@ -58,12 +58,10 @@ pub fn put_open(out: &mut Writer, t: Type) {
 pub fn put_none(out: &mut Writer, t: Type) {
     out.put_text(b"\n/* ");
     put_tag(out, t);
-    out.put_text(
-        b" has no form here: it is not host-shareable, or its storage verdict is not ok. */\n",
-    );
+    out.put_text(sheet_dimensions::NO_FORM);
+    out.put_text(b" */\n");
 }
 
-// Kept: one call with the texts of this form, as in the other forms.
 pub fn put_gap(out: &mut Writer, unused: Unused) {
     out.put_two(
         b"    uint8_t unused_at_",
@@ -75,7 +73,6 @@ pub fn put_gap(out: &mut Writer, unused: Unused) {
 }
 
 // The type inside the dimensions.
-// Kept: a match over two variants that calls a function for each, as others do over other enums.
 fn put_base(out: &mut Writer, base: Base) {
     match base {
         Base::Scalar(scalar) => put_scalar(out, scalar),

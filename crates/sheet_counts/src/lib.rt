@@ -7,18 +7,20 @@ use sheet_names::{Sheet, Type};
 use sheet_output::Writer;
 use valid_type_info::UniformRule;
 
-const MOST_TYPES: u32 = ir_records::MOST_TYPES as u32;
+// Words of the report of all types.
+const REPORT: usize = ir_records::MOST_TYPES * 2;
 
 // Bytes that the slots of immediates have.
-const MOST_IMMEDIATE: u32 = 256;
+const MOST_IMMEDIATE: u32 = immediates_ranges::SLOT_BYTES as u32;
 
 /// The tables of what is counted: a row of fourteen words, two words of the report and the slots for each type. It is not Copy: a copy of so much
 /// memory would be a mistake.
+// Kept: three tables by the type's number, as `Sheet` has them.
 #[derive(Drop)]
 pub struct Counts {
-    rows: [u32; 14336],
-    report: [u64; 2048],
-    slots: [Option<Slots>; 1024],
+    rows: [u32; ir_records::ROW_TABLE],
+    report: [u64; REPORT],
+    slots: [Option<Slots>; ir_records::MOST_TYPES],
 }
 
 // Whether the slots of a type are asked for: of a struct that may be an immediate and is no longer than these are.
@@ -30,9 +32,9 @@ impl Counts {
     /// Nothing is counted.
     pub fn new() -> Counts {
         Counts {
-            rows: [0; 14336],
-            report: [0; 2048],
-            slots: [None; 1024],
+            rows: [0; ir_records::ROW_TABLE],
+            report: [0; REPORT],
+            slots: [None; ir_records::MOST_TYPES],
         }
     }
 
@@ -88,7 +90,8 @@ impl Counts {
             &mut self.rows,
             &mut self.report,
         );
-        for i in 0..MOST_TYPES {
+        // Kept: by number, since `slots_of` lends the rows of the same struct: an iterator over `self.slots` would hold it, and rows as a parameter would be one more beside four.
+        for i in 0..sheet_names::MOST_TYPES {
             self.slots[i as usize] = self.slots_of(records, capabilities, rule, i);
         }
         Ok(())

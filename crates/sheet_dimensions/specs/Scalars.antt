@@ -1,6 +1,6 @@
 -- The layout sheet: the scalars that a leaf is made of.
 -- Assumes nothing.
-use Rattle.std.specs.Prelude.{◌≡◌, ℕ, Option, None}
+use Rattle.std.specs.Prelude.{◌≡◌, Option, None}
 use Rattle.ir_records.specs.declared.Leaf.{Leaf}
 use Rattle.ir_records.specs.declared.Leaf.TheVariants.{Scalar, Vector, Matrix, CooperativeMatrix, Atomic, RayQuery}
 use Rattle.sheet_types.specs.declared.Scalar as of_scalar

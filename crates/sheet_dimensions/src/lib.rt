@@ -1,12 +1,16 @@
 // The dimensions of a member as C and Rust have them, outermost first.
 #![tactic(auto)]
 
-ghost use Rattle.std.specs.Prelude.{◌≡◌};
 ghost use Rattle.sheet_dimensions.specs.Scalars.{LeafScalar};
 
 use ir_records::{Leaf, TypeInner};
 use sheet_names::Type;
 use sheet_types::Scalar;
+use std::ops::ControlFlow;
+
+/// What is said after the name of a struct that has no form for a host.
+pub const NO_FORM: &[u8] =
+    b" has no form here: it is not host-shareable, or its storage verdict is not ok.";
 
 /// What stands inside all dimensions.
 #[derive(Clone, Copy, Debug, PartialEq, Eq)]
@@ -15,11 +19,14 @@ pub enum Base<'a> {
     Struct(Type<'a>),
 }
 
+// One for each array that is passed, and the two of a matrix.
+const MOST_DIMENSIONS: usize = sheet_types::MOST_DEPTH as usize + 2;
+
 // How many elements each dimension has, where their number is fixed; outermost first.
-// Kept: an array with its count, since there is no heap for a Vec: at most 32 arrays, and the two dimensions of a matrix.
+// Kept: an array with its count, since there is no heap for a Vec.
 #[derive(Clone, Copy, Debug, PartialEq, Eq)]
 struct Extents {
-    list: [Option<u64>; 36],
+    list: [Option<u64>; MOST_DIMENSIONS],
     count: usize,
 }
 
@@ -46,7 +53,6 @@ pub struct Dimensions<'a> {
 }
 
 impl<'a> Dimensions<'a> {
-    // Kept: a view of what is in use, as a Vec has it.
     pub fn as_slice(&self) -> &[Option<u64>] {
         self.extents.in_use()
     }
@@ -88,7 +94,7 @@ impl<'a> Within<'a> {
             t,
             step: None,
             extents: Extents {
-                list: [None; 36],
+                list: [None; MOST_DIMENSIONS],
                 count: 0,
             },
         }
@@ -182,16 +188,23 @@ impl<'a> Within<'a> {
             ..self.with(n)?
         })
     }
+
+    // One array less; or at the end of the way the dimensions, where they keep the steps.
+    fn step(self) -> ControlFlow<Option<Dimensions<'a>>, Within<'a>> {
+        match self.t.element() {
+            Some(element) => match self.of_element(element) {
+                Some(within) => ControlFlow::Continue(within),
+                None => ControlFlow::Break(None),
+            },
+            None => ControlFlow::Break(self.of_base()),
+        }
+    }
 }
 
 /// The dimensions of a type; none where they do not keep the steps, so that a member of the type is bytes.
 pub fn of_type<'a>(t: Type<'a>) -> Option<Dimensions<'a>> {
-    let mut within = Within::new(t);
-    for _ in 0..sheet_types::MOST_DEPTH {
-        match within.t.element() {
-            Some(element) => within = within.of_element(element)?,
-            None => return within.of_base(),
-        }
-    }
-    None
+    (0..sheet_types::MOST_DEPTH)
+        .try_fold(Within::new(t), |within, _| within.step())
+        .break_value()
+        .unwrap_or(None)
 }

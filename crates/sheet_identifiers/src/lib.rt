@@ -58,6 +58,7 @@ fn put_identifier(out: &mut Writer, name: &[u8]) {
 }
 
 // A name as an identifier, unless it stands there already; or else a number after a text.
+// Kept: as `put_name` of sheet_types but for the test and the way to write the name, which one function would take as two closures.
 fn put_name(out: &mut Writer, name: Option<&[u8]>, earlier: bool, otherwise: &[u8], number: u32) {
     match name {
         Some(name) if is_identifier(name) & !earlier => put_identifier(out, name),
@@ -66,6 +67,7 @@ fn put_name(out: &mut Writer, name: Option<&[u8]>, earlier: bool, otherwise: &[u
 }
 
 // The identifier of struct i.
+// Kept: this and the next one are alike, for a type and for a member; a trait of both would have two impls in their place.
 pub fn put_type(out: &mut Writer, t: Type) {
     let name = t.name();
     let earlier = (0..t.i).any(|k| t.other(k).name() == name);

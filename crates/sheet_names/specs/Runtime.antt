@@ -1,8 +1,6 @@
 -- The layout sheet: which record is a runtime-sized array.
 -- Assumes nothing.
 use Rattle.std.specs.Prelude.{Bool, true, false}
-use Rattle.ir_records.specs.declared.Leaf.{Leaf}
-use Rattle.ir_records.specs.declared.NonData.{NonData}
 use Rattle.ir_records.specs.declared.TypeInner.{TypeInner}
 use Rattle.ir_records.specs.declared.TypeInner.TheVariants.{Plain, Array, RuntimeArray, Struct, Other}
 

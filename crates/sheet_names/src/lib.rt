@@ -2,10 +2,12 @@
 // module's bytes.
 #![tactic(auto)]
 
-ghost use Rattle.std.specs.Prelude.{◌≡◌, ◌+◌, get_or, eqb, MatchOption, None, true, false};
+ghost use Rattle.std.specs.Prelude.{◌≡◌, ◌+◌, ◌<◌, get_or, eqb, length, MatchOption, None, true, false};
 ghost use Rattle.ir_records.specs.Record.{type_word, type_inner, array_kind, struct_kind, struct_members, member_type, member_offset};
+ghost use Rattle.std.specs.Iterator.{at_most};
 ghost use Rattle.ir_rows.specs.Rows.{row_word};
 ghost use Rattle.valid_flags.specs.Flags.{bit, sized_bit, host_shareable_bit};
+ghost use Rattle.wgsl_tokens.specs.Tokens.{from};
 ghost use Rattle.sheet_names.specs.Names.{type_place, member_place, name_at, type_name, member_name, NameIs};
 ghost use Rattle.sheet_names.specs.Counts.{carried_in, wasted_in, is_counted};
 ghost use Rattle.sheet_names.specs.Row.{may_be_immediate, is_usable};
@@ -17,7 +19,8 @@ use program_words::Span;
 use spirv_words::Instructions;
 use wgsl_tokens::Lexed;
 
-const MOST_TYPES: u32 = ir_records::MOST_TYPES as u32;
+/// The numbers of types are below this.
+pub const MOST_TYPES: u32 = ir_records::MOST_TYPES as u32;
 
 const OP_NAME: u32 = 5;
 
@@ -26,12 +29,13 @@ const OP_MEMBER_NAME: u32 = 6;
 /// Where the names of the types stand, and those of the member rows. It is not Copy: a copy of so large a table would be a mistake.
 #[derive(Debug, PartialEq, Eq, Drop)]
 pub struct NameTable {
-    pub types: [Option<Span>; 1024],
-    pub members: [Option<Span>; 4096],
+    pub types: [Option<Span>; ir_records::MOST_TYPES],
+    pub members: [Option<Span>; ir_records::MOST_MEMBERS],
 }
 
 /// What a sheet is made of: type and member records, the names of both in a text or in a module's bytes, and what is counted of accepted records:
 /// their rows, the bytes carried and wasted of each type, and its slots where it has them.
+// Kept: rows, report and slots beside one another, each by the type's number: the calls that judge and report fill tables of words, so that a struct for each type would be a copy of all three.
 #[derive(Clone, Copy, Debug, PartialEq, Eq)]
 pub struct Sheet<'a> {
     pub text: &'a [u8],
@@ -51,7 +55,6 @@ pub struct Type<'a> {
 }
 
 /// Member j of a struct of a sheet, its type and its offset.
-// Kept: a view of one member; that of ir_member_words is the four words of a record.
 #[derive(Clone, Copy, Debug, PartialEq, Eq)]
 pub struct Member<'a> {
     pub of: Type<'a>,
@@ -69,13 +72,35 @@ pub struct Module<'a> {
     pub places: &'a [Option<usize>],
 }
 
-// The walk over the tokens of a text: where it goes on, the last word, whether `struct` was the last token, and which struct and member row come next.
+// The tokens of a text from one place on, up to its end or to one that is bad.
+#[derive(Drop)]
+struct Tokens<'a> {
+    text: &'a [u8],
+    at: usize,
+}
+
+impl<'a> Iterator for Tokens<'a> {
+    type Item = Lexed;
+
+    ghost remaining = { λ s. at_most (length (from s.text.now s.at)) };
+
+    fn next(&mut self) -> Option<Lexed> {
+        match wgsl_tokens::next_token(self.text, self.at) {
+            Ok(Some(token)) => {
+                self.at = token.end();
+                Some(token)
+            }
+            _ => None,
+        }
+    }
+}
+
+// The walk over the tokens of a text: the last word, whether `struct` was the last token, and which struct and member row come next.
 #[derive(Drop)]
 struct Walk<'a> {
     text: &'a [u8],
     types: &'a [u32],
     names: NameTable,
-    at: usize,
     last: Option<Span>,
     after_struct: bool,
     ty: u32,
@@ -93,8 +118,8 @@ fn member_row(types: &[u32], i: u32, j: u32) -> usize
 impl NameTable {
     fn new() -> NameTable {
         NameTable {
-            types: [None; 1024],
-            members: [None; 4096],
+            types: [None; ir_records::MOST_TYPES],
+            members: [None; ir_records::MOST_MEMBERS],
         }
     }
 }
@@ -141,9 +166,9 @@ impl<'a> Sheet<'a> {
     }
 }
 
+// Kept: fields of records by their place, `word(1)` and the like, here, in `member_row` and in `Module::row_of`: the contracts tell these words of a record of any kind. `TypeInner` has a field for its own kind alone, and none for the first row of a struct, so that each would be an Option.
 impl<'a> Type<'a> {
     /// Another type of the sheet.
-    // Kept: one field is another and the rest stays, as in other structs; no more is alike.
     pub fn other(self, i: u32) -> Type<'a>
         ensures sheet { result.sheet ≡ self.entry.sheet }
         ensures i { result.i ≡ i }
@@ -165,7 +190,7 @@ impl<'a> Type<'a> {
         ir_records::type_inner(self.sheet.types, self.i)
     }
 
-    // Kept: the tests of two kinds, each under its name, which callers ask for by it.
+    // Kept: is_struct and is_array are one line each over is_of_kind; with the kind as a parameter each caller would name it, and they would be is_of_kind.
     pub fn is_struct(self) -> bool
         ensures { result ≡ eqb (type_word self.entry.sheet.types.now self.entry.i 0) struct_kind }
     {
@@ -182,11 +207,7 @@ impl<'a> Type<'a> {
     pub fn element(self) -> Option<Type<'a>>
         ensures { MatchOption result (eqb (type_word self.entry.sheet.types.now self.entry.i 0) array_kind ≡ false) (λ e. (eqb (type_word self.entry.sheet.types.now self.entry.i 0) array_kind ≡ true) × (e.sheet ≡ self.entry.sheet) × (e.i ≡ type_word self.entry.sheet.types.now self.entry.i 1)) }
     {
-        if self.is_array() {
-            Some(self.other(self.word(1)))
-        } else {
-            None
-        }
+        self.is_array().then_some(self.other(self.word(1)))
     }
 
     /// How far apart its elements lie as an array.
@@ -210,23 +231,30 @@ impl<'a> Type<'a> {
         self.word(2)
     }
 
-    // Kept: this and the next two read one word each; each says under a name which.
+    /// Word j of its row, by the names of ir_rows.
+    pub fn row_word(self, j: usize) -> u32
+        requires { j < 14 }
+        ensures { result ≡ row_word self.entry.sheet.rows.now self.entry.i j }
+    {
+        ir_rows::row_word(self.sheet.rows, self.i, j as u32)
+    }
+
     pub fn size(self) -> u32
         ensures { result ≡ row_word self.entry.sheet.rows.now self.entry.i 0 }
     {
-        ir_rows::row_word(self.sheet.rows, self.i, 0)
+        self.row_word(ir_rows::SIZE)
     }
 
     pub fn alignment(self) -> u32
         ensures { result ≡ row_word self.entry.sheet.rows.now self.entry.i 1 }
     {
-        ir_rows::row_word(self.sheet.rows, self.i, 1)
+        self.row_word(ir_rows::ALIGNMENT)
     }
 
     fn flags(self) -> u32
         ensures { result ≡ row_word self.entry.sheet.rows.now self.entry.i 2 }
     {
-        ir_rows::row_word(self.sheet.rows, self.i, 2)
+        self.row_word(ir_rows::FLAGS)
     }
 
     /// Whether it is host-shareable.
@@ -246,15 +274,16 @@ impl<'a> Type<'a> {
     pub fn may_be_immediate(self) -> bool
         ensures { result ≡ may_be_immediate self.entry.sheet.rows.now self.entry.i }
     {
-        let word = ir_rows::row_word(self.sheet.rows, self.i, 13);
+        let word = self.row_word(ir_rows::IMMEDIATES);
         self.is_shareable() & self.is_sized() & (word == 0)
     }
 
     /// Whether a host may fill a storage buffer with it: it is host-shareable and its storage verdict is Ok.
+    // Kept: the code alone: `Verdict::is_ok` is of five words, four of which would be read for nothing, and would ask for valid_type_info here.
     pub fn is_usable(self) -> bool
         ensures { result ≡ is_usable self.entry.sheet.rows.now self.entry.i }
     {
-        let verdict = ir_rows::row_word(self.sheet.rows, self.i, 8);
+        let verdict = self.row_word(ir_rows::STORAGE);
         self.is_shareable() & (verdict == 0)
     }
 
@@ -320,7 +349,7 @@ impl<'a> Type<'a> {
     }
 
     /// Its member j; of type 0 and at offset 0 where it has none.
-    // Kept: most callers count j below `count`, and an Option would be taken apart in each of their loops, where it is never None.
+    // Kept: as an Option it would be None for no caller, since j is below `count` or comes from a verdict or a refusal of this struct; a `requires` would ask of those two what no clause of them says.
     pub fn member(self, j: u32) -> Member<'a>
         ensures of { result.of ≡ self.entry }
         ensures j { result.j ≡ j }
@@ -379,7 +408,6 @@ impl<'a> Walk<'a> {
             text,
             types,
             names: NameTable::new(),
-            at: 0,
             last: None,
             after_struct: false,
             ty: 0,
@@ -402,12 +430,6 @@ impl<'a> Walk<'a> {
         }
         self.after_struct = self.text.get(word.start..word.end) == Some(b"struct");
         self.last = Some(word);
-        self.at = word.end;
-    }
-
-    fn pass_other(&mut self, end: usize) {
-        self.after_struct = false;
-        self.at = end;
     }
 
     // The word before a colon is the name of the next member.
@@ -419,18 +441,18 @@ impl<'a> Walk<'a> {
     }
 
     // A colon stands after the name of a member, and nowhere else.
-    fn pass_mark(&mut self, byte: u8, end: usize) {
+    fn pass_mark(&mut self, byte: u8) {
         if byte == b':' {
             self.name_member();
         }
-        self.pass_other(end);
+        self.after_struct = false;
     }
 
     fn pass_token(&mut self, token: Lexed) {
         match token {
-            Lexed::Word { start, end } => self.pass_word(Span { start, end }),
-            Lexed::Mark { byte, end } => self.pass_mark(byte, end),
-            Lexed::Number { .. } | Lexed::Large(_) => self.pass_other(token.end()),
+            Lexed::Word(word) => self.pass_word(word),
+            Lexed::Mark { byte, .. } => self.pass_mark(byte),
+            Lexed::Number { .. } | Lexed::Large(_) => self.after_struct = false,
         }
     }
 }
@@ -438,11 +460,7 @@ impl<'a> Walk<'a> {
 /// The names of a text that was read into these type records.
 pub fn from_text(text: &[u8], types: &[u32]) -> NameTable {
     let mut walk = Walk::new(text, types);
-    // A token has a byte at least.
-    for _ in 0..text.len() {
-        let Ok(Some(token)) = wgsl_tokens::next_token(text, walk.at) else {
-            break;
-        };
+    for token in (Tokens { text, at: 0 }) {
         walk.pass_token(token);
     }
     walk.names
@@ -458,8 +476,8 @@ fn instructions(words: &[u32]) -> Instructions {
 }
 
 /// Where the instruction of each type record stands, where there is one.
-pub fn type_places(words: &[u32]) -> [Option<usize>; 1024] {
-    let mut places = [None; 1024];
+pub fn type_places(words: &[u32]) -> [Option<usize>; ir_records::MOST_TYPES] {
+    let mut places = [None; ir_records::MOST_TYPES];
     let types = instructions(words).filter(|at| spirv_ids::is_read(spirv_words::opcode_of(
         words, *at,
     )));

@@ -37,6 +37,13 @@ pub fn digit_count(n: u64) -> usize
     io::decimal(n, &mut [0; 20])
 }
 
+// Columns that a number at the right of so many leaves free.
+fn free_columns(width: u64, n: u64) -> u64
+    ensures { result ≡ width - length (decimal n) }
+{
+    gap(digit_count(n) as u64, width)
+}
+
 /// Whether `<`, `>` and `&` are written as they are, or as a page has them.
 #[derive(Clone, Copy, Debug, PartialEq, Eq)]
 pub enum Markup {
@@ -104,7 +111,7 @@ impl<'a> Writer<'a> {
 
     /// A number at the right of so many columns.
     pub fn put_right(&mut self, width: u64, n: u64) {
-        self.put_blanks(gap(digit_count(n) as u64, width));
+        self.put_blanks(free_columns(width, n));
         self.put_number(n);
     }
 

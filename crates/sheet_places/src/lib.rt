@@ -45,8 +45,8 @@ pub fn before(words: &[u32], k: usize) -> &[u32]
 pub fn is_refused(words: &[u32]) -> bool
     ensures { result ≡ is_refusal (section_of (read_into words.now (replicate 6144 0) (replicate 16384 0))) }
 {
-    let mut types = [0u32; 6144];
-    let mut members = [0u32; 16384];
+    let mut types = [0u32; ir_records::TYPE_TABLE];
+    let mut members = [0u32; ir_records::MEMBER_TABLE];
     spirv_reader::read_module(words, &mut types, &mut members).is_err()
 }
 
@@ -66,7 +66,7 @@ fn halved(words: &[u32], among: Range<usize>) -> Range<usize>
 // The number of the instruction at which a module is refused. What an instruction is refused for stands before it, so halves are enough.
 pub fn refused_at(words: &[u32]) -> usize {
     let mut among = 0..words.len();
-    // Kept: each step halves the range, so no range counts it.
+    // Kept: each step halves the range, which no range counts; `partition_point` is of a slice, in which these numbers do not stand.
     while 1 < among.len() {
         among = halved(words, among);
     }

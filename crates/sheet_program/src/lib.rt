@@ -9,7 +9,7 @@ use std::io::Read;
 use std::rt::{Env, Files};
 use valid_type_info::UniformRule;
 
-// Kept: as program_output's.
+// Kept: the system's number of the stream, for the help alone: an `Output` of program_output, which has the number for itself, would be a buffer of 1114112 bytes for one text.
 const STDOUT: i32 = 1;
 
 // What the arguments say so far: what is asked of a file, the option whose value comes next, whether an option has no file after it yet, and whether a
@@ -63,8 +63,8 @@ const UNREAD: Messages = Messages {
     failed: b"sheet: the input cannot be read\n",
 };
 
-// Kept: as `program_files::answer_text`, which takes a closure: one that holds the name was tried, and the check takes no closure of two lifetimes
-// beside messages that are `'static`.
+// Kept: as `program_files::answer_text`, which takes a closure: one that holds the name was tried, and the check takes no closure of two lifetimes beside `'static` messages.
+// Kept: 1048577, one byte more than is read: the constant of this number in program_files is its own, for a text; here it is of modules too.
 fn answer_open<S: Read>(asked: Asked, name: Option<&[u8]>, source: &mut S) {
     let mut bytes = program_files::filled::<u8, 1048577>(0);
     match program_files::read_all(source, &mut bytes) {

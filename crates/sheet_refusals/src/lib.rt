@@ -5,8 +5,6 @@ use ir_records::{Fault, Refusal};
 use sheet_names::{Member, Sheet, Type};
 use sheet_output::{Markup, Writer};
 
-const MOST_TYPES: u32 = ir_records::MOST_TYPES as u32;
-
 const MOST_MEMBERS: u32 = ir_records::MOST_MEMBERS as u32;
 
 // The longest message: a token of 1,048,576 bytes and what is said of it.
@@ -43,6 +41,7 @@ pub fn put_module(out: &mut Writer, words: &[u32], fault: Fault) {
 }
 
 // Whether a member row is one of a struct.
+// Kept: `word(1)`, the first row, here and in `member_with`: `TypeInner`, which has the fields of a struct by name, has none for it.
 fn has_row(t: Type, row: u32) -> bool {
     let first = u64::from(t.word(1));
     let end = first + u64::from(t.count());
@@ -52,7 +51,7 @@ fn has_row(t: Type, row: u32) -> bool {
 // The member in whose type a type of a text stands: the first one whose type is not before it.
 fn member_with<'a>(sheet: Sheet<'a>, ty: u32) -> Option<Member<'a>> {
     let row = (0..MOST_MEMBERS).find(|r| ty <= ir_records::member_type(sheet.members, *r))?;
-    let i = (0..MOST_TYPES).find(|i| has_row(sheet.type_at(*i), row))?;
+    let i = (0..sheet_names::MOST_TYPES).find(|i| has_row(sheet.type_at(*i), row))?;
     let t = sheet.type_at(i);
     Some(t.member(row.saturating_sub(t.word(1))))
 }
@@ -109,12 +108,21 @@ fn named_member<'a>(t: Type<'a>, refusal: Refusal) -> Option<Member<'a>> {
     names_member(refusal.fault).then(|| t.member(refusal.member))
 }
 
+// The type that a refusal names; number 1 is of all tables and names none.
+fn named_type<'a>(sheet: Sheet<'a>, refusal: Refusal) -> Option<Type<'a>> {
+    (refusal.fault != Fault::TableLength).then_some(sheet.type_at(refusal.ty))
+}
+
+// The bit of the capability that is missing, where one is.
+fn missing_capability(refusal: Refusal) -> Option<u32> {
+    (refusal.fault == Fault::MissingCapability).then_some(refusal.detail)
+}
+
 // The type that is refused, in a text: the struct, or the member in whose type it stands.
-fn put_in_text(out: &mut Writer, sheet: Sheet, refusal: Refusal) {
-    let t = sheet.type_at(refusal.ty);
+fn put_in_text(out: &mut Writer, t: Type, refusal: Refusal) {
     if t.is_struct() {
         put_place(out, t, named_member(t, refusal));
-    } else if let Some(member) = member_with(sheet, refusal.ty) {
+    } else if let Some(member) = member_with(t.sheet, t.i) {
         put_place(out, member.of, Some(member));
     }
 }
@@ -137,17 +145,17 @@ fn put_in_module(out: &mut Writer, t: Type, words: &[u32], place: Option<usize>,
 fn put_arena_number(out: &mut Writer, refusal: Refusal) {
     out.markup = Markup::Plain;
     sheet_meanings::put_fault(out, refusal.fault);
-    if refusal.fault == Fault::MissingCapability {
+    if let Some(bit) = missing_capability(refusal) {
         out.put_text(b"  ");
-        sheet_meanings::put_capability(out, refusal.detail);
+        sheet_meanings::put_capability(out, bit);
     }
 }
 
 /// A refusal of the records of a text.
 pub fn put_text_arena(out: &mut Writer, sheet: Sheet, refusal: Refusal) {
     put_arena_number(out, refusal);
-    if refusal.fault != Fault::TableLength {
-        put_in_text(out, sheet, refusal);
+    if let Some(t) = named_type(sheet, refusal) {
+        put_in_text(out, t, refusal);
     }
 }
 
@@ -160,7 +168,7 @@ pub fn put_module_arena(
     refusal: Refusal,
 ) {
     put_arena_number(out, refusal);
-    if refusal.fault != Fault::TableLength {
-        put_in_module(out, sheet.type_at(refusal.ty), words, place, refusal);
+    if let Some(t) = named_type(sheet, refusal) {
+        put_in_module(out, t, words, place, refusal);
     }
 }

@@ -39,12 +39,10 @@ pub struct ",
 pub fn put_none(out: &mut Writer, t: Type) {
     out.put_text(b"\n// struct ");
     sheet_identifiers::put_type(out, t);
-    out.put_text(
-        b" has no form here: it is not host-shareable, or its storage verdict is not ok.\n",
-    );
+    out.put_text(sheet_dimensions::NO_FORM);
+    out.put_byte(b'\n');
 }
 
-// Kept: one call with the texts of this form, as in the other forms.
 pub fn put_gap(out: &mut Writer, unused: Unused) {
     out.put_two(
         b"    pub unused_at_",

@@ -5,8 +5,6 @@ use sheet_names::{Member, Sheet, Type};
 use sheet_output::{Markup, Writer};
 use sheet_verdicts::Space;
 
-const MOST_TYPES: u32 = ir_records::MOST_TYPES as u32;
-
 /// What a sheet is written as.
 #[derive(Clone, Copy, Debug, PartialEq, Eq)]
 pub enum Form {
@@ -128,8 +126,7 @@ fn put_counts(out: &mut Writer, types: u64, structs: u64, last: &[u8]) {
     out.put_text(last);
 }
 
-// Kept: three choices by the form. A trait of forms would have these three functions four times, and still a choice before the input is read and one
-// after it, since the form is an argument of the program.
+// Kept: four choices by the form. A trait of forms would have these functions four times, and still a choice before the input and one after it, since the form is an argument.
 impl Form {
     /// A page has marks of its own.
     pub fn markup(self) -> Markup {
@@ -182,13 +179,13 @@ impl Form {
 
     /// All structs of an accepted arena.
     pub fn put_all(self, out: &mut Writer, sheet: Sheet) {
-        for i in 0..MOST_TYPES {
+        for i in 0..sheet_names::MOST_TYPES {
             let t = sheet.type_at(i);
             if t.is_struct() {
                 self.put_struct(out, t);
             }
         }
-        let structs = (0..MOST_TYPES)
+        let structs = (0..sheet_names::MOST_TYPES)
             .filter(|i| sheet.type_at(*i).is_struct())
             .count();
         self.put_end(

@@ -18,15 +18,16 @@ const HEAD: usize = 6;
 const MOST_NAME: usize = 40;
 
 // The width of the column of names: at least that of its head.
-#[tactic(auto, unfolding(crate::specs::Width::longest))]
+// Kept: `count`, which is that of `t` at the one call: the function promises a width for the first so many members, and without it would promise that of all alone.
 pub fn name_width(t: Type, count: u32) -> usize
     ensures { result ≡ name_width t.entry.sheet.text.now t.entry.sheet.names.now t.entry.sheet.types.now t.entry.i count }
 {
-    let mut width = HEAD;
-    for j in 0..count {
-        width = width.max(sheet_types::name_length(t.member(j)));
-    }
-    width.min(MOST_NAME)
+    (0..count)
+        .fold(
+            HEAD,
+            |width, j| width.max(sheet_types::name_length(t.member(j))),
+        )
+        .min(MOST_NAME)
 }
 
 // Blanks after so many columns of a name, up to the width of its column.

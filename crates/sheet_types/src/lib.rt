@@ -108,6 +108,7 @@ fn is_printable(name: &[u8]) -> bool
 }
 
 // A name where it can be printed, or else a number after a text.
+// Kept: `put_name` of sheet_identifiers differs in the test and in the way to write the name, which one function would take as two closures.
 fn put_name(out: &mut Writer, name: Option<&[u8]>, otherwise: &[u8], number: u32) {
     match name {
         Some(name) if is_printable(name) => out.put_name(name),
@@ -152,6 +153,7 @@ pub fn name_length(member: Member) -> usize
 }
 
 // The type inside so many arrays, from the outermost on; the type itself where it is no array.
+// Kept: a loop of at most `depth` turns: `try_fold`, as in sheet_bytes, would take a ControlFlow of the type either way, and its contract a law of its steps in the place of one invariant.
 pub fn inside<'a>(of: Type<'a>, depth: u32) -> Type<'a>
     ensures sheet { result.sheet ≡ of.entry.sheet }
     ensures i { result.i ≡ inside_arrays of.entry.sheet.types.now depth of.entry.i }
@@ -210,7 +212,7 @@ pub fn put_type(out: &mut Writer, t: Type) {
 }
 
 // The bytes from the start of a column of a matrix to the start of the next; none for what is no matrix.
-// Kept: `column_step` of proc_type_methods asks for a width below 256, which the record of a refused type need not have.
+// Kept: `column_step` of proc_type_methods asks for a width below 256. The records of accepted types have one, but no clause of `Type` says that it is of such records.
 pub fn column_step(t: Type) -> Option<u64>
     ensures { result ≡ inner_step (type_inner t.entry.sheet.types.now t.entry.i) }
 {

@@ -1,11 +1,12 @@
 // Verdicts, slots and bytes of a struct in words.
 #![tactic(auto)]
 
-ghost use Rattle.std.specs.Prelude.{◌≡◌, ◌<◌};
+ghost use Rattle.std.specs.Prelude.{◌≤◌};
 
 use immediates_ranges::Slots;
 use sheet_names::Type;
 use sheet_output::Writer;
+use valid_type_info::{Disalignment, Verdict};
 
 /// The address spaces of which a row has a verdict.
 #[derive(Clone, Copy, Debug, PartialEq, Eq)]
@@ -14,85 +15,27 @@ pub enum Space {
     Storage,
 }
 
-// A verdict in the row of a type: its code and the four words after it.
-#[derive(Clone, Copy, Debug, PartialEq, Eq)]
-struct Verdict {
-    code: u32,
-    a: u32,
-    b: u32,
-    c: u32,
-    d: u32,
-}
-
 impl Space {
-    // The verdict of a type for this space.
-    fn verdict_of(self, t: Type) -> Verdict {
-        let first = match self {
-            Space::Uniform => ir_rows::UNIFORM as u32,
-            Space::Storage => ir_rows::STORAGE as u32,
-        };
-        let rows = t.sheet.rows;
-        Verdict {
-            code: ir_rows::row_word(rows, t.i, first),
-            a: ir_rows::row_word(rows, t.i, first + 1),
-            b: ir_rows::row_word(rows, t.i, first + 2),
-            c: ir_rows::row_word(rows, t.i, first + 3),
-            d: ir_rows::row_word(rows, t.i, first + 4),
+    // Where the five words of its verdict begin in a row.
+    fn first_word(self) -> usize
+        ensures { result ≤ 8 }
+    {
+        match self {
+            Space::Uniform => ir_rows::UNIFORM,
+            Space::Storage => ir_rows::STORAGE,
         }
     }
-}
 
-// A number that must be a multiple of another one.
-#[derive(Clone, Copy, Debug, PartialEq, Eq)]
-struct Uneven {
-    value: u32,
-    unit: u32,
-}
-
-// What is wrong: naga's Disalignment, with the member of which it says so.
-#[derive(Clone, Copy, Debug, PartialEq, Eq)]
-enum Disalignment {
-    ArrayStride(Uneven),
-    StructSpan(Uneven),
-    MemberOffset {
-        member: u32,
-        offset: Uneven,
-    },
-    MemberOffsetAfterStruct {
-        member: u32,
-        offset: u32,
-        expected: u32,
-    },
-    UnsizedMember {
-        member: u32,
-    },
-    NonHostShareable,
-}
-
-impl Verdict {
-    // The type of which something is wrong, and what.
-    fn wrong(self) -> Option<Disalignment> {
-        let number = Uneven {
-            value: self.c,
-            unit: self.d,
-        };
-        let member = self.b;
-        // Kept: these arms by number are the conversion of a code in a row.
-        match self.code {
-            1 => Some(Disalignment::ArrayStride(number)),
-            2 => Some(Disalignment::StructSpan(number)),
-            3 => Some(Disalignment::MemberOffset {
-                member,
-                offset: number,
-            }),
-            4 => Some(Disalignment::MemberOffsetAfterStruct {
-                member,
-                offset: self.c,
-                expected: self.d,
-            }),
-            5 => Some(Disalignment::UnsizedMember { member }),
-            6 => Some(Disalignment::NonHostShareable),
-            _ => None,
+    // The verdict of a type for this space.
+    // Kept: `valid_type_rows::row_at`, which makes a verdict of its five words too, asks for whole rows, and no clause of `Type` says that its rows are.
+    fn verdict_of(self, t: Type) -> Verdict {
+        let first = self.first_word();
+        Verdict {
+            code: t.row_word(first),
+            ty: t.row_word(first + 1),
+            index: t.row_word(first + 2),
+            value: t.row_word(first + 3),
+            bound: t.row_word(first + 4),
         }
     }
 }
@@ -106,51 +49,48 @@ pub fn put_measures(out: &mut Writer, t: Type) {
     out.put_with(b", alignment ", u64::from(t.alignment()), b"");
 }
 
-// The member that is wrong; and its struct, where that is another one than the type that is judged.
-fn put_member(out: &mut Writer, judged: Type, of: Type, member: u32) {
-    sheet_types::put_numbered_member(out, of.member(member));
+// The member that a verdict names; and its struct, where that is another one than the type that is judged.
+fn put_member(out: &mut Writer, judged: Type, of: Type, verdict: Verdict) {
+    sheet_types::put_numbered_member(out, of.member(verdict.index));
     if of.i != judged.i {
         out.put_text(b" of ");
         sheet_types::put_struct_name(out, of);
     }
 }
 
-// A number after a text, and of what it must be a multiple.
-fn put_uneven(out: &mut Writer, before: &[u8], number: Uneven, after: &[u8]) {
-    out.put_with(before, u64::from(number.value), after);
-    out.put_with(b" must be a multiple of ", u64::from(number.unit), b"");
+// The number that is wrong after a text, and of what it must be a multiple.
+fn put_uneven(out: &mut Writer, before: &[u8], verdict: Verdict, after: &[u8]) {
+    out.put_with(before, u64::from(verdict.value), after);
+    out.put_with(b" must be a multiple of ", u64::from(verdict.bound), b"");
 }
 
-// What is wrong with a type, or with a member of it, where another type is judged by it.
-fn put_wrong(out: &mut Writer, judged: Type, of: Type, wrong: Disalignment) {
+// What is wrong with the type that a verdict names, or with a member of it, where another type is judged by it.
+fn put_wrong(out: &mut Writer, judged: Type, verdict: Verdict, wrong: Disalignment) {
+    let of = judged.other(verdict.ty);
     match wrong {
-        Disalignment::ArrayStride(stride) => {
+        Disalignment::ArrayStride => {
             sheet_types::put_type(out, of);
-            put_uneven(out, b" has its elements ", stride, b" apart, which")
+            put_uneven(out, b" has its elements ", verdict, b" apart, which")
         }
-        Disalignment::StructSpan(span) => {
+        Disalignment::StructSpan => {
             sheet_types::put_type(out, of);
-            put_uneven(out, b" has size ", span, b", which")
+            put_uneven(out, b" has size ", verdict, b", which")
         }
-        Disalignment::MemberOffset { member, offset } => {
-            put_member(out, judged, of, member);
-            put_uneven(out, b" at ", offset, b"")
+        Disalignment::MemberOffset => {
+            put_member(out, judged, of, verdict);
+            put_uneven(out, b" at ", verdict, b"")
         }
-        Disalignment::MemberOffsetAfterStruct {
-            member,
-            offset,
-            expected,
-        } => {
-            put_member(out, judged, of, member);
+        Disalignment::MemberOffsetAfterStruct => {
+            put_member(out, judged, of, verdict);
             out.put_with(
                 b" at ",
-                u64::from(offset),
+                u64::from(verdict.value),
                 b" stands after a struct and must",
             );
-            out.put_with(b" be at ", u64::from(expected), b" or later")
+            out.put_with(b" be at ", u64::from(verdict.bound), b" or later")
         }
-        Disalignment::UnsizedMember { member } => {
-            put_member(out, judged, of, member);
+        Disalignment::UnsizedMember => {
+            put_member(out, judged, of, verdict);
             out.put_text(b" is runtime-sized")
         }
         Disalignment::NonHostShareable => {
@@ -163,10 +103,10 @@ fn put_wrong(out: &mut Writer, judged: Type, of: Type, wrong: Disalignment) {
 // The verdict of a type for a space: its alignment, or what is wrong.
 pub fn put_verdict(out: &mut Writer, t: Type, space: Space) {
     let verdict = space.verdict_of(t);
-    if let Some(wrong) = verdict.wrong() {
-        put_wrong(out, t, t.other(verdict.a), wrong);
+    if let Ok(wrong) = Disalignment::try_from(verdict.code) {
+        put_wrong(out, t, verdict, wrong);
     } else if t.is_shareable() {
-        out.put_with(b"ok, ", u64::from(verdict.a), b"");
+        out.put_with(b"ok, ", u64::from(verdict.ty), b"");
     } else {
         out.put_text(b"no, the struct is not host-shareable");
     }

@@ -1,26 +1,24 @@
 -- The instructions before a place, split at one of them; how many types are read before it; where a search may begin.
 -- Assumes nothing.
-use mathlib.Core.Path.{◌≡◌, refl, sym, ap, ◌∙◌}
-use mathlib.Core.Bool.{Bool, true, false, ◌&&◌, ◌||◌}
+use mathlib.Core.Path.{◌≡◌, refl, sym, ap, subst, ◌∙◌}
+use mathlib.Core.Bool.{Bool, true, false, ◌&&◌}
 use mathlib.Core.List.{List, [], ◌∷◌, ◌++◌, append_assoc}
-use Prim.Native.Nat.{ℕ, ◌+◌, ◌-◌, ◌≤◌, ◌<◌}
+use Prim.Native.Nat.{ℕ, zero, suc, ◌+◌, ◌-◌, ◌≤◌, ◌<◌}
 use native.Mathlib.Omega.{arith}
 use native.Mathlib.Decide.{dec_le}
 use lib.Dec.{eqb, leb, ltb}
-use borrow.Author.Tests.{leb-true, le-leb, eqb-true, eqb-false, ne_eqb}
-use Rattle.std.specs.Prelude.{None, Some}
+use borrow.Author.Tests.{ltb-true, leb-true, le-leb, eqb-true, eqb-false, ne_eqb}
+use Rattle.std.proofs.lemmas.Option.{none-some, same_Some}
+use Rattle.std.proofs.lemmas.Bool.{and_parts, or_parts, true≢false}
+use Rattle.std.specs.Prelude.{Option, None, Some}
 use Rattle.ir_records.specs.Result.{pick}
-use Rattle.std.specs.Option.{is_some}
-use Rattle.spirv_words.specs.Module.{opcode, word, word_count, is_type, is_read, type_int, constant, header_words, starts, between, before, first, count}
+use Rattle.std.specs.Option.{is_some, unwrap_or}
+use Rattle.spirv_words.specs.Module.{opcode, word, word_count, is_type, is_read, type_int, constant, header_words, starts, between, before, first, find, count}
 use Rattle.spirv_words.specs.Decorations.{is_integer}
 use Rattle.spirv_words.proofs.SearchLaws.{between_next, between_end, search_on, search_end, found_below, found_is}
 use Rattle.spirv_ids.specs.Sorts.{Unknown, OtherType, TypeRead, ConstantAt}
 use Rattle.spirv_ids.specs.Ids.{integer_before, integer_found, is_constant, gives, giver, giver_found, type_number, sort_at, sort}
 use Rattle.spirv_ids.specs.Places.{Stands, may_give, GivesFrom}
-
-and_true : (a b : Bool) → (a && b) ≡ true → (a ≡ true) × (b ≡ true)
-and_true true b e = (refl, e)
-and_true false b e = (e, cc)
 
 pub count_append : (test : ℕ → Bool) (ps qs : List ℕ) → count test (ps ++ qs) ≡ count test ps + count test qs
 unfolding count
@@ -65,20 +63,13 @@ module _ (ws : List ℕ) where
         omega (arith, e)
 
 -- ---- where a search may begin
-or_false : (a b : Bool) → (a || b) ≡ false → (a ≡ false) × (b ≡ false)
-or_false true b e = (e, cc)
-or_false false b e = (refl, e)
-
-true_false : true ≡ false → ⊥
-true_false e = let z : ◌≡◌ {A = ℕ} 0 1 = cc in absurd (omega arith)
-
 -- a type that is read is a type
 pub read_type : (op : ℕ) → is_read op ≡ true → is_type op ≡ true
 read_type op e = by (leb 20 op && leb op 24) refl
   where
     within : (a b : ℕ) → 19 ≤ a → b ≤ 38 → (leb a op && leb op b) ≡ true → is_type op ≡ true
     within a b low high t =
-        let p = and_true (leb a op) _ t in
+        let p = and_parts (leb a op) _ t in
         rw (le-leb 19 op (omega (arith, leb-true a op p.0, low)), le-leb op 38 (omega (arith, leb-true op b p.1, high)))
 
     by : (b : Bool) → (leb 20 op && leb op 24) ≡ b → is_type op ≡ true
@@ -89,7 +80,7 @@ no_type_read : (op : ℕ) → is_type op ≡ false → is_read op ≡ false
 no_type_read op e = by (is_read op) refl
   where
     by : (b : Bool) → is_read op ≡ b → is_read op ≡ false
-    by true t = absurd (true_false (sym (read_type op t) ∙ e))
+    by true t = absurd (true≢false (sym (read_type op t) ∙ e))
     by false t = t
 
 module _ (ws : List ℕ) (id : ℕ) (q : ℕ) (e : may_give (opcode ws q) ≡ false) where
@@ -97,12 +88,12 @@ module _ (ws : List ℕ) (id : ℕ) (q : ℕ) (e : may_give (opcode ws q) ≡ fa
   quiet_integer = by (eqb (opcode ws q) type_int) refl
     where
       by : (b : Bool) → eqb (opcode ws q) type_int ≡ b → is_integer ws id q ≡ false
-      by true t = absurd (true_false (rw (eqb-true (opcode ws q) type_int t) at e))
+      by true t = absurd (true≢false (rw (eqb-true (opcode ws q) type_int t) at e))
       by false t = rw t
 
   quiet_gives : gives ws id q ≡ false
   unfolding gives is_constant
-  quiet_gives = let p = or_false (is_type (opcode ws q)) _ e in rw (p.0, p.1)
+  quiet_gives = let p = or_parts (is_type (opcode ws q)) _ e in rw (p.0, p.1)
 
 module _ (ws : List ℕ) (p : ℕ) (g : GivesFrom ws p) where
   pub integer-from : (at id : ℕ) → first (is_integer ws id) (between ws p at) ≡ integer_before ws at id
@@ -118,7 +109,7 @@ module _ (ws : List ℕ) (p : ℕ) (g : GivesFrom ws p) where
       record {
         stands = stands_next ws p g.stands k;
         search = λ test quiet end. g.search test quiet end ∙ on test (quiet p e) end (dec_le end p);
-        none = number_next ws p g.stands k ∙ rw (g.none, no_type_read (opcode ws p) (or_false (is_type (opcode ws p)) _ e).0) refl;
+        none = number_next ws p g.stands k ∙ rw (g.none, no_type_read (opcode ws p) (or_parts (is_type (opcode ws p)) _ e).0) refl;
       }
     where
       on : (test : ℕ → Bool) → test p ≡ false → (end : ℕ) → Dec (end ≤ p) → first test (between ws p end) ≡ first test (between ws (p + word_count ws p) end)
@@ -128,6 +119,30 @@ module _ (ws : List ℕ) (p : ℕ) (g : GivesFrom ws p) where
 pub gives_first : (ws : List ℕ) → GivesFrom ws header_words
 unfolding type_number starts count
 gives_first ws = record { stands = stands_first ws; search = λ test quiet end. refl; none = refl }
+
+-- the first instruction that may give an id, or the first of all
+pub gives_found : (ws : List ℕ) (end l p q : ℕ) → end ≤ p + l → GivesFrom ws p → Some q ≡ find (λ k. may_give (opcode ws k)) (starts ws l p end) → GivesFrom ws q
+unfolding starts find
+gives_found ws end zero p q f g e = absurd (none-some q (sym e))
+gives_found ws end (suc l) p q f g e =
+    by (ltb p end && ltb 0 (word_count ws p)) refl (λ w h. gives_found ws end l (p + word_count ws p) q (omega (arith, f, w)) h)
+  where
+    by : (b : Bool) → (ltb p end && ltb 0 (word_count ws p)) ≡ b
+        → (0 < word_count ws p → GivesFrom ws (p + word_count ws p)
+        → Some q ≡ find (λ k. may_give (opcode ws k)) (starts ws l (p + word_count ws p) end) → GivesFrom ws q)
+        → GivesFrom ws q
+    by false k rest = absurd (none-some q (sym (rw k at e)))
+    by true k rest =
+        let w = ltb-true 0 (word_count ws p) (and_parts (ltb p end) _ k).1 in
+        hit w (may_give (opcode ws p)) refl
+      where
+        hit : 0 < word_count ws p → (t : Bool) → may_give (opcode ws p) ≡ t → GivesFrom ws q
+        hit w true t = subst (GivesFrom ws) (sym (same_Some q p (rw (k, t) at e))) g
+        hit w false t = rest w (gives_next ws p g t w) (rw (k, t) at e)
+
+pub gives_or_first : (ws : List ℕ) (end : ℕ) (r : Option ℕ) → r ≡ find (λ k. may_give (opcode ws k)) (before ws end) → GivesFrom ws (unwrap_or r header_words)
+gives_or_first ws end None e = gives_first ws
+gives_or_first ws end (Some q) e = gives_found ws end (end - header_words) header_words q (omega arith) (gives_first ws) e
 
 pub giver_below : (ws : List ℕ) (at id : ℕ) → 0 < giver ws at id → giver ws at id < at
 unfolding giver
@@ -142,7 +157,7 @@ given_constant : (ws : List ℕ) (id q : ℕ) → gives ws id q ≡ true → eqb
 unfolding gives
 given_constant ws id q e c =
     let op : opcode ws q ≡ 43 = eqb-true (opcode ws q) constant c in
-    (and_true (is_constant ws q) _ (rw op at e)).0
+    (and_parts (is_constant ws q) _ (rw op at e)).0
 
 -- the sorts differ
 unknown_constant : (g : ℕ) → Unknown ≡ ConstantAt g → ⊥

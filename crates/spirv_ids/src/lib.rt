@@ -8,6 +8,8 @@ ghost use Rattle.spirv_ids.specs.Ids.{integer_before, integer_found, is_constant
 ghost use Rattle.spirv_ids.specs.Places.{may_give, GivesFrom, GivesFrom-prop};
 ghost use Rattle.spirv_ids.specs.Sorts.{sort_said};
 
+use spirv_words::Instructions;
+
 // The instruction that gives an id, and how many types are read before it.
 #[derive(Clone, Copy, Debug, PartialEq, Eq)]
 pub struct Giver {
@@ -61,23 +63,15 @@ fn may_give(op: u32) -> bool
     is_type(op) | (op == spirv_words::CONSTANT)
 }
 
-// The first instruction that may give an id, or where none follows.
+// The first instruction that may give an id; where there is none, the first one of all.
 pub fn first_giver(words: &[u32]) -> usize
     ensures { GivesFrom words.now result }
 {
-    let mut p: usize = spirv_words::HEADER_WORDS;
-    // Kept: the answer may be the place at which the walk stops, which is no instruction; `Instructions` does not hand it out.
-    while p < words.len() {
-        let count = spirv_words::word_count(words, p);
-        if count == 0 {
-            return p;
-        }
-        if may_give(spirv_words::opcode_of(words, p)) {
-            return p;
-        }
-        p += count;
-    }
-    p
+    let begin = spirv_words::HEADER_WORDS;
+    spirv_words::first_between(words, begin, words.len(), |p| {
+        may_give(spirv_words::opcode_of(words, p))
+    })
+    .unwrap_or(begin)
 }
 
 impl<'a> Module<'a> {
@@ -132,19 +126,17 @@ pub fn giver_of(place: Place, id: u32) -> Option<Giver>
     ensures { result ≡ giver_found place.entry.input.words.now place.entry.at id }
 {
     let words = place.input.words;
-    let mut p = place.input.from;
     let mut number: u32 = 0;
-    // Kept: the types that are read are counted on the way; with `find` over `Instructions` a second walk would count them.
-    while p < place.at {
-        let count = spirv_words::word_count(words, p);
-        if count == 0 {
-            return None;
-        }
+    let earlier = Instructions {
+        words,
+        at: place.input.from,
+        end: place.at,
+    };
+    for p in earlier {
         if is_giver(place.input, id, p) {
             return Some(Giver { at: p, number });
         }
         number += u32::from(is_read(spirv_words::opcode_of(words, p)));
-        p += count;
     }
     None
 }

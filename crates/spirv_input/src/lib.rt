@@ -14,14 +14,14 @@ pub fn word_of(bytes: &[u8], k: usize) -> u32
 }
 
 // Appends the words of the bytes after those that are held, and answers how many are held then.
-// Kept: the words that are held are the start of the caller's fixed table; a slice of them alone could not grow.
+// Kept: the whole table and how much of it is held are a promise to callers; lent the free part alone, each caller would cut it off, add the counts and
+// say in its own clauses where the part begins.
 pub fn append(words: &mut [u32], held: usize, bytes: &[u8]) -> usize
     requires { held + length bytes.now / 4 ≤ length words.old }
     ensures { (result ≡ held + length bytes.now / 4) × (words.new ≡ take held words.old ++ words_in bytes.now (length bytes.now / 4) ++ drop (held + length bytes.now / 4) words.old) }
 {
-    let n = bytes.len() / 4;
-    for k in 0..n {
-        words[held + k] = word_of(bytes, k);
+    for (k, part) in bytes.chunks_exact(4).enumerate() {
+        words[held + k] = word_of(part, 0);
     }
-    held + n
+    held + bytes.len() / 4
 }

@@ -8,6 +8,7 @@ use native.Mathlib.Omega.{arith}
 use lib.Dec.{eqb, leb}
 use lib.ListN.{length, replicate, length-replicate}
 use borrow.Author.Tests.{leb-true}
+use Rattle.std.proofs.lemmas.Bool.{and_parts}
 use Rattle.ir_records.specs.Result.{ok}
 use Rattle.ir_records.specs.Record.{member_words, member_count}
 use Rattle.std.specs.Prelude.{Some, None}
@@ -16,7 +17,6 @@ use Rattle.spirv_words.proofs.SearchLaws.{found_some}
 use Rattle.spirv_ids.specs.Ids.{integer_before, integer_found, is_constant}
 use Rattle.spirv_ids.proofs.PlaceLaws.{constant_found}
 use Rattle.spirv_members.specs.Members.{member_rows}
-use Rattle.spirv_members.proofs.NumberLaws.{and_true}
 use Rattle.spirv_types.specs.declared.Typed.{Typed}
 use Rattle.spirv_types.specs.Types.{State, type_at}
 use Rattle.spirv_instruction.specs.Instruction.{told_by, words_ok, row_count, fits, with_type, type_read}
@@ -46,9 +46,9 @@ module _ (t m : ℕ) (ws : List ℕ) (at : ℕ) where
   pub count_some : words_ok ws at ≡ true → 0 < word_count ws at
   unfolding words_ok
   count_some e =
-      let p = and_true (leb 1 (word_count ws at) && leb (at + word_count ws at) (length ws) && leb (told_by (opcode ws at)) (word_count ws at)) _ e in
-      let q = and_true (leb 1 (word_count ws at) && leb (at + word_count ws at) (length ws)) _ p.0 in
-      leb-true 1 (word_count ws at) (and_true (leb 1 (word_count ws at)) _ q.0).0
+      let p = and_parts (leb 1 (word_count ws at) && leb (at + word_count ws at) (length ws) && leb (told_by (opcode ws at)) (word_count ws at)) _ e in
+      let q = and_parts (leb 1 (word_count ws at) && leb (at + word_count ws at) (length ws)) _ p.0 in
+      leb-true 1 (word_count ws at) (and_parts (leb 1 (word_count ws at)) _ q.0).0
 
   module _ (s : State) where
     pub read_made : (y : Typed) → type_at ws s at ≡ ok y → fits t m ws at s ≡ true → type_read t m ws at s ≡ ok (with_type s y (member_rows ws at (row_count ws at)))

@@ -3,13 +3,15 @@
 
 ghost use Rattle.std.specs.Prelude.{◌≡◌, List, ℕ, ◌≤◌};
 ghost use Rattle.ir_records.specs.Record.{member_count, type_count};
+ghost use Rattle.ir_records.specs.declared.Fault.TheVariants as fault;
 ghost use Rattle.spirv_words.specs.Module.{opcode};
+ghost use Rattle.spirv_members.specs.Serving.{FaultTold};
 ghost use Rattle.spirv_types.specs.Types.{State};
 ghost use Rattle.spirv_instruction.specs.Instruction.{least_type, least_constant, least_decorate, least_member_decorate, least_words, told_by, words_ok, row_count, type_read, new_id, instruction, other_read};
 ghost use Rattle.spirv_instruction.specs.Serving.{judged_result, type_result, id_result, TypeTold, Told};
 
 use ir_records::{Fault, Records};
-use spirv_ids::{Module, Place};
+use spirv_ids::Place;
 use spirv_types::{Known, Typed};
 
 // The type that an instruction makes, and how many member rows it has.
@@ -32,33 +34,33 @@ fn least_type(op: u32) -> usize
     }
 }
 
-fn least_constant(input: Module, at: usize) -> usize
-    ensures { result ≡ least_constant input.entry.words.now at }
+fn least_constant(place: Place) -> usize
+    ensures { result ≡ least_constant place.entry.input.words.now place.entry.at }
 {
-    let Some(integer) = spirv_ids::integer_of(input, at) else {
+    let Some(integer) = spirv_ids::integer_of(place.input, place.at) else {
         return 2;
     };
-    let bits = spirv_words::word_of(input.words, integer, 2);
+    let bits = spirv_words::word_of(place.input.words, integer, 2);
     if bits == 64 {
         return 5;
     }
     4
 }
 
-fn least_decorate(words: &[u32], at: usize) -> usize
-    ensures { result ≡ least_decorate words.now at }
+fn least_decorate(place: Place) -> usize
+    ensures { result ≡ least_decorate place.entry.input.words.now place.entry.at }
 {
-    let decoration = spirv_words::word_of(words, at, 2);
+    let decoration = spirv_words::word_of(place.input.words, place.at, 2);
     if decoration == spirv_words::ARRAY_STRIDE {
         return 4;
     }
     3
 }
 
-fn least_member_decorate(words: &[u32], at: usize) -> usize
-    ensures { result ≡ least_member_decorate words.now at }
+fn least_member_decorate(place: Place) -> usize
+    ensures { result ≡ least_member_decorate place.entry.input.words.now place.entry.at }
 {
-    let decoration = spirv_words::word_of(words, at, 3);
+    let decoration = spirv_words::word_of(place.input.words, place.at, 3);
     match decoration {
         spirv_words::OFFSET | spirv_words::MATRIX_STRIDE => 5,
         _ => 4,
@@ -66,16 +68,16 @@ fn least_member_decorate(words: &[u32], at: usize) -> usize
 }
 
 #[tactic(auto, unfolding(crate::specs::Instruction::least_words))]
-fn least_words(input: Module, at: usize, op: u32) -> usize
-    ensures { result ≡ least_words input.entry.words.now at op }
+fn least_words(place: Place, op: u32) -> usize
+    ensures { result ≡ least_words place.entry.input.words.now place.entry.at op }
 {
     if spirv_ids::is_type(op) {
         return least_type(op);
     }
     match op {
-        spirv_words::CONSTANT => least_constant(input, at),
-        spirv_words::DECORATE => least_decorate(input.words, at),
-        spirv_words::MEMBER_DECORATE => least_member_decorate(input.words, at),
+        spirv_words::CONSTANT => least_constant(place),
+        spirv_words::DECORATE => least_decorate(place),
+        spirv_words::MEMBER_DECORATE => least_member_decorate(place),
         _ => 1,
     }
 }
@@ -91,28 +93,33 @@ fn told_by(op: u32) -> usize
     }
 }
 
-// Number 28.
+// Number 28 where the word count is too small for the instruction, or more than the words that are left.
 #[tactic(auto, unfolding(crate::specs::Instruction::words_ok))]
-fn words_ok(input: Module, at: usize) -> bool
-    ensures { result ≡ words_ok input.entry.words.now at }
+fn check_words(place: Place) -> Result<(), Fault>
+    ensures { FaultTold result fault.ModuleHeader (words_ok place.entry.input.words.now place.entry.at) }
 {
-    let count = spirv_words::word_count(input.words, at);
-    let op = spirv_words::opcode_of(input.words, at);
+    let words = place.input.words;
+    let count = spirv_words::word_count(words, place.at);
+    let op = spirv_words::opcode_of(words, place.at);
     let told = told_by(op);
-    let least = least_words(input, at, op);
-    (1 <= count)
-        & (at.saturating_add(count) <= input.words.len())
+    let least = least_words(place, op);
+    if (1 <= count)
+        & (place.at.saturating_add(count) <= words.len())
         & (told <= count)
         & (least <= count)
+    {
+        return Ok(());
+    }
+    Err(Fault::ModuleHeader)
 }
 
-// The member rows of the type at `at`.
-fn row_count(words: &[u32], at: usize) -> u32
-    ensures { (result ≡ row_count words.now at) × (result ≤ 65533) }
+// The member rows of the type at a place.
+fn row_count(place: Place) -> u32
+    ensures { (result ≡ row_count place.entry.input.words.now place.entry.at) × (result ≤ 65533) }
 {
-    let op = spirv_words::opcode_of(words, at);
+    let op = spirv_words::opcode_of(place.input.words, place.at);
     if op == spirv_words::TYPE_STRUCT {
-        return spirv_members::member_count(words, at);
+        return spirv_members::member_count(place.input.words, place.at);
     }
     0
 }
@@ -123,7 +130,7 @@ fn type_read(known: Known, space: Records) -> Result<Made, Fault>
     ensures { ((ms : List ℕ) → member_count ms ≡ known.entry.rows → type_result known.entry.place.input.words.now known.entry.place.at (record { types = known.entry.tables.types.now; members = ms; alignments = known.entry.tables.alignments.now }) result ≡ type_read space.types space.members known.entry.place.input.words.now known.entry.place.at (record { types = known.entry.tables.types.now; members = ms; alignments = known.entry.tables.alignments.now })) × TypeTold space.types space.members known.entry.place.input.words.now known.entry.place.at (type_count known.entry.tables.types.now) known.entry.rows result }
 {
     let typed = spirv_types::type_at(known)?;
-    let rows = row_count(known.place.input.words, known.place.at);
+    let rows = row_count(known.place);
     let last = (known.rows as usize) + (rows as usize);
     let count = ir_records::type_count(known.tables.types);
     if (count < space.types as usize) & (last <= space.members as usize) {
@@ -165,9 +172,7 @@ pub fn judge(known: Known, space: Records) -> Result<Option<Made>, Fault>
     ensures { ((ms : List ℕ) → member_count ms ≡ known.entry.rows → judged_result known.entry.place.input.words.now known.entry.place.at (record { types = known.entry.tables.types.now; members = ms; alignments = known.entry.tables.alignments.now }) result ≡ instruction space.types space.members known.entry.place.input.words.now known.entry.place.at (record { types = known.entry.tables.types.now; members = ms; alignments = known.entry.tables.alignments.now })) × Told space.types space.members known.entry.place.input.words.now known.entry.place.at (type_count known.entry.tables.types.now) known.entry.rows result }
 {
     let place = known.place;
-    if !words_ok(place.input, place.at) {
-        return Err(Fault::ModuleHeader);
-    }
+    check_words(place)?;
     let op = spirv_words::opcode_of(place.input.words, place.at);
     if spirv_ids::is_read(op) {
         let made = type_read(known, space)?;

@@ -10,6 +10,7 @@ use native.Mathlib.Omega.{arith}
 use lib.ListN.{length, get_or, length-append, get_or-append}
 use lib.Seq.{get_or-append-add}
 use borrow.Author.Tests.{lt-ltb}
+use Rattle.std.proofs.lemmas.Bool.{and_parts}
 use Rattle.ir_records.specs.Result.{ok}
 use Rattle.ir_records.specs.Record.{member_words, member_type}
 use Rattle.proc_type_alignment.specs.TypeAlignment.{members_alignment}
@@ -17,7 +18,7 @@ use Rattle.spirv_words.specs.Module.{word}
 use Rattle.spirv_ids.specs.Ids.{type_number}
 use Rattle.spirv_members.specs.Members.{is_type_read, member_sort, member_number, offset_of, member_rows, member_sound, members_sound, layouts_of, struct_alignment}
 use Rattle.spirv_members.specs.Serving.{largest_alignment}
-use Rattle.spirv_members.proofs.NumberLaws.{and_true, read_below}
+use Rattle.spirv_members.proofs.NumberLaws.{read_below}
 
 module _ (ws : List ℕ) (at : ℕ) where
   pub rows_length : (n : ℕ) → length (member_rows ws at n) ≡ n * member_words
@@ -51,7 +52,7 @@ module _ (ws : List ℕ) (at : ℕ) where
 
   pub sound_below : (j : ℕ) → member_sound ws at j ≡ true → member_number ws at j < type_number ws at
   unfolding member_sound member_number
-  sound_below j e = read_below ws at (word ws at (2 + j)) (and_true (is_type_read (member_sort ws at j)) _ e).0
+  sound_below j e = read_below ws at (word ws at (2 + j)) (and_parts (is_type_read (member_sort ws at j)) _ e).0
 
   module _ (al : List ℕ) (whole : length al ≡ type_number ws at) (n : ℕ) where
     aligned : (j : ℕ) → j ≤ n → members_sound ws at j ≡ true
@@ -59,7 +60,7 @@ module _ (ws : List ℕ) (at : ℕ) where
     unfolding members_alignment members_sound largest_alignment
     aligned zero h e = refl
     aligned (suc j) h e =
-        let p = and_true (members_sound ws at j) _ e in
+        let p = and_parts (members_sound ws at j) _ e in
         let row : member_type (member_rows ws at n) j ≡ member_number ws at j = (rw (first j) at (row-word n j 0 h (omega arith))) in
         rw (aligned j (omega arith) p.0, row, lt-ltb (member_number ws at j) (length al) (omega (arith, whole, sound_below j p.1))) refl
       where
@@ -73,7 +74,7 @@ module _ (ws : List ℕ) (at : ℕ) where
   pub sound_at : (n j : ℕ) → j < n → members_sound ws at n ≡ true → member_sound ws at j ≡ true
   unfolding members_sound
   sound_at zero j h e = absurd (not-suc-le-zero h)
-  sound_at (suc n) j h e = by (dec_le n j) (and_true (members_sound ws at n) _ e) (sound_at n j)
+  sound_at (suc n) j h e = by (dec_le n j) (and_parts (members_sound ws at n) _ e) (sound_at n j)
     where
       by : Dec (n ≤ j) → (members_sound ws at n ≡ true) × (member_sound ws at n ≡ true) → (j < n → members_sound ws at n ≡ true → member_sound ws at j ≡ true)
           → member_sound ws at j ≡ true

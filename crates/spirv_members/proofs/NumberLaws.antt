@@ -7,15 +7,12 @@ use Prim.Native.Nat.{ℕ, zero, suc, ◌+◌, ◌-◌, ◌<◌}
 use native.Mathlib.Omega.{arith}
 use lib.Dec.{eqb, ltb}
 use borrow.Author.Tests.{ltb-true, eqb-false}
+use Rattle.std.proofs.lemmas.Bool.{and_parts}
 use Rattle.spirv_words.specs.Module.{opcode, word_count, is_read, constant, header_words, starts, first}
 use Rattle.spirv_ids.specs.Ids.{gives, giver, type_number, sort_at, sort}
 use Rattle.spirv_ids.specs.Places.{Stands}
 use Rattle.spirv_ids.proofs.PlaceLaws.{stands_first, stands_next, number_upto, giver_below}
 use Rattle.spirv_members.specs.Members.{is_type_read, number_of}
-
-pub and_true : (a b : Bool) → (a && b) ≡ true → (a ≡ true) × (b ≡ true)
-and_true true b e = (refl, e)
-and_true false b e = (e, cc)
 
 false_true : false ≡ true → ⊥
 false_true e = let z : ◌≡◌ {A = ℕ} 0 1 = cc in absurd (omega arith)
@@ -36,7 +33,7 @@ found_stands ws end test (suc l) p st h =
     by true k rest = hit (test p) refl
       where
         some : 0 < word_count ws p
-        some = ltb-true 0 (word_count ws p) (and_true (ltb p end) _ k).1
+        some = ltb-true 0 (word_count ws p) (and_parts (ltb p end) _ k).1
 
         hit : (t : Bool) → test p ≡ t → Stands ws (first test (starts ws (suc l) p end)) × (0 < word_count ws (first test (starts ws (suc l) p end)))
         hit true t = rw (k, t) (st, some)

@@ -30,9 +30,17 @@ abbrev pub faulted : {A : Type 0} → std.Result A Fault → Result A
 faulted (std.Ok a) = ok a
 faulted (std.Err fault) = err (number_of fault) 0 0
 
+-- a fault just where a test says false
+abbrev pub FaultTold : std.Result (Unit {0}) Fault → Fault → (fit : Bool) → Type 0
+FaultTold told fault fit = std.MatchResult told (λ _. fit ≡ true) (λ f. (f ≡ fault) × (fit ≡ false))
+
 -- 29 before 30
 abbrev pub type_named : Sort → Result ℕ
 type_named s = require (not (is_other s)) 29 0 0 (require (is_type_read s) 30 0 0 (ok (number_in s)))
+
+-- the number; none for what is no type
+abbrev pub type_in : Sort → std.Result (Option ℕ) Fault
+type_in s = pick (is_other s) (std.Err ModuleType) (std.Ok (pick (is_type_read s) (Some (number_in s)) None))
 
 abbrev pub offset_found : (ws : List ℕ) (at j : ℕ) → Option ℕ
 offset_found ws at j = pick (eqb (offset_at ws at j) 0) None (Some (offset_of ws at j))
@@ -45,6 +53,10 @@ StepIs step None = 0 ≡ step
 -- member j
 abbrev pub member_given : (ws : List ℕ) (at j : ℕ) → Member
 member_given ws at j = record { number = member_number ws at j; offset = offset_of ws at j }
+
+-- member j by the number of its type
+abbrev pub with_offset : (ws : List ℕ) (at j number : ℕ) → Option Member
+with_offset ws at j number = pick (eqb (offset_at ws at j) 0) None (Some (record { number = number; offset = offset_of ws at j }))
 
 abbrev pub member_found : (ws : List ℕ) (at j : ℕ) → Option Member
 member_found ws at j = pick (member_sound ws at j) (Some (member_given ws at j)) None

@@ -9,7 +9,7 @@ ghost use Rattle.proc_type_methods.specs.TypeMethods.{try_size, size_of};
 ghost use Rattle.spirv_words.specs.Module.{found};
 ghost use Rattle.spirv_ids.specs.Sorts.{sort_said};
 ghost use Rattle.spirv_members.specs.Members.{member_count_at, offset_at, column_step_in, stored_otherwise, size_in};
-ghost use Rattle.spirv_members.specs.Serving.{faulted, type_named, offset_found, StepIs, member_found, member_made, joined, members_made};
+ghost use Rattle.spirv_members.specs.Serving.{faulted, type_in, type_named, offset_found, with_offset, StepIs, member_found, member_made, joined, members_made};
 ghost use Rattle.spirv_members.specs.Serving.{Bounded, Bounded-prop};
 
 use ir_records::{Fault, Kind, TypeInner};
@@ -37,15 +37,22 @@ pub struct Members {
     pub end: u64,
 }
 
+// The number of a type that is read: number 29 for another type, none for what is no type.
+fn type_in(given: Option<Given>) -> Result<Option<u32>, Fault>
+    ensures { result ≡ type_in (sort_said given) }
+{
+    match given {
+        Some(Given::TypeRead(number)) => Ok(Some(number)),
+        Some(Given::OtherType) => Err(Fault::ModuleType),
+        Some(Given::ConstantAt(_)) | None => Ok(None),
+    }
+}
+
 /// The number of a type that is read: number 29 for another type, 30 for what is none.
 pub fn type_named(given: Option<Given>) -> Result<u32, Fault>
     ensures { faulted result ≡ type_named (sort_said given) }
 {
-    match given.ok_or(Fault::ModuleOrder)? {
-        Given::TypeRead(number) => Ok(number),
-        Given::OtherType => Err(Fault::ModuleType),
-        Given::ConstantAt(_) => Err(Fault::ModuleOrder),
-    }
+    type_in(given)?.ok_or(Fault::ModuleOrder)
 }
 
 pub fn member_count(words: &[u32], at: usize) -> u32
@@ -55,7 +62,8 @@ pub fn member_count(words: &[u32], at: usize) -> u32
 }
 
 // The one Offset of member j; none where it has several.
-// Kept: words, at and j stay three parameters here and in the next ones, since a Place asks for facts that these do without.
+// Kept: `words` and `at` here and in `offset_of`, and no Place: `offset_of` is public and asks nothing of its caller; what a Place says of the words
+// before it would be asked.
 #[tactic(auto, unfolding(crate::specs::Members::offset_at))]
 fn offset_at(words: &[u32], at: usize, j: u32) -> Option<usize>
     ensures { result ≡ found (offset_at words.now at j) }
@@ -73,6 +81,8 @@ pub fn offset_of(words: &[u32], at: usize, j: u32) -> Option<u32>
 }
 
 // The column step of the matrix that a type is, or is an array of.
+// Kept: the loop counts turns only to be bounded, since no fact of `Tables` says that the base of an array stands before it; and a record's words are
+// read by their places, as `column_step_in` says them: a TypeInner would be made of all six at each turn, and its law would go over every kind.
 fn column_step(tables: Tables, t: u32) -> Option<u32>
     ensures { StepIs (column_step_in tables.entry.types.now (suc t) t) result }
 {
@@ -93,13 +103,19 @@ fn column_step(tables: Tables, t: u32) -> Option<u32>
 }
 
 // The matrix of member j is stored otherwise than in columns a step apart; where the step is 0, nothing is asked of it.
-fn stored_otherwise(words: &[u32], at: usize, j: u32, step: u32) -> bool
-    ensures { result ≡ stored_otherwise words.now at j step }
+fn stored_otherwise(place: Place, j: u32, step: u32) -> bool
+    ensures { result ≡ stored_otherwise place.entry.input.words.now place.entry.at j step }
 {
-    let id = spirv_words::word_of(words, at, 1);
+    let words = place.input.words;
+    let id = spirv_words::word_of(words, place.at, 1);
     let otherwise = |p| spirv_words::is_otherwise(words, id, j, step, p);
     0 < step
-        && spirv_words::first_between(words, spirv_words::HEADER_WORDS, at, otherwise).is_some()
+        && spirv_words::first_between(
+            words,
+            spirv_words::HEADER_WORDS,
+            place.at,
+            otherwise,
+        ).is_some()
 }
 
 // The same of member j by its type t, which may be no matrix.
@@ -110,7 +126,15 @@ fn is_otherwise(place: Place, tables: Tables, j: u32, t: u32) -> bool
     let Some(step) = column_step(tables, t) else {
         return false;
     };
-    stored_otherwise(place.input.words, place.at, j, step)
+    stored_otherwise(place, j, step)
+}
+
+// Member j by the number of its type; none where it has not one Offset.
+fn with_offset(place: Place, j: u32, number: u32) -> Option<Member>
+    ensures { result ≡ with_offset place.entry.input.words.now place.entry.at j number }
+{
+    let offset = offset_of(place.input.words, place.at, j)?;
+    Some(Member { number, offset })
 }
 
 // Member j: number 29 where it is unsupported; none, which is number 30, where it has no type that is read or not one Offset.
@@ -118,28 +142,24 @@ fn is_otherwise(place: Place, tables: Tables, j: u32, t: u32) -> bool
 fn member_at(place: Place, tables: Tables, j: u32) -> Result<Option<Member>, Fault>
     ensures { result ≡ member_made place.entry.input.words.now tables.entry.types.now place.entry.at j }
 {
-    let number = match spirv_ids::named(place, 2 + (j as usize)) {
-        Some(Given::TypeRead(number)) => number,
-        Some(Given::OtherType) => return Err(Fault::ModuleType),
-        Some(Given::ConstantAt(_)) | None => return Ok(None),
+    let Some(number) = type_in(spirv_ids::named(place, 2 + (j as usize)))? else {
+        return Ok(None);
     };
     if is_otherwise(place, tables, j, number) {
         return Err(Fault::ModuleType);
     }
-    let Some(offset) = offset_of(place.input.words, place.at, j) else {
-        return Ok(None);
-    };
-    Ok(Some(Member { number, offset }))
+    Ok(with_offset(place, j, number))
 }
 
 /// Member j, where it has a type that is read and one Offset.
+// Kept beside `member_at`, which tests the matrix too and tells 29 from 30: one function for both would be handed that test, and the caller that writes
+// rows has no use for the tables and the number.
 #[tactic(auto, unfolding(crate::specs::Members::member_number, crate::specs::Members::member_sound))]
 pub fn member_of(place: Place, j: u32) -> Option<Member>
     ensures { result ≡ member_found place.entry.input.words.now place.entry.at j }
 {
     let number = type_named(spirv_ids::named(place, 2 + (j as usize))).ok()?;
-    let offset = offset_of(place.input.words, place.at, j)?;
-    Some(Member { number, offset })
+    with_offset(place, j, number)
 }
 
 // One member more; none where it is none, or one before it was.
@@ -171,7 +191,7 @@ pub fn members_of(place: Place, tables: Tables, n: u32) -> Result<Members, Fault
 }
 
 // Of a type that is no array.
-// Kept: that its fields are within bounds is said of the one type at the call, since a TypeInner does not carry it.
+// Kept: both facts are asked of the one type at each of the two calls in `size_in`; a struct of a TypeInner with them would be made for these two alone.
 fn plain_size(inner: TypeInner) -> u64
     requires inner_bounds { InnerBounds inner }
     requires inner_value { try_size inner ≡ ok (size_of inner) }

@@ -1,7 +1,7 @@
 -- A MatrixStride, where given, is the column step of the matrix by the module's words; none is RowMajor.
 -- Assumes nothing.
 use mathlib.Core.Path.{◌≡◌, refl, sym, ap, ◌∙◌}
-use mathlib.Core.Bool.{Bool, true, false, not, ◌&&◌, ◌||◌}
+use mathlib.Core.Bool.{Bool, true, false, ◌&&◌}
 use mathlib.Core.Logic.{inl, inr, ◌≢◌}
 use mathlib.Core.List.{List, [], ◌∷◌}
 use Prim.Native.Nat.{ℕ, zero, suc, ◌+◌, ◌-◌, ◌*◌, ◌≤◌, ◌<◌}
@@ -11,6 +11,7 @@ use native.Mathlib.Decide.{ℕ_discrete}
 use lib.Dec.{eqb, ltb}
 use lib.ListN.{length}
 use borrow.Author.Tests.{eqb-true, eqb-false, eq-eqb, lt-ltb}
+use Rattle.std.proofs.lemmas.Bool.{and_parts, not-false, or_parts, true≢false}
 use Rattle.ir_records.specs.Result.{pick}
 use Rattle.ir_records.specs.Record.{type_word, member_count, scalar_kind, vector_kind, matrix_kind, array_kind, struct_kind}
 use Rattle.proc_alignment.specs.Alignment.{power_of_two}
@@ -20,7 +21,7 @@ use Rattle.spirv_words.specs.Decorations.{row_major, matrix_stride, is_members_o
 use Rattle.spirv_ids.specs.Ids.{type_number}
 use Rattle.spirv_members.specs.Members.{is_other, is_type_read, number_of, member_sort, member_number, member_count_at, column_step_in, stored_otherwise, member_unsupported, members_unsupported, member_sound, members_sound}
 use Rattle.spirv_members.proofs.MemberLaws.{step_matrix, step_array}
-use Rattle.spirv_members.proofs.NumberLaws.{and_true, read_below}
+use Rattle.spirv_members.proofs.NumberLaws.{read_below}
 use Rattle.spirv_types.specs.Types.{State, base_sort, base_word, stride_of, length_of, length_sort}
 use Rattle.spirv_records.specs.TypesRead.{Among, TypeReadAt, scalar_width}
 use Rattle.spirv_records.proofs.MadeLaws.{MadeAs, as_scalar, as_vector, as_matrix, as_array, as_runtime_array, as_struct}
@@ -31,28 +32,17 @@ use Rattle.spirv_place.specs.ModulePlace.{named, matrix_rows, matrix_width, Elem
 use Rattle.spirv_place.proofs.StepLaws.{named_read, named_number, made, base-word, matrix_words}
 
 -- ---- tests
-true_false : true ≡ false → ⊥
-true_false e = let z : ◌≡◌ {A = ℕ} 0 1 = cc in absurd (omega arith)
-
-or_false : (a b : Bool) → (a || b) ≡ false → (a ≡ false) × (b ≡ false)
-or_false true b e = (e, cc)
-or_false false b e = (refl, e)
-
 -- a conjunction that fails, its first part holding
 second_false : (a b : Bool) → a ≡ true → (a && b) ≡ false → b ≡ false
 second_false true b h e = e
-second_false false b h e = absurd (true_false (sym h))
-
-not_false : (a : Bool) → not a ≡ false → a ≡ true
-not_false true e = refl
-not_false false e = sym e
+second_false false b h e = absurd (true≢false (sym h))
 
 no_positive : (n : ℕ) → ltb 0 n ≡ false → n ≡ 0
 no_positive zero e = refl
-no_positive (suc n) e = absurd (true_false (sym (lt-ltb 0 (suc n) (omega arith)) ∙ e))
+no_positive (suc n) e = absurd (true≢false (sym (lt-ltb 0 (suc n) (omega arith)) ∙ e))
 
 power_positive : (w : ℕ) → power_of_two w ≡ true → 0 < w
-power_positive zero e = absurd (true_false (sym e))
+power_positive zero e = absurd (true≢false (sym e))
 power_positive (suc w) e = omega arith
 
 step_positive : (rows width : ℕ) → 0 < width → 0 < column_step rows width
@@ -218,7 +208,7 @@ module _ (t m : ℕ) (ws : List ℕ) (s : State) (held : Held t m ws (length ws)
     supported_at j (suc k) e h = by (ℕ_discrete j k) (supported_at j k)
       where
         both : (members_unsupported ws ts p k ≡ false) × (member_unsupported ws ts p k ≡ false)
-        both = or_false (members_unsupported ws ts p k) _ e
+        both = or_parts (members_unsupported ws ts p k) _ e
 
         by : Dec (j ≡ k) → (members_unsupported ws ts p k ≡ false → j < k → member_unsupported ws ts p j ≡ false) → member_unsupported ws ts p j ≡ false
         by (yes q) rest = rw q both.1
@@ -229,7 +219,7 @@ module _ (t m : ℕ) (ws : List ℕ) (s : State) (held : Held t m ws (length ws)
 
     stored : (j : ℕ) → member_unsupported ws ts p j ≡ false → is_type_read (member_sort ws p j) ≡ true → stored_otherwise ws p j (step_of_member j) ≡ false
     unfolding member_unsupported
-    stored j e b = second_false (is_type_read (member_sort ws p j)) _ b (or_false (is_other (member_sort ws p j)) _ e).1
+    stored j e b = second_false (is_type_read (member_sort ws p j)) _ b (or_parts (is_other (member_sort ws p j)) _ e).1
 
     found_none : (j step : ℕ) → 0 < step → stored_otherwise ws p j step ≡ false → first (is_otherwise ws (word ws p 1) j step) (before ws p) ≡ 0
     unfolding stored_otherwise
@@ -241,14 +231,14 @@ module _ (t m : ℕ) (ws : List ℕ) (s : State) (held : Held t m ws (length ws)
     decoration j step q e of member =
         let named-so : (is_members_of ws (word ws p 1) q && eqb (word ws q 2) j) ≡ true = rw (of, eq-eqb (word ws q 2) j member) refl in
         let rest = second_false (is_members_of ws (word ws p 1) q && eqb (word ws q 2) j) _ named-so e in
-        let parts = or_false (eqb (word ws q 3) row_major) _ rest in (
+        let parts = or_parts (eqb (word ws q 3) row_major) _ rest in (
           eqb-false (word ws q 3) row_major parts.0,
-          λ z. eqb-true (word ws q 4) step (not_false (eqb (word ws q 4) step) (second_false (eqb (word ws q 3) matrix_stride) _ (eq-eqb (word ws q 3) matrix_stride z) parts.1)),
+          λ z. eqb-true (word ws q 4) step (not-false (eqb (word ws q 4) step) (second_false (eqb (word ws q 3) matrix_stride) _ (eq-eqb (word ws q 3) matrix_stride z) parts.1)),
         )
 
     member_is_read : (j : ℕ) → members_sound ws p (member_count_at ws p) ≡ true → j < member_count_at ws p → is_type_read (member_sort ws p j) ≡ true
     unfolding member_sound
-    member_is_read j sound h = (and_true (is_type_read (member_sort ws p j)) _ (sound_at ws s p r (member_count_at ws p) sound j (member_count_at ws p) sound h)).0
+    member_is_read j sound h = (and_parts (is_type_read (member_sort ws p j)) _ (sound_at ws s p r (member_count_at ws p) sound j (member_count_at ws p) sound h)).0
 
     own_columns : (j : ℕ) → j < member_count_at ws p → members_sound ws p (member_count_at ws p) ≡ true → members_unsupported ws ts p (member_count_at ws p) ≡ false
         → (x : ℕ) → ElementOf ws (named ws p (2 + j)) x → opcode ws x ≡ type_matrix

@@ -10,6 +10,7 @@ use native.Mathlib.Decide.{dec_le}
 use lib.Dec.{ltb}
 use lib.ListN.{length, get_or}
 use borrow.Author.Tests.{lt-ltb, le-ltb, le-leb, lt-leb, ne_eqb}
+use Rattle.std.proofs.lemmas.Bool.{and_parts}
 use Rattle.ir_records.specs.Result.{pick}
 use Rattle.ir_records.specs.Record.{Decoded, decoded, type_word, type_inner, inner_of, struct_members, member_count, member_words, member_type, member_offset, scalar_kind, vector_kind, matrix_kind, array_kind, struct_kind}
 use Rattle.proc_type_methods.specs.TypeMethods.{column_step}
@@ -20,7 +21,7 @@ use Rattle.place_descent.specs.Place.{step_in, leaf_in}
 use Rattle.spirv_words.specs.Module.{opcode, word, type_bool, type_vector, type_matrix, type_array, type_runtime_array, type_struct, before, between, first}
 use Rattle.spirv_ids.specs.Ids.{gives, giver, sort, type_number}
 use Rattle.spirv_members.specs.Members.{is_type_read, number_of, member_number, member_sort, member_count_at, offset_of, member_rows, member_sound, members_sound}
-use Rattle.spirv_members.proofs.NumberLaws.{and_true, type-read, read_below}
+use Rattle.spirv_members.proofs.NumberLaws.{type-read, read_below}
 use Rattle.spirv_members.proofs.AlignmentLaws.{row-word}
 use Rattle.spirv_types.specs.Types.{State, base_sort, base_word, stride_of, length_of, length_sort}
 use Rattle.spirv_records.specs.TypesRead.{Among, TypeReadAt, scalar_width}
@@ -212,7 +213,7 @@ module _ (t m : ℕ) (ws : List ℕ) (s : State) (held : Held t m ws (length ws)
     -- member x, and past the members
     member_read : members_sound ws p (member_count_at ws p) ≡ true → x < member_count_at ws p → is_type_read (sort ws p (word ws p (2 + x))) ≡ true
     unfolding member_sound
-    member_read sound h = (and_true (is_type_read (member_sort ws p x)) _ (sound_at ws s p q (member_count_at ws p) sound x (member_count_at ws p) sound h)).0
+    member_read sound h = (and_parts (is_type_read (member_sort ws p x)) _ (sound_at ws s p q (member_count_at ws p) sound x (member_count_at ws p) sound h)).0
 
     struct_step : (first span : ℕ) → opcode ws p ≡ type_struct → members_sound ws p (member_count_at ws p) ≡ true
         → type_inner s.types (type_number ws p) ≡ inner_of struct_kind first (member_count_at ws p) span 0 0

@@ -8,6 +8,7 @@ use native.Mathlib.Omega.{arith}
 use lib.Dec.{eqb, leb}
 use lib.ListN.{length}
 use borrow.Author.Tests.{lt-ltb, leb-true, ne_eqb}
+use Rattle.std.proofs.lemmas.Bool.{and_parts}
 use Rattle.ir_records.specs.Result.{pick}
 use Rattle.ir_records.specs.Record.{Decoded, decoded, type_count, type_inner, inner_of, member_count, scalar_kind, vector_kind, matrix_kind, array_kind, struct_kind}
 use Rattle.ir_records.specs.Outcome.{Accepted}
@@ -37,7 +38,6 @@ use Rattle.spirv_records.proofs.HeldLaws.{Held, Recorded}
 use Rattle.spirv_records.proofs.RecordedLaws.{own_within, inner_is}
 use Rattle.spirv_place.specs.ModulePlace.{named, matrix_rows, matrix_width, module_step, module_leaf, module_place, module_bytes, numbered, onward, FirstSteps}
 use Rattle.spirv_place.proofs.StepLaws.{step_numbered, StepReads, made, base_width, matrix_words, step_agrees, leaf_agrees}
-use Rattle.spirv_members.proofs.NumberLaws.{and_true}
 
 at_parts : (a b c d : ℕ) → At a b ≡ At c d → (a ≡ c) × (b ≡ d)
 at_parts a b c d e = (cc, cc)
@@ -92,7 +92,7 @@ module _ (t m : ℕ) (ws : List ℕ) (s : State) (held : Held t m ws (length ws)
 
   leaf_here : (p byte b leaf : ℕ) → TypeReadAt ws p → (test : Bool) → module_leaf ws p ≡ test → pick test (At byte p) NoPlace ≡ At b leaf → ReachedLeaf leaf
   leaf_here p byte b leaf at true l e =
-      let h = leb-true (opcode ws p) type_vector (and_true (leb type_bool (opcode ws p)) _ l).1 in
+      let h = leb-true (opcode ws p) type_vector (and_parts (leb type_bool (opcode ws p)) _ l).1 in
       subst (λ (x : ℕ). ReachedLeaf x) (at_parts byte p b leaf e).1 (record { at = at; plain = omega (arith, h) })
   leaf_here p byte b leaf at false l e = absurd (no_at b leaf e)
 

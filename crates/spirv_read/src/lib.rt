@@ -3,14 +3,16 @@
 
 ghost use Rattle.std.specs.Prelude.{◌≡◌, true, [], ◌∷◌, ◌+◌, ◌*◌, ◌≤◌, ◌<◌, min, length, replicate};
 ghost use Rattle.ir_rows.specs.Rows.{with_part};
+ghost use Rattle.ir_records.specs.declared.Fault.TheVariants as fault;
 ghost use Rattle.spirv_words.specs.Module.{header_ok, header_words};
+ghost use Rattle.spirv_members.specs.Serving.{FaultTold};
 ghost use Rattle.spirv_members.specs.Members.{member_number, offset_of, member_sound, members_sound, member_rows};
 ghost use Rattle.spirv_instruction.specs.Instruction.{listed};
 ghost use Rattle.spirv_read.specs.Section.{section_answer_of};
 ghost use Rattle.spirv_read.specs.Read.{read_from, none, read_into, section_of, types_after, members_after};
 ghost use Rattle.spirv_read.specs.Serving.{Room, Held, StepIs, FilledTypes, FilledMembers};
 
-use ir_records::{Fault, MOST_MEMBERS, MOST_TYPES, Records};
+use ir_records::{Fault, MOST_TYPES, Records};
 use spirv_ids::{Module, Place};
 use spirv_instruction::Made;
 use spirv_members::Tables;
@@ -48,7 +50,8 @@ fn put_members(place: Place, members: &mut [u32], m: u32, n: u32)
     }
 }
 
-// Kept: the three lent tables stay three parameters, since a struct of them would be lent anew at each call and each clause speaks of one table.
+// Kept: the three lent tables stay three parameters: a struct of them would hold three `&mut`, be lent by one more at each call, and every clause would
+// name the same tables through it.
 // The records of a type: its own, those of its members, and its alignment. So many are held before it.
 fn put_all(
     place: Place,
@@ -132,14 +135,19 @@ fn read_from(
     Ok(held)
 }
 
-fn header_ok(words: &[u32]) -> bool
-    ensures { result ≡ header_ok words.now }
+// Number 28 where the words are no module's: too few for a header, or another first word.
+fn check_header(words: &[u32]) -> Result<(), Fault>
+    ensures { FaultTold result fault.ModuleHeader (header_ok words.now) }
 {
     let magic = ir_records::word_at(words, 0);
-    (spirv_words::HEADER_WORDS <= words.len()) & (magic == MAGIC)
+    if (spirv_words::HEADER_WORDS <= words.len()) & (magic == MAGIC) {
+        return Ok(());
+    }
+    Err(Fault::ModuleHeader)
 }
 
 // Zeroes both tables.
+// Kept: `wgsl_read::read_at` has these two calls too; a function of both for two lines would be cited by the proofs of both readers.
 fn clear_both(types: &mut [u32], members: &mut [u32])
     ensures { (types.new ≡ replicate (length types.old) 0) × (members.new ≡ replicate (length members.old) 0) }
 {
@@ -148,20 +156,17 @@ fn clear_both(types: &mut [u32], members: &mut [u32])
 }
 
 // The type section of a module. Nothing is asked of the caller.
-// Kept: the caller lends both tables beside the words, and each clause speaks of one of them.
+// Kept: words and two lent tables, as the exported call has them; a struct of the tables would be made by each caller for this one call.
 #[tactic(auto, unfolding(crate::specs::Read::read_into, crate::specs::Read::read_module))]
 pub fn read_words(words: &[u32], types: &mut [u32], members: &mut [u32]) -> Result<Records, Fault>
     ensures { (section_answer_of result ≡ section_of (read_into words.now types.old members.old)) × (types.new ≡ types_after (read_into words.now types.old members.old) types.old) × (members.new ≡ members_after (read_into words.now types.old members.old) members.old) }
 {
-    if !header_ok(words) {
+    if let Err(fault) = check_header(words) {
         clear_both(types, members);
-        return Err(Fault::ModuleHeader);
+        return Err(fault);
     }
     let mut alignments = [0u32; MOST_TYPES];
-    let space = Records {
-        types: MOST_TYPES.min(types.len() / ir_records::TYPE_WORDS) as u32,
-        members: MOST_MEMBERS.min(members.len() / ir_records::MEMBER_WORDS) as u32,
-    };
+    let space = wgsl_tables::room_in(types, members);
     let section = read_from(Module::new(words), types, members, &mut alignments, space);
     if section.is_err() {
         clear_both(types, members);

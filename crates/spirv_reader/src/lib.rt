@@ -16,6 +16,7 @@ pub struct Reader<'a> {
 }
 
 // The work: the word at a position of a slice; none at the end.
+// Kept beside `Reader::next`, as `read_from` beside `Reader::read`: each pair is a promise to callers, with plain words or with a reader that carries them.
 pub fn head_at(words: &[u32], at: usize) -> Option<u32>
     ensures { result ≡ head_at words.now at }
 {
@@ -23,7 +24,8 @@ pub fn head_at(words: &[u32], at: usize) -> Option<u32>
 }
 
 // The module that begins at a position of a slice; past its end there is none.
-// Kept: the caller lends both tables beside the words, and each clause speaks of one of them.
+// Kept: words, position and two lent tables: a struct of the tables would be made by each caller for this one call, and every clause would name the same
+// tables through it.
 pub fn read_from(
     words: &[u32],
     at: usize,
@@ -37,7 +39,6 @@ pub fn read_from(
 
 impl<'a> Reader<'a> {
     // At the first word.
-    // Kept: `handle_layout` of proc_type_layout is alike in form alone.
     pub fn new(words: &'a [u32]) -> Self
         ensures { (result.words ≡ words.entry) × (result.at ≡ 0) }
     {
@@ -66,7 +67,8 @@ impl<'a> Reader<'a> {
 }
 
 // A module's words, with plain parameters. Nothing is asked of the caller.
-// Kept: they are those of the exported call.
+// Kept: they are those of the exported call; beside `spirv_read::read_words`, of the same contract, since both are a promise to callers: this is the
+// reader's own name for a module that begins at the first word.
 pub fn read_module(words: &[u32], types: &mut [u32], members: &mut [u32]) -> Result<Records, Fault>
     ensures { (section_answer_of result ≡ section_of (read_into words.now types.old members.old)) × (types.new ≡ types_after (read_into words.now types.old members.old) types.old) × (members.new ≡ members_after (read_into words.now types.old members.old) members.old) }
 {

@@ -10,6 +10,7 @@ use native.Mathlib.Decide.{dec_le}
 use lib.Dec.{eqb, leb, ltb}
 use lib.ListN.{length, length-append}
 use borrow.Author.Tests.{leb-true, ltb-true, lt-ltb, le-ltb}
+use Rattle.std.proofs.lemmas.Bool.{and_parts}
 use Rattle.ir_records.specs.Result.{ok, pick, require}
 use Rattle.ir_records.specs.Record.{type_words, member_words, type_count, member_count}
 use Rattle.ir_records.proofs.ResultLaws.{required, T_true, and_then_ok, ok_inj}
@@ -19,7 +20,6 @@ use Rattle.spirv_ids.specs.Ids.{giver, is_constant, type_number}
 use Rattle.spirv_ids.specs.Places.{Stands}
 use Rattle.spirv_ids.proofs.PlaceLaws.{stands_first, stands_next, number_next}
 use Rattle.spirv_members.specs.Members.{member_rows}
-use Rattle.spirv_members.proofs.NumberLaws.{and_true}
 use Rattle.spirv_members.proofs.AlignmentLaws.{rows_length}
 use Rattle.spirv_types.specs.declared.Typed.{Typed}
 use Rattle.spirv_types.specs.Types.{State, type_at}
@@ -127,9 +127,9 @@ module _ (t m : ℕ) (ws : List ℕ) where
     next_within : at + word_count ws at ≤ length ws
     unfolding words_ok
     next_within =
-        let p = and_true (leb 1 (word_count ws at) && leb (at + word_count ws at) (length ws) && leb (told_by (opcode ws at)) (word_count ws at)) _ fit in
-        let q = and_true (leb 1 (word_count ws at) && leb (at + word_count ws at) (length ws)) _ p.0 in
-        leb-true (at + word_count ws at) (length ws) (and_true (leb 1 (word_count ws at)) _ q.0).1
+        let p = and_parts (leb 1 (word_count ws at) && leb (at + word_count ws at) (length ws) && leb (told_by (opcode ws at)) (word_count ws at)) _ fit in
+        let q = and_parts (leb 1 (word_count ws at) && leb (at + word_count ws at) (length ws)) _ p.0 in
+        leb-true (at + word_count ws at) (length ws) (and_parts (leb 1 (word_count ws at)) _ q.0).1
 
     -- the types before the next instruction are those before this one, and this one if it is read
     earlier : (p : ℕ) → ReadBefore ws (at + word_count ws at) p → ReadBefore ws at p ⊎ (p ≡ at)
@@ -194,7 +194,7 @@ module _ (t m : ℕ) (ws : List ℕ) where
 
       held_made : Held t m ws (at + word_count ws at) (with_type s y rows)
       held_made =
-          let r = and_true (ltb (type_count s.types) t) _ room in
+          let r = and_parts (ltb (type_count s.types) t) _ room in
           let less = ltb-true (type_count s.types) t r.0 in
           let less-rows = leb-true (member_count s.members + row_count ws at) m r.1 in
           record {
@@ -273,5 +273,5 @@ module _ (t m : ℕ) (ws : List ℕ) where
   unfolding read_module
   read_held s e =
       let q = required (header_ok ws) 28 0 0 (read_from t m ws (length ws) header_words none) s e in
-      let long = leb-true 5 (length ws) (and_true (leb 5 (length ws)) _ (T_true (header_ok ws) q.0)).0 in
+      let long = leb-true 5 (length ws) (and_parts (leb 5 (length ws)) _ (T_true (header_ok ws) q.0)).0 in
       held_from (length ws) header_words none s (held_none long) (omega arith) q.1

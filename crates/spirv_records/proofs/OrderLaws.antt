@@ -10,8 +10,9 @@ use native.Mathlib.Decide.{ℕ_discrete}
 use lib.Dec.{eqb}
 use lib.ListN.{length, get_or}
 use borrow.Author.Tests.{eqb-true, le-leb, lt-ltb}
+use Rattle.std.proofs.lemmas.Bool.{and_parts}
 use Rattle.ir_records.specs.Result.{ok}
-use Rattle.ir_records.specs.Record.{type_word, type_inner, inner_of, member_count, member_words, member_type, struct_members, scalar_kind, vector_kind, matrix_kind, array_kind, struct_kind}
+use Rattle.ir_records.specs.Record.{type_word, type_inner, inner_of, member_count, member_words, member_type, struct_members, scalar_kind, vector_kind, matrix_kind, array_kind, struct_kind, record_of}
 use Rattle.ir_records.specs.Fields.{fields_ok, base_within, sources_located, record_at}
 use Rattle.ir_records.proofs.RecordLaws.{sourceless_located, no_rows_located}
 use Rattle.proc_alignment.specs.Alignment.{power_of_two, vector_alignment}
@@ -20,9 +21,9 @@ use Rattle.proc_type_alignment.specs.TypeAlignment.{members_alignment, alignment
 use Rattle.spirv_words.specs.Module.{word, opcode, type_struct}
 use Rattle.spirv_ids.specs.Ids.{type_number}
 use Rattle.spirv_members.specs.Members.{is_type_read, number_of, member_number, member_count_at, member_rows, member_sound, members_sound}
-use Rattle.spirv_members.proofs.NumberLaws.{and_true, read_below}
+use Rattle.spirv_members.proofs.NumberLaws.{read_below}
 use Rattle.spirv_members.proofs.AlignmentLaws.{rows_length, row-word, sound_below}
-use Rattle.spirv_types.specs.Types.{State, words_of, base_sort, base_word, length_of, length_sort, stride_of}
+use Rattle.spirv_types.specs.Types.{State, base_sort, base_word, length_of, length_sort, stride_of}
 use Rattle.spirv_records.specs.TypesRead.{scalar_width}
 use Rattle.spirv_records.proofs.MadeLaws.{MadeAs, as_scalar, as_vector, as_matrix, as_array, as_runtime_array, as_struct, made_as}
 use Rattle.spirv_records.proofs.HeldLaws.{Recorded}
@@ -101,7 +102,7 @@ module _ (ws : List ℕ) (s : State) (p : ℕ) (r : Recorded ws s p) where
       by (as_struct span o m u is) = other_kind struct_kind (word_is ws s p r struct_kind (member_count r.was.members) (member_count_at ws p) span 0 is 0) (λ z. omega (arith, z)) (λ z. omega (arith, z))
 
   -- ---- the fields, and the alignment
-  module _ (kind a b c d : ℕ) (is : r.made.words ≡ words_of kind a b c d) (plain : kind ≡ struct_kind → ⊥) where
+  module _ (kind a b c d : ℕ) (is : r.made.words ≡ record_of kind a b c d) (plain : kind ≡ struct_kind → ⊥) where
     none : struct_members s.types s.members n ≡ []
     none = no_rows ws s p r (λ e. plain (sym (word_is ws s p r kind a b c d is 0) ∙ e))
 
@@ -124,7 +125,7 @@ module _ (ws : List ℕ) (s : State) (p : ℕ) (r : Recorded ws s p) where
     sound_at j (suc k) e h = by (ℕ_discrete j k) (sound_at j k)
       where
         both : (members_sound ws p k ≡ true) × (member_sound ws p k ≡ true)
-        both = and_true (members_sound ws p k) _ e
+        both = and_parts (members_sound ws p k) _ e
 
         by : Dec (j ≡ k) → (members_sound ws p k ≡ true → j < k → member_sound ws p j ≡ true) → member_sound ws p j ≡ true
         by (yes q) rest = rw q both.1
@@ -154,7 +155,7 @@ module _ (ws : List ℕ) (s : State) (p : ℕ) (r : Recorded ws s p) where
   struct_fields m first count span h = rw (le-leb (first + count) m h) refl
 
   ordered_struct : (span : ℕ) → opcode ws p ≡ type_struct → members_sound ws p (member_count_at ws p) ≡ true
-      → r.made.words ≡ words_of struct_kind (member_count r.was.members) (member_count_at ws p) span 0 → Ordered s.types s.members n
+      → r.made.words ≡ record_of struct_kind (member_count r.was.members) (member_count_at ws p) span 0 → Ordered s.types s.members n
   unfolding record_at alignment_of inner_of
   ordered_struct span o sound is =
       let w = word_is ws s p r struct_kind (member_count r.was.members) (member_count_at ws p) span 0 is in

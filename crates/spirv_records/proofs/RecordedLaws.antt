@@ -7,13 +7,13 @@ use native.Mathlib.Omega.{arith}
 use lib.ListN.{length, get_or, take, drop, length-append, get_or-append}
 use lib.Seq.{get_or-append-add, take_at, drop_at}
 use Rattle.ir_records.specs.declared.Words.{Words}
-use Rattle.ir_records.specs.Record.{type_words, member_words, type_count, member_count, type_word, type_inner, inner_in, struct_members, struct_kind}
+use Rattle.ir_records.specs.Record.{type_words, member_words, type_count, member_count, type_word, type_inner, inner_in, struct_members, struct_kind, record_of}
 use Rattle.ir_records.proofs.RecordLaws.{members_no_struct, members-part}
 use Rattle.spirv_words.specs.Module.{opcode, type_struct}
 use Rattle.spirv_ids.specs.Ids.{type_number}
 use Rattle.spirv_members.specs.Members.{member_count_at, member_rows}
 use Rattle.spirv_members.proofs.AlignmentLaws.{rows_length}
-use Rattle.spirv_types.specs.Types.{State, words_of}
+use Rattle.spirv_types.specs.Types.{State}
 use Rattle.spirv_instruction.specs.Instruction.{row_count, listed}
 use Rattle.spirv_records.proofs.HeldLaws.{Recorded}
 
@@ -48,9 +48,9 @@ module _ (ws : List ℕ) (s : State) (p : ℕ) (r : Recorded ws s p) where
   own_within = omega (arith, types_long)
 
   -- its words, where they are known
-  module _ (kind a b c d : ℕ) (is : r.made.words ≡ words_of kind a b c d) where
+  module _ (kind a b c d : ℕ) (is : r.made.words ≡ record_of kind a b c d) where
     abbrev words : Words
-    words = words_of kind a b c d
+    words = record_of kind a b c d
 
     pub word_is : (k : ℕ) → type_word s.types n k ≡ get_or (listed words ++ r.later_types) k 0
     word_is k = own_word k ∙ ap (λ (w : Words). get_or (listed w ++ r.later_types) k 0) is
@@ -63,7 +63,7 @@ module _ (ws : List ℕ) (s : State) (p : ℕ) (r : Recorded ws s p) where
   no_rows k = members_no_struct s.types s.members n own_within k
 
   module _ (op : opcode ws p ≡ type_struct) (span : ℕ)
-      (is : r.made.words ≡ words_of struct_kind (member_count r.was.members) (member_count_at ws p) span 0) where
+      (is : r.made.words ≡ record_of struct_kind (member_count r.was.members) (member_count_at ws p) span 0) where
     abbrev first : ℕ
     first = member_count r.was.members
 

@@ -8,10 +8,11 @@ use native.Mathlib.Omega.{arith}
 use lib.Dec.{eqb, leb, ltb}
 use lib.ListN.{length}
 use borrow.Author.Tests.{eqb-true, eqb-false, lt-ltb}
+use Rattle.std.proofs.lemmas.Bool.{true≢false}
 use Rattle.std.specs.Prelude.{Some, None}
 use Rattle.ir_records.specs.Result.{Result, err, ok, pick, require, and_then}
 use Rattle.ir_records.proofs.ResultLaws.{ok_inj}
-use Rattle.ir_records.specs.Record.{member_count, type_word, inner_of, scalar_kind, vector_kind}
+use Rattle.ir_records.specs.Record.{member_count, type_word, inner_of, scalar_kind, vector_kind, record_of}
 use Rattle.ir_records.specs.Serving.{record_words}
 use Rattle.proc_alignment.specs.Alignment.{vector_alignment, round_up, most}
 use Rattle.proc_type_alignment.specs.TypeAlignment.{alignment_of}
@@ -25,11 +26,8 @@ use Rattle.spirv_members.proofs.MemberLaws.{scalar-width, vector_bounds}
 use Rattle.spirv_members.proofs.AlignmentLaws.{largest_is, largest_positive}
 use Rattle.spirv_types.specs.declared.Typed.{Typed}
 use Rattle.spirv_types.specs.declared.Parts.{Parts}
-use Rattle.spirv_types.specs.Types.{State, judged, words_of, width_ok, sign_kind, parts_ok, base_sort, stride_at, stride_of, length_of, length_sort, bool_type, int_type, float_type, vector_type, matrix_type, array_type, runtime_array_type, struct_type, type_by}
+use Rattle.spirv_types.specs.Types.{State, judged, width_ok, sign_kind, parts_ok, base_sort, stride_at, stride_of, length_of, length_sort, bool_type, int_type, float_type, vector_type, matrix_type, array_type, runtime_array_type, struct_type, type_by}
 use Rattle.spirv_types.specs.Serving.{leaf, int_made, float_made, parts_made, vector_made, matrix_made, array_typed, counted_made, array_made, runtime_array_made, struct_made, type_made}
-
-true_false : true ≡ false → ⊥
-true_false e = let z : ◌≡◌ {A = ℕ} 0 1 = cc in absurd (omega arith)
 
 pub width_within : (bits : ℕ) (b : Bool) → (not (width_ok bits) || b) ≡ false → bits / 8 ≤ 255
 width_within bits b e = go (eqb bits 8) (eqb bits 16) (eqb bits 32) (eqb bits 64) refl refl refl refl
@@ -39,7 +37,7 @@ width_within bits b e = go (eqb bits 8) (eqb bits 16) (eqb bits 32) (eqb bits 64
     go false true r s a₁ a₂ a₃ a₄ = omega (arith, eqb-true bits 16 a₂)
     go false false true s a₁ a₂ a₃ a₄ = omega (arith, eqb-true bits 32 a₃)
     go false false false true a₁ a₂ a₃ a₄ = omega (arith, eqb-true bits 64 a₄)
-    go false false false false a₁ a₂ a₃ a₄ = absurd (true_false (rw (a₁, a₂, a₃, a₄) at e))
+    go false false false false a₁ a₂ a₃ a₄ = absurd (true≢false (rw (a₁, a₂, a₃, a₄) at e))
 
 -- ---- the parts of a vector or a matrix
 zero_one : ◌≡◌ {A = ℕ} 0 1 → ⊥
@@ -78,7 +76,7 @@ module _ (ws ts : List ℕ) (at : ℕ) (b : Bounded ts) (p : Parts) where
 
 -- ---- the integer type of a constant
 pub integer_missing : (ws : List ℕ) (at : ℕ) → is_constant ws at ≡ true → None ≡ integer_found ws at → ⊥
-integer_missing ws at h e = true_false (sym h ∙ sym (constant_found ws at) ∙ rw (sym e) refl)
+integer_missing ws at h e = true≢false (sym h ∙ sym (constant_found ws at) ∙ rw (sym e) refl)
 
 -- ---- the alignment of a struct is positive
 pub made_positive : (ws ts al : List ℕ) (at n : ℕ) (m : Members) → ok m ≡ members_made ws ts al at n → 0 < m.alignment
@@ -183,31 +181,31 @@ module _ (ws ts ms al : List ℕ) (at : ℕ) (f : Bool) where
   abbrev s : State
   s = record { types = ts; members = ms; alignments = al }
 
-  bool_late : late f (ok (leaf (words_of scalar_kind 3 1 0 0) 1 1)) ≡ bool_type al f
+  bool_late : late f (ok (leaf (record_of scalar_kind 3 1 0 0) 1 1)) ≡ bool_type al f
   unfolding bool_type alignment_of inner_of
   bool_late = refl
 
   int_late : late f (int_made ws at) ≡ int_type ws al at f
   unfolding int_type alignment_of inner_of
-  int_late = two (width_ok (word ws at 2)) (ltb 1 (word ws at 3)) f (word ws at 2 / 8) (sign_kind (word ws at 3)) (λ w k. leaf (words_of scalar_kind k w 0 0) 1 w)
+  int_late = two (width_ok (word ws at 2)) (ltb 1 (word ws at 3)) f (word ws at 2 / 8) (sign_kind (word ws at 3)) (λ w k. leaf (record_of scalar_kind k w 0 0) 1 w)
 
   float_late : late f (float_made ws at) ≡ float_type ws al at f
   unfolding float_type alignment_of inner_of
-  float_late = first_two (width_ok (word ws at 2)) (ltb 3 (word_count ws at)) f (word ws at 2 / 8) (λ w. leaf (words_of scalar_kind 2 w 0 0) 1 w)
+  float_late = first_two (width_ok (word ws at 2)) (ltb 3 (word_count ws at)) f (word ws at 2 / 8) (λ w. leaf (record_of scalar_kind 2 w 0 0) 1 w)
 
   vector_late : late f (vector_made ws ts at) ≡ vector_type ws ts al at f
   unfolding vector_type alignment_of inner_of
   vector_late =
       of_part (parts_ok (word ws at 3)) (is_other (base_sort ws at)) (is_type_read (base_sort ws at)) f (number_of (base_sort ws at))
       (λ t. eqb (type_word ts t 0) scalar_kind) (λ t. record { count = word ws at 3; part = record_words ts t })
-      (λ p. leaf (words_of vector_kind p.count p.part.a p.part.b 0) (vector_alignment p.count) p.part.b)
+      (λ p. leaf (record_of vector_kind p.count p.part.a p.part.b 0) (vector_alignment p.count) p.part.b)
 
   matrix_late : late f (matrix_made ws ts at) ≡ matrix_type ws ts al at f
   unfolding matrix_type alignment_of inner_of
   matrix_late =
       of_part (parts_ok (word ws at 3)) (is_other (base_sort ws at)) (is_type_read (base_sort ws at)) f (number_of (base_sort ws at))
       (λ t. eqb (type_word ts t 0) vector_kind) (λ t. record { count = word ws at 3; part = record_words ts t })
-      (λ p. leaf (words_of 2 p.count p.part.a p.part.b p.part.c) (vector_alignment p.part.a) p.part.c)
+      (λ p. leaf (record_of 2 p.count p.part.a p.part.b p.part.c) (vector_alignment p.part.a) p.part.c)
 
   array_late : late f (array_made ws al at) ≡ array_type ws al at f
   unfolding array_type alignment_of inner_of

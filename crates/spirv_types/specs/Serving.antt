@@ -9,7 +9,7 @@ use Rattle.ir_records.specs.declared.Fault.{Fault}
 use Rattle.ir_records.specs.declared.ScalarKind.{ScalarKind}
 use Rattle.ir_records.specs.Kinds.{scalar_number}
 use Rattle.ir_records.specs.Refusal.{number_of}
-use Rattle.ir_records.specs.Record.{type_word, scalar_kind, vector_kind, matrix_kind, array_kind, struct_kind}
+use Rattle.ir_records.specs.Record.{type_word, scalar_kind, vector_kind, matrix_kind, struct_kind, record_of, array_words}
 use Rattle.ir_records.specs.Serving.{record_words}
 use Rattle.proc_alignment.specs.Alignment.{vector_alignment, round_up, most}
 use Rattle.proc_type_alignment.specs.TypeAlignment.{width_alignment, base_alignment}
@@ -17,7 +17,7 @@ use Rattle.spirv_words.specs.Module.{word_count, word, found, type_bool, type_in
 use Rattle.spirv_members.specs.Members.{is_other, member_count_at, layouts_of}
 use Rattle.spirv_members.specs.Serving.{type_named, members_made}
 use Rattle.spirv_members.specs.declared.Members.{Members}
-use Rattle.spirv_types.specs.Types.{words_of, width_ok, sign_kind, parts_ok, base_sort, stride_at, stride_of, length_of, length_sort}
+use Rattle.spirv_types.specs.Types.{width_ok, sign_kind, parts_ok, base_sort, stride_at, stride_of, length_of, length_sort}
 use Rattle.spirv_types.specs.declared.Typed.{Typed}
 use Rattle.spirv_types.specs.declared.Parts.{Parts}
 
@@ -36,11 +36,11 @@ abbrev pub sign_of : (signedness : ℕ) → Result ℕ
 sign_of signedness = require (not (ltb 1 signedness)) 29 0 0 (ok (sign_kind signedness))
 
 abbrev pub int_made : (ws : List ℕ) (at : ℕ) → Result Typed
-int_made ws at = and_then (width_of (word ws at 2)) (λ w. and_then (sign_of (word ws at 3)) (λ k. ok (leaf (words_of scalar_kind k w 0 0) 1 w)))
+int_made ws at = and_then (width_of (word ws at 2)) (λ w. and_then (sign_of (word ws at 3)) (λ k. ok (leaf (record_of scalar_kind k w 0 0) 1 w)))
 
 abbrev pub float_made : (ws : List ℕ) (at : ℕ) → Result Typed
 float_made ws at =
-    require (not (ltb 3 (word_count ws at))) 29 0 0 (and_then (width_of (word ws at 2)) (λ w. ok (leaf (words_of scalar_kind 2 w 0 0) 1 w)))
+    require (not (ltb 3 (word_count ws at))) 29 0 0 (and_then (width_of (word ws at 2)) (λ w. ok (leaf (record_of scalar_kind 2 w 0 0) 1 w)))
 
 -- ---- vectors and matrices
 abbrev pub parts_made : (ws ts : List ℕ) (at kind : ℕ) → Result Parts
@@ -51,11 +51,11 @@ parts_made ws ts at kind =
 
 abbrev pub vector_made : (ws ts : List ℕ) (at : ℕ) → Result Typed
 vector_made ws ts at =
-    and_then (parts_made ws ts at scalar_kind) (λ p. ok (leaf (words_of vector_kind p.count p.part.a p.part.b 0) (vector_alignment p.count) p.part.b))
+    and_then (parts_made ws ts at scalar_kind) (λ p. ok (leaf (record_of vector_kind p.count p.part.a p.part.b 0) (vector_alignment p.count) p.part.b))
 
 abbrev pub matrix_made : (ws ts : List ℕ) (at : ℕ) → Result Typed
 matrix_made ws ts at =
-    and_then (parts_made ws ts at vector_kind) (λ p. ok (leaf (words_of matrix_kind p.count p.part.a p.part.b p.part.c) (vector_alignment p.part.a) p.part.c))
+    and_then (parts_made ws ts at vector_kind) (λ p. ok (leaf (record_of matrix_kind p.count p.part.a p.part.b p.part.c) (vector_alignment p.part.a) p.part.c))
 
 -- ---- arrays
 abbrev pub stride_made : (ws : List ℕ) (at : ℕ) → Result ℕ
@@ -68,10 +68,8 @@ length_made ws at =
     (ok (found (length_of ws (length_sort ws at))))
 
 abbrev pub array_typed : (al : List ℕ) (base : ℕ) → Option ℕ → (stride : ℕ) → Typed
-array_typed al base (Some n) stride =
-    record { words = words_of array_kind base 0 n stride; alignment = value_or 1 (base_alignment (layouts_of al) (length al) base) }
-array_typed al base None stride =
-    record { words = words_of array_kind base 1 0 stride; alignment = value_or 1 (base_alignment (layouts_of al) (length al) base) }
+array_typed al base size stride =
+    record { words = array_words size base stride; alignment = value_or 1 (base_alignment (layouts_of al) (length al) base) }
 
 abbrev pub counted_made : (al : List ℕ) (base : ℕ) → Option ℕ → (stride : ℕ) → Result Typed
 counted_made al base (Some n) stride = require (leb (n * stride) most) 30 0 0 (ok (array_typed al base (Some n) stride))
@@ -88,7 +86,7 @@ runtime_array_made ws al at = and_then (type_named (base_sort ws at)) (λ b. and
 abbrev pub spanned : Members → (first n : ℕ) → Result Typed
 spanned m first n =
     require (leb (round_up m.alignment m.end) most) 30 0 0
-    (ok (record { words = words_of struct_kind first n (round_up m.alignment m.end) 0; alignment = m.alignment }))
+    (ok (record { words = record_of struct_kind first n (round_up m.alignment m.end) 0; alignment = m.alignment }))
 
 abbrev pub struct_made : (ws ts al : List ℕ) (rows at : ℕ) → Result Typed
 struct_made ws ts al rows at = and_then (members_made ws ts al at (member_count_at ws at)) (λ m. spanned m rows (member_count_at ws at))
@@ -96,7 +94,7 @@ struct_made ws ts al rows at = and_then (members_made ws ts al at (member_count_
 -- ---- by its opcode
 abbrev pub type_made : (ws ts al : List ℕ) (rows at op : ℕ) → Result Typed
 type_made ws ts al rows at op =
-    pick (eqb op type_bool) (ok (leaf (words_of scalar_kind 3 1 0 0) 1 1))
+    pick (eqb op type_bool) (ok (leaf (record_of scalar_kind 3 1 0 0) 1 1))
     (pick (eqb op type_int) (int_made ws at)
     (pick (eqb op type_float) (float_made ws at)
     (pick (eqb op type_vector) (vector_made ws ts at)

@@ -3,7 +3,7 @@
 use Rattle.std.specs.Prelude.{Bool, false, not, ◌&&◌, ◌||◌, List, [], ℕ, ◌*◌, ◌/◌, eqb, leb, ltb, length}
 use Rattle.ir_records.specs.Result.{Result, ok, pick, require, value_or}
 use Rattle.ir_records.specs.declared.Words.{Words}
-use Rattle.ir_records.specs.Record.{type_word, member_count, inner_in, scalar_kind, vector_kind, matrix_kind, array_kind, struct_kind}
+use Rattle.ir_records.specs.Record.{type_word, member_count, inner_in, record_of, scalar_kind, vector_kind, matrix_kind, array_kind, struct_kind}
 use Rattle.proc_alignment.specs.Alignment.{round_up, most}
 use Rattle.proc_type_alignment.specs.TypeAlignment.{alignment_of}
 use Rattle.spirv_words.specs.Module.{word_count, opcode, word, type_bool, type_int, type_float, type_vector, type_matrix, type_array, type_runtime_array, before, first, only}
@@ -23,9 +23,6 @@ pub record State : Type 0 where
 abbrev pub judged : (unsupported sound : Bool) → Typed → Result Typed
 judged unsupported sound y = require (not unsupported) 29 0 0 (require sound 30 0 0 (ok y))
 
-abbrev pub words_of : (kind a b c d : ℕ) → Words
-words_of kind a b c d = record { kind = kind; a = a; b = b; c = c; d = d; e = 0 }
-
 -- with 01's alignment of what the record says, from those of the types before it
 abbrev pub typed : (al : List ℕ) → Words → (rows : List ℕ) → Typed
 typed al w rows = record { words = w; alignment = value_or 1 (alignment_of (layouts_of al) (length al) (inner_in w) rows) }
@@ -42,17 +39,17 @@ abbrev pub sign_kind : (signedness : ℕ) → ℕ
 sign_kind signedness = pick (eqb signedness 0) 1 0
 
 unfoldable pub bool_type : (al : List ℕ) (fresh : Bool) → Result Typed
-bool_type al fresh = judged false fresh (typed al (words_of scalar_kind 3 1 0 0) [])
+bool_type al fresh = judged false fresh (typed al (record_of scalar_kind 3 1 0 0) [])
 
 unfoldable pub int_type : (ws al : List ℕ) (at : ℕ) (fresh : Bool) → Result Typed
 int_type ws al at fresh =
     judged (not (width_ok (word ws at 2)) || ltb 1 (word ws at 3)) fresh
-    (typed al (words_of scalar_kind (sign_kind (word ws at 3)) (word ws at 2 / 8) 0 0) [])
+    (typed al (record_of scalar_kind (sign_kind (word ws at 3)) (word ws at 2 / 8) 0 0) [])
 
 -- a fourth word is an encoding
 unfoldable pub float_type : (ws al : List ℕ) (at : ℕ) (fresh : Bool) → Result Typed
 float_type ws al at fresh =
-    judged (not (width_ok (word ws at 2)) || ltb 3 (word_count ws at)) fresh (typed al (words_of scalar_kind 2 (word ws at 2 / 8) 0 0) [])
+    judged (not (width_ok (word ws at 2)) || ltb 3 (word_count ws at)) fresh (typed al (record_of scalar_kind 2 (word ws at 2 / 8) 0 0) [])
 
 -- ---- vectors and matrices: of the type that word 2 names
 abbrev pub parts_ok : ℕ → Bool
@@ -69,13 +66,13 @@ unfoldable pub vector_type : (ws ts al : List ℕ) (at : ℕ) (fresh : Bool) →
 vector_type ws ts al at fresh =
     judged (not (parts_ok (word ws at 3)) || is_other (base_sort ws at))
     (fresh && is_type_read (base_sort ws at) && eqb (base_word ws ts at 0) scalar_kind)
-    (typed al (words_of vector_kind (word ws at 3) (base_word ws ts at 1) (base_word ws ts at 2) 0) [])
+    (typed al (record_of vector_kind (word ws at 3) (base_word ws ts at 1) (base_word ws ts at 2) 0) [])
 
 unfoldable pub matrix_type : (ws ts al : List ℕ) (at : ℕ) (fresh : Bool) → Result Typed
 matrix_type ws ts al at fresh =
     judged (not (parts_ok (word ws at 3)) || is_other (base_sort ws at))
     (fresh && is_type_read (base_sort ws at) && eqb (base_word ws ts at 0) vector_kind)
-    (typed al (words_of matrix_kind (word ws at 3) (base_word ws ts at 1) (base_word ws ts at 2) (base_word ws ts at 3)) [])
+    (typed al (record_of matrix_kind (word ws at 3) (base_word ws ts at 1) (base_word ws ts at 2) (base_word ws ts at 3)) [])
 
 -- ---- arrays
 -- where the one ArrayStride stands; 0 where there is none or several
@@ -104,12 +101,12 @@ array_type ws al at fresh =
     judged (is_other (base_sort ws at) || is_other (length_sort ws at))
     (fresh && is_type_read (base_sort ws at) && ltb 0 (stride_at ws at) && ltb 0 (length_of ws (length_sort ws at))
     && leb (length_of ws (length_sort ws at) * stride_of ws at) most)
-    (typed al (words_of array_kind (number_of (base_sort ws at)) 0 (length_of ws (length_sort ws at)) (stride_of ws at)) [])
+    (typed al (record_of array_kind (number_of (base_sort ws at)) 0 (length_of ws (length_sort ws at)) (stride_of ws at)) [])
 
 unfoldable pub runtime_array_type : (ws al : List ℕ) (at : ℕ) (fresh : Bool) → Result Typed
 runtime_array_type ws al at fresh =
     judged (is_other (base_sort ws at)) (fresh && is_type_read (base_sort ws at) && ltb 0 (stride_at ws at))
-    (typed al (words_of array_kind (number_of (base_sort ws at)) 1 0 (stride_of ws at)) [])
+    (typed al (record_of array_kind (number_of (base_sort ws at)) 1 0 (stride_of ws at)) [])
 
 -- ---- structs: the span is the end of the last member rounded up to the alignment
 abbrev pub span_of : (ws ts al : List ℕ) (at n : ℕ) → ℕ
@@ -120,7 +117,7 @@ struct_type ws s at fresh =
     judged (members_unsupported ws s.types at (member_count_at ws at))
     (fresh && members_sound ws at (member_count_at ws at) && leb (span_of ws s.types s.alignments at (member_count_at ws at)) most)
     (typed s.alignments
-    (words_of struct_kind (member_count s.members) (member_count_at ws at) (span_of ws s.types s.alignments at (member_count_at ws at)) 0)
+    (record_of struct_kind (member_count s.members) (member_count_at ws at) (span_of ws s.types s.alignments at (member_count_at ws at)) 0)
     (member_rows ws at (member_count_at ws at)))
 
 -- ---- by its opcode

@@ -1,14 +1,17 @@
 // The record of one type that is read, from the words of a SPIR-V module, and its refusals 29 and 30.
 #![tactic(auto)]
 
-ghost use Rattle.std.specs.Prelude.{◌≡◌, true, ◌&&◌, ◌||◌, Ok, List, ℕ, ◌≤◌, ◌<◌, eqb, ltb, length};
-ghost use Rattle.ir_records.specs.Result.{pick};
+ghost use Rattle.std.specs.Prelude.{◌≡◌, true, ◌&&◌, ◌||◌, Ok, List, ℕ, ◌≤◌, ◌<◌, eqb, leb, ltb, length};
+ghost use Rattle.ir_records.specs.Result.{pick, ok, require};
+ghost use Rattle.proc_alignment.specs.Alignment.{most};
+ghost use Rattle.ir_records.specs.declared.Fault.TheVariants as fault;
 ghost use Rattle.ir_records.specs.Kinds.{kind_number, scalar_number};
 ghost use Rattle.ir_records.specs.Record.{member_count, scalar_kind};
 ghost use Rattle.spirv_ids.specs.Ids.{integer_before, is_constant, type_number};
 ghost use Rattle.spirv_words.specs.Module.{opcode, word, found};
-ghost use Rattle.spirv_members.specs.Serving.{faulted};
-ghost use Rattle.spirv_types.specs.Types.{words_of, is_fresh, stride_at, constant_length, type_at};
+ghost use Rattle.spirv_members.specs.Serving.{faulted, FaultTold};
+ghost use Rattle.ir_records.specs.Record.{record_of};
+ghost use Rattle.spirv_types.specs.Types.{is_fresh, stride_at, constant_length, type_at};
 ghost use Rattle.spirv_types.specs.Serving.{leaf, width_of, kinded, sign_of, int_made, float_made, parts_made, vector_made, matrix_made, stride_made, length_made, array_typed, array_made, runtime_array_made, spanned, struct_made, type_made};
 
 use ir_records::{Fault, Kind, ScalarKind, Words};
@@ -39,7 +42,8 @@ pub struct Known<'a, 'b> {
 }
 
 // Of a leaf: aligned to a factor times its width; no alignment is 1.
-// Kept: `width ≤ 255`: a number that was just read has no type that says it; of a record that is made `Bounded` does.
+// Kept: `width ≤ 255`: as a `u8` the width would be narrowed where it comes from a record, of which `Bounded` says the bound, and widened again for
+// `leaf_alignment` and for the record.
 fn leaf_type(words: Words, factor: u32, width: u32) -> Typed
     requires factor_bound { factor ≤ 16 }
     requires width_bound { width ≤ 255 }
@@ -51,9 +55,9 @@ fn leaf_type(words: Words, factor: u32, width: u32) -> Typed
     }
 }
 
-// Its id is not given before, and has no decoration that it cannot have.
-fn is_fresh(place: Place) -> bool
-    ensures { result ≡ is_fresh place.entry.input.words.now place.entry.at }
+// Number 30 where its id is given before, or has a decoration that it cannot have.
+fn check_fresh(place: Place) -> Result<(), Fault>
+    ensures { FaultTold result fault.ModuleOrder (is_fresh place.entry.input.words.now place.entry.at) }
 {
     let words = place.input.words;
     let op = spirv_words::opcode_of(words, place.at);
@@ -61,7 +65,10 @@ fn is_fresh(place: Place) -> bool
     let misplaced = spirv_words::first_between(words, spirv_words::HEADER_WORDS, place.at, |p| {
         spirv_words::is_misplaced(words, op, id, p)
     });
-    spirv_ids::is_new(place, id) & misplaced.is_none()
+    if spirv_ids::is_new(place, id) & misplaced.is_none() {
+        return Ok(());
+    }
+    Err(Fault::ModuleOrder)
 }
 
 // The width in bytes; number 29 for any other number of bits.
@@ -76,7 +83,8 @@ fn width_of(bits: u32) -> Result<u32, Fault>
 }
 
 // Number 29 for any other word.
-// Kept: these arms by number are the conversion of SPIR-V's signedness.
+// Kept: arms by number: SPIR-V's word 0 is Uint and 1 is Sint, the other way round than the codes of ScalarKind, so that a TryFrom of the word would have
+// these same arms and no other caller.
 fn sign_kind(signedness: u32) -> Result<ScalarKind, Fault>
     ensures { kinded result ≡ sign_of signedness }
 {
@@ -89,35 +97,28 @@ fn sign_kind(signedness: u32) -> Result<ScalarKind, Fault>
 
 fn scalar_type(kind: ScalarKind, width: u32) -> Typed
     requires { width ≤ 255 }
-    ensures { result ≡ leaf (words_of scalar_kind (scalar_number kind) width 0 0) 1 width }
+    ensures { result ≡ leaf (record_of scalar_kind (scalar_number kind) width 0 0) 1 width }
 {
-    let words = Words {
-        kind: Kind::Scalar as u32,
-        a: kind as u32,
-        b: width,
-        c: 0,
-        d: 0,
-        e: 0,
-    };
+    let words = Words::of(Kind::Scalar as u32, kind as u32, width, 0, 0);
     leaf_type(words, 1, width)
 }
 
-fn int_type(words: &[u32], at: usize) -> Result<Typed, Fault>
-    ensures { faulted result ≡ int_made words.now at }
+fn int_type(place: Place) -> Result<Typed, Fault>
+    ensures { faulted result ≡ int_made place.entry.input.words.now place.entry.at }
 {
-    let width = width_of(spirv_words::word_of(words, at, 2))?;
-    let kind = sign_kind(spirv_words::word_of(words, at, 3))?;
+    let width = width_of(spirv_words::word_of(place.input.words, place.at, 2))?;
+    let kind = sign_kind(spirv_words::word_of(place.input.words, place.at, 3))?;
     Ok(scalar_type(kind, width))
 }
 
 // A fourth word is an encoding, which is number 29.
-fn float_type(words: &[u32], at: usize) -> Result<Typed, Fault>
-    ensures { faulted result ≡ float_made words.now at }
+fn float_type(place: Place) -> Result<Typed, Fault>
+    ensures { faulted result ≡ float_made place.entry.input.words.now place.entry.at }
 {
-    if 3 < spirv_words::word_count(words, at) {
+    if 3 < spirv_words::word_count(place.input.words, place.at) {
         return Err(Fault::ModuleType);
     }
-    let width = width_of(spirv_words::word_of(words, at, 2))?;
+    let width = width_of(spirv_words::word_of(place.input.words, place.at, 2))?;
     Ok(scalar_type(ScalarKind::Float, width))
 }
 
@@ -141,14 +142,13 @@ fn vector_type(place: Place, tables: Tables) -> Result<Typed, Fault>
     ensures { faulted result ≡ vector_made place.entry.input.words.now tables.entry.types.now place.entry.at }
 {
     let parts = parts_of(place, tables, Kind::Scalar)?;
-    let vector = Words {
-        kind: Kind::Vector as u32,
-        a: parts.count,
-        b: parts.part.a,
-        c: parts.part.b,
-        d: 0,
-        e: 0,
-    };
+    let vector = Words::of(
+        Kind::Vector as u32,
+        parts.count,
+        parts.part.a,
+        parts.part.b,
+        0,
+    );
     let factor = proc_alignment::vector_alignment(parts.count);
     Ok(leaf_type(vector, factor, parts.part.b))
 }
@@ -157,43 +157,42 @@ fn matrix_type(place: Place, tables: Tables) -> Result<Typed, Fault>
     ensures { faulted result ≡ matrix_made place.entry.input.words.now tables.entry.types.now place.entry.at }
 {
     let parts = parts_of(place, tables, Kind::Vector)?;
-    let matrix = Words {
-        kind: Kind::Matrix as u32,
-        a: parts.count,
-        b: parts.part.a,
-        c: parts.part.b,
-        d: parts.part.c,
-        e: 0,
-    };
+    let matrix = Words::of(
+        Kind::Matrix as u32,
+        parts.count,
+        parts.part.a,
+        parts.part.b,
+        parts.part.c,
+    );
     let factor = proc_alignment::vector_alignment(parts.part.a);
     Ok(leaf_type(matrix, factor, parts.part.c))
 }
 
 // The one ArrayStride of an array; none where there are several.
 #[tactic(auto, unfolding(crate::specs::Types::stride_at))]
-fn stride_at(words: &[u32], at: usize) -> Option<usize>
-    ensures { result ≡ found (stride_at words.now at) }
+fn stride_at(place: Place) -> Option<usize>
+    ensures { result ≡ found (stride_at place.entry.input.words.now place.entry.at) }
 {
-    let id = spirv_words::word_of(words, at, 1);
-    spirv_words::only_before(words, at, |p| spirv_words::is_stride_of(words, id, p))
+    let words = place.input.words;
+    let id = spirv_words::word_of(words, place.at, 1);
+    spirv_words::only_before(words, place.at, |p| spirv_words::is_stride_of(words, id, p))
 }
 
 // Its operand; number 30 where there is not one.
-fn stride_of(words: &[u32], at: usize) -> Result<u32, Fault>
-    ensures { faulted result ≡ stride_made words.now at }
+fn stride_of(place: Place) -> Result<u32, Fault>
+    ensures { faulted result ≡ stride_made place.entry.input.words.now place.entry.at }
 {
-    let place = stride_at(words, at).ok_or(Fault::ModuleOrder)?;
-    Ok(spirv_words::word_of(words, place, 3))
+    let at = stride_at(place).ok_or(Fault::ModuleOrder)?;
+    Ok(spirv_words::word_of(place.input.words, at, 3))
 }
 
 // A length by the words of its type and its own.
+// Kept: the sign is tested by 0: `sign_kind` refuses a third word with 29, and here any word but 0 limits the value.
 fn length_by(bits: u32, signedness: u32, value: u32) -> Option<u32>
     ensures { result ≡ found (pick (eqb bits 32 && (eqb signedness 0 || ltb value 2147483648)) value 0) }
 {
-    if (bits == 32) & ((signedness == 0) | (value < 2147483648)) & (value != 0) {
-        return Some(value);
-    }
-    None
+    let fits = (bits == 32) & ((signedness == 0) | (value < 2147483648));
+    (fits & (value != 0)).then_some(value)
 }
 
 // The length that the constant at a place is.
@@ -226,19 +225,10 @@ fn array_typed(alignments: &[u32], base: u32, length: Option<u32>, stride: u32) 
     ensures { result ≡ array_typed alignments.now base length stride }
 {
     let alignment = alignments.get(base as usize).copied().unwrap_or(1);
-    let (form, count) = match length {
-        Some(count) => (0, count),
-        None => (1, 0),
-    };
-    let words = Words {
-        kind: Kind::Array as u32,
-        a: base,
-        b: form,
-        c: count,
-        d: stride,
-        e: 0,
-    };
-    Typed { words, alignment }
+    Typed {
+        words: Words::array(base, length, stride),
+        alignment,
+    }
 }
 
 fn array_type(place: Place, alignments: &[u32]) -> Result<Typed, Fault>
@@ -246,9 +236,9 @@ fn array_type(place: Place, alignments: &[u32]) -> Result<Typed, Fault>
 {
     let counted = length_of(place)?;
     let base = spirv_members::type_named(spirv_ids::named(place, 2))?;
-    let stride = stride_of(place.input.words, place.at)?;
+    let stride = stride_of(place)?;
     let length = counted.ok_or(Fault::ModuleOrder)?;
-    if proc_alignment::MOST < (length as u64) * (stride as u64) {
+    if length.checked_mul(stride).is_none() {
         return Err(Fault::ModuleOrder);
     }
     Ok(array_typed(alignments, base, Some(length), stride))
@@ -258,8 +248,15 @@ fn runtime_array_type(place: Place, alignments: &[u32]) -> Result<Typed, Fault>
     ensures { faulted result ≡ runtime_array_made place.entry.input.words.now alignments.now place.entry.at }
 {
     let base = spirv_members::type_named(spirv_ids::named(place, 2))?;
-    let stride = stride_of(place.input.words, place.at)?;
+    let stride = stride_of(place)?;
     Ok(array_typed(alignments, base, None, stride))
+}
+
+// A number of bytes in a record; number 30 where it leaves 32 bits.
+fn number_of(bytes: u64) -> Result<u32, Fault>
+    ensures { faulted result ≡ require (leb bytes most) 30 0 0 (ok bytes) }
+{
+    u32::try_from(bytes).map_err(|_| Fault::ModuleOrder)
 }
 
 // A struct of n members by their end and alignment; `first`: the member rows before it.
@@ -268,20 +265,9 @@ fn spanned_type(members: Members, first: u32, n: u32) -> Result<Typed, Fault>
     ensures { faulted result ≡ spanned members first n }
 {
     let alignment = members.alignment;
-    let Ok(end) = u32::try_from(members.end) else {
-        return Err(Fault::ModuleOrder);
-    };
-    let Ok(span) = u32::try_from(proc_alignment::round_up(alignment, end)) else {
-        return Err(Fault::ModuleOrder);
-    };
-    let words = Words {
-        kind: Kind::Struct as u32,
-        a: first,
-        b: n,
-        c: span,
-        d: 0,
-        e: 0,
-    };
+    let end = number_of(members.end)?;
+    let span = number_of(proc_alignment::round_up(alignment, end))?;
+    let words = Words::of(Kind::Struct as u32, first, n, span, 0);
     Ok(Typed { words, alignment })
 }
 
@@ -300,11 +286,10 @@ fn type_made(known: Known) -> Result<Typed, Fault>
 {
     let place = known.place;
     let tables = known.tables;
-    let words = place.input.words;
-    match spirv_words::opcode_of(words, place.at) {
+    match spirv_words::opcode_of(place.input.words, place.at) {
         spirv_words::TYPE_BOOL => Ok(scalar_type(ScalarKind::Bool, 1)),
-        spirv_words::TYPE_INT => int_type(words, place.at),
-        spirv_words::TYPE_FLOAT => float_type(words, place.at),
+        spirv_words::TYPE_INT => int_type(place),
+        spirv_words::TYPE_FLOAT => float_type(place),
         spirv_words::TYPE_VECTOR => vector_type(place, tables),
         spirv_words::TYPE_MATRIX => matrix_type(place, tables),
         spirv_words::TYPE_ARRAY => array_type(place, tables.alignments),
@@ -318,8 +303,6 @@ pub fn type_at(known: Known) -> Result<Typed, Fault>
     ensures { (ms : List ℕ) → member_count ms ≡ known.entry.rows → faulted result ≡ type_at known.entry.place.input.words.now (record { types = known.entry.tables.types.now; members = ms; alignments = known.entry.tables.alignments.now }) known.entry.place.at }
 {
     let typed = type_made(known)?;
-    if !is_fresh(known.place) {
-        return Err(Fault::ModuleOrder);
-    }
+    check_fresh(known.place)?;
     Ok(typed)
 }

@@ -9,42 +9,28 @@ use Prim.Native.Nat.{ℕ, zero, suc, ◌+◌, ◌-◌, ◌≤◌, ◌<◌}
 use native.Mathlib.Omega.{arith}
 use lib.Dec.{eqb, ltb}
 use borrow.Author.Tests.{lt-ltb, le-ltb, ltb-true, ne_eqb, eqb-true, eqb-false}
+use Rattle.std.proofs.lemmas.Option.{none-some, same_Some}
+use Rattle.std.proofs.lemmas.Bool.{and_parts, true≢false}
 use Rattle.ir_records.specs.Result.{pick}
 use Rattle.std.specs.Prelude.{Option, None, Some}
 use Rattle.std.specs.Option.{is_some, option_map}
 use Rattle.std.specs.List as list
 use Rattle.spirv_words.specs.Module.{word_count, header_words, starts, between, before, first, find, found, only}
 
-and_true : (a b : Bool) → (a && b) ≡ true → (a ≡ true) × (b ≡ true)
-and_true true b e = (refl, e)
-and_true false b e = (e, cc)
-
-one_more : (n k : ℕ) → k < n → n - k ≡ suc (n - (k + 1))
-one_more n k h = omega arith
-
-true_false : true ≡ false → ⊥
-true_false e = let z : ◌≡◌ {A = ℕ} 0 1 = cc in absurd (omega arith)
-
-some_none : (q : ℕ) → Some q ≡ None → ⊥
-some_none q e = let z : ◌≡◌ {A = ℕ} 0 1 = cc in absurd (omega arith)
-
-some_inj : (m n : ℕ) → Some m ≡ Some n → m ≡ n
-some_inj m n e = cc
-
 pub found_none : (n : ℕ) → None ≡ found n → n ≡ 0
 found_none n e = by (eqb n 0) refl
   where
     by : (b : Bool) → eqb n 0 ≡ b → n ≡ 0
     by true t = eqb-true n 0 t
-    by false t = absurd (some_none n (sym (rw t at e)))
+    by false t = absurd (none-some n (rw t at e))
 
 pub found_some : (n q : ℕ) → Some q ≡ found n → (n ≡ q) × (0 < q)
 found_some n q e = by (eqb n 0) refl
   where
     by : (b : Bool) → eqb n 0 ≡ b → (n ≡ q) × (0 < q)
-    by true t = absurd (some_none q (rw t at e))
+    by true t = absurd (none-some q (sym (rw t at e)))
     by false t =
-        let is : n ≡ q = sym (some_inj q n (rw t at e)) in
+        let is : n ≡ q = sym (same_Some q n (rw t at e)) in
         (is, omega (arith, eqb-false n 0 t, is))
 
 pub found_not : (n : ℕ) (r : Bool) → is_some (found n) ≡ not r → r ≡ eqb n 0
@@ -53,8 +39,8 @@ found_not n r e = by r (eqb n 0) refl e
     by : (r b : Bool) → eqb n 0 ≡ b → is_some (found n) ≡ not r → r ≡ eqb n 0
     by true true t e = sym t
     by false false t e = sym t
-    by true false t e = absurd (true_false (rw t at e))
-    by false true t e = absurd (true_false (sym (rw t at e)))
+    by true false t e = absurd (true≢false (rw t at e))
+    by false true t e = absurd (true≢false (sym (rw t at e)))
 
 pub found_is : (n : ℕ) → is_some (found n) ≡ ltb 0 n
 found_is n = by (eqb n 0) refl
@@ -90,14 +76,15 @@ module _ (ws : List ℕ) (end : ℕ) where
       by : (b : Bool) → (ltb at end && ltb 0 (word_count ws at)) ≡ b
           → (0 < word_count ws at → starts ws l (at + word_count ws at) end ≡ starts ws m (at + word_count ws at) end)
           → starts ws (suc l) at end ≡ starts ws (suc m) at end
-      by true e rest = rw (e, rest (ltb-true 0 (word_count ws at) (and_true (ltb at end) _ e).1))
+      by true e rest = rw (e, rest (ltb-true 0 (word_count ws at) (and_parts (ltb at end) _ e).1))
       by false e rest = rw e
 
   -- one instruction on
   pub between_next : (p : ℕ) → p < end → 0 < word_count ws p → between ws p end ≡ p ∷ between ws (p + word_count ws p) end
   unfolding starts
   between_next p h k =
-      rw (one_more end p h, lt-ltb p end h, lt-ltb 0 (word_count ws p) k)
+      let more : end - p ≡ suc (end - (p + 1)) = omega (arith, h) in
+      rw (more, lt-ltb p end h, lt-ltb 0 (word_count ws p) k)
       (ap (λ rest. p ∷ rest) (starts_any (end - (p + 1)) (end - (p + word_count ws p)) (p + word_count ws p) (omega (arith, h, k)) (omega (arith, h, k))))
 
   -- none from the end on, and none after a word count 0
@@ -123,17 +110,9 @@ module _ (ws : List ℕ) (end : ℕ) where
     unfolding first
     search_on h k e = rw (between_next p h k, e)
 
-    pub search_found : p < end → 0 < word_count ws p → test p ≡ true → first test (between ws p end) ≡ p
-    unfolding first
-    search_found h k e = rw (between_next p h k, e)
-
     pub search_end : end ≤ p → first test (between ws p end) ≡ 0
     unfolding first
     search_end h = rw (between_end p h)
-
-    pub search_stuck : word_count ws p ≡ 0 → first test (between ws p end) ≡ 0
-    unfolding first
-    search_stuck e = rw (between_stuck p e)
 
   -- after the first word of the words, 0 is no place
   pub find_found : (test : ℕ → Bool) (l p : ℕ) → 0 < p → find test (starts ws l p end) ≡ found (first test (starts ws l p end))
@@ -189,7 +168,7 @@ module _ (ws : List ℕ) (end : ℕ) where
             → only test (starts ws (suc l) p end) ≡ pick (eqb (first test (between ws (q + word_count ws q) end)) 0) q 0
         by false k rest = absurd (omega (arith, h, rw k at e))
         by true k rest =
-            let w = ltb-true 0 (word_count ws p) (and_true (ltb p end) _ k).1 in
+            let w = ltb-true 0 (word_count ws p) (and_parts (ltb p end) _ k).1 in
             hit w (test p) refl
           where
             hit : 0 < word_count ws p → (t : Bool) → test p ≡ t
@@ -241,7 +220,7 @@ module _ (ws : List ℕ) (end : ℕ) where
           where
             hit : (t : Bool) → test p ≡ t
                 → (first test (starts ws (suc l) p end) < end) × (p ≤ first test (starts ws (suc l) p end)) × (test (first test (starts ws (suc l) p end)) ≡ true)
-            hit true t = rw (k, t) (ltb-true p end (and_true (ltb p end) _ k).0, omega arith, t)
+            hit true t = rw (k, t) (ltb-true p end (and_parts (ltb p end) _ k).0, omega arith, t)
             hit false t =
                 let r = rest (rw (k, t) at h) in
                 rw (k, t) (r.0, omega (arith, r.1), r.2)

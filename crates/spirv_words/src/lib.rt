@@ -39,7 +39,9 @@ pub const DECORATE: u32 = 71;
 
 pub const MEMBER_DECORATE: u32 = 72;
 
-// The decorations that are looked at; a module may have any other number.
+// The decorations that are looked at.
+// Kept: numbers, and no enum: a module may have any other number, so an enum would have a variant for all others, and each test here would compare with
+// one of its variants as it does with a number.
 pub const ROW_MAJOR: u32 = 4;
 
 pub const ARRAY_STRIDE: u32 = 6;
@@ -48,6 +50,8 @@ pub const MATRIX_STRIDE: u32 = 7;
 
 pub const OFFSET: u32 = 35;
 
+// Kept: `words, at` in the functions from here to `is_otherwise`: of a slice and a place in it nothing is asked, so a struct of both would have no
+// invariant, and each search would make one for every instruction that it looks at.
 // Word k of the instruction at `at`; 0 past the words.
 pub fn word_of(words: &[u32], at: usize, k: usize) -> u32
     ensures { result ≡ word words.now at k }

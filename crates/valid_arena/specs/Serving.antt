@@ -5,8 +5,6 @@ use Rattle.ir_records.specs.Result.{Result, and_then}
 use Rattle.ir_records.specs.Record.{decoded}
 use Rattle.ir_records.specs.Outcome.{Outcome}
 use Rattle.ir_records.specs.Outcome.{Accepted, Refused}
-use Rattle.ir_records.specs.Refusal.{number_of}
-use Rattle.ir_records.specs.declared.Refusal.{Refusal}
 use Rattle.proc_layouter.specs.Serving.{record_then_layout}
 use Rattle.valid_type_info.specs.declared.Row.{Row}
 use Rattle.valid_arena.specs.Arena.{judged_at}
@@ -19,7 +17,3 @@ after_both (Refused number ty member detail) second first = first
 -- numbers 2 to 7 of type i and then its row, in the order of one type
 abbrev pub laid_then_judged : (least c : ℕ) (ts ms : List ℕ) → ℕ → Result Row
 laid_then_judged least c ts ms i = and_then (record_then_layout ts ms i) (λ _. judged_at least c (decoded ts ms) i)
-
--- the answer of an arena that is refused
-abbrev pub refused_by : Refusal → Outcome
-refused_by r = Refused (number_of r.fault) r.ty r.member r.detail

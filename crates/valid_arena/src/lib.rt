@@ -5,7 +5,7 @@
 // Kept: `rows`, `n`: the caller may lend rows for more types than there are, and gets the rest back as it was.
 #![tactic(auto)]
 
-ghost use Rattle.ir_records.specs.Refusal.{outcome_of};
+ghost use Rattle.ir_records.specs.Refusal.{outcome_of, refused_by};
 ghost use Rattle.std.specs.Prelude.{◌≡◌, true, ◌*◌, ◌≤◌, length, take, drop};
 ghost use Rattle.ir_records.specs.Record.{type_count};
 ghost use Rattle.ir_records.specs.Fields.{tables_fit};
@@ -15,9 +15,9 @@ ghost use Rattle.ir_rows.specs.Rows.{cleared};
 ghost use Rattle.proc_layouter.specs.Layouter.{layout_outcome, rows_after};
 ghost use Rattle.valid_type_info.specs.Verdict.{least_for};
 ghost use Rattle.valid_arena.specs.Arena.{row_at, arena_outcome, arena_rows, arena_answer, arena_words};
-ghost use Rattle.valid_arena.specs.Serving.{laid_then_judged, refused_by};
+ghost use Rattle.valid_arena.specs.Serving.{laid_then_judged};
 
-use ir_records::{Fault, Refusal};
+use ir_records::Refusal;
 use valid_type_info::UniformRule;
 
 // Numbers 2 to 7 and then the row, type by type, over n types, up to the first refusal. Each row is made from those that this loop has written.
@@ -73,7 +73,7 @@ fn judge_tables(
     ensures value { outcome_of result ≡ arena_outcome capabilities types.now members.now }
     ensures rows_after { rows.new ≡ rows_after (outcome_of result) (arena_rows rule capabilities types.now members.now n) n rows.old }
 {
-    // Kept: what is refused is worked out with the rows, which a closure for `map_err` would have to borrow.
+    // Kept: no `map_err`, whose contract says what its closure answers and not what it writes; this one writes the rows.
     if let Err(found) = judge_all(capabilities, rule, types, members, rows, n) {
         return Err(refused(types, members, rows, n, found));
     }
@@ -94,11 +94,8 @@ pub fn judge(
     ensures value { outcome_of result ≡ arena_answer capabilities types.now members.now rows.old }
     ensures rows_after { rows.new ≡ arena_words rule capabilities types.now members.now rows.old }
 {
-    let known = ir_records::capabilities_known(capabilities);
-    let fits = ir_records::tables_fit(types.len(), members.len(), rows.len());
-    if !(known & fits) {
-        return Err(Refusal::of(Fault::TableLength));
-    }
+    ir_records::capabilities_known(capabilities)?;
+    ir_records::tables_fit(types.len(), members.len(), rows.len())?;
     let n = ir_records::type_count(types) as u32;
     judge_tables(capabilities, rule, types, members, rows, n)
 }
@@ -114,9 +111,7 @@ pub fn check(
     ensures value { outcome_of result ≡ arena_answer capabilities types.now members.now rows.old }
     ensures rows_after { rows.new ≡ arena_words rule capabilities types.now members.now rows.old }
 {
-    if !ir_records::capabilities_known(capabilities) {
-        return Err(Refusal::of(Fault::TableLength));
-    }
+    ir_records::capabilities_known(capabilities)?;
     proc_layouter::layout(types, members, rows)?;
     judge(types, members, capabilities, rule, rows)
 }

@@ -35,7 +35,7 @@ fn is_other(part: &[u32], j: u32) -> bool
 }
 
 // Whether one of the first n members is such.
-// Kept: `part`, `n`: as source_at.
+// Kept: `part`, `n`: of the caller, as pair_of has them.
 fn other_location(part: &[u32], n: u32) -> bool
     ensures { result ≡ other_location part.now n }
 {
@@ -62,20 +62,15 @@ impl From<BlendFault> for TypeRefusal {
 }
 
 // Number 8, and 34 with detail 1 and 2, of member j.
-fn source_of(dual: bool, part: &[u32], j: u32) -> Result<(), TypeRefusal>
-    ensures { judged result ≡ source_result dual part.now j }
+fn source_of(capabilities: u32, part: &[u32], j: u32) -> Result<(), TypeRefusal>
+    ensures { judged result ≡ source_result (bit capabilities dual_source_blending) part.now j }
 {
     let word = ir_records::member_source(part, j);
     let location = ir_records::member_location(part, j);
     if word == 0 {
         return Ok(());
     }
-    if !dual {
-        return Err(TypeRefusal::with_detail(
-            Fault::MissingCapability,
-            valid_width::DUAL_SOURCE_BLENDING,
-        ));
-    }
+    valid_width::require_type_capability(capabilities, valid_width::DUAL_SOURCE_BLENDING)?;
     if !((location == 1) & (word <= 2)) {
         return Err(BlendFault::InvalidBlendSrcIndex.into());
     }
@@ -87,46 +82,28 @@ fn source_of(dual: bool, part: &[u32], j: u32) -> Result<(), TypeRefusal>
 
 // The same of the first n members, one after the other.
 // Kept: `part`, `n`: as source_at.
-pub fn sources_of(dual: bool, part: &[u32], n: u32) -> Result<(), TypeRefusal>
-    ensures { judged result ≡ sources_after dual part.now n }
+pub fn sources_of(capabilities: u32, part: &[u32], n: u32) -> Result<(), TypeRefusal>
+    ensures { judged result ≡ sources_after (bit capabilities dual_source_blending) part.now n }
 {
     for j in 0..n {
-        source_of(dual, part, j)?;
+        source_of(capabilities, part, j)?;
     }
     Ok(())
-}
-
-// Kept: `a`, `b`, `c`, `d`, `e`: the words of a record, to make one of.
-fn six(kind: Kind, a: u32, b: u32, c: u32, d: u32, e: u32) -> Words
-    ensures { result ≡ record { kind = kind_number kind; a = a; b = b; c = c; d = d; e = e } }
-{
-    Words {
-        kind: kind as u32,
-        a,
-        b,
-        c,
-        d,
-        e,
-    }
 }
 
 fn leaf_words(leaf: Leaf) -> Words
     ensures { result ≡ leaf_words leaf }
 {
     match leaf {
-        Leaf::Scalar(k, w) => six(Kind::Scalar, k, w, 0, 0, 0),
-        Leaf::Vector(n, k, w) => six(Kind::Vector, n, k, w, 0, 0),
-        Leaf::Matrix(columns, rows, k, w) => six(Kind::Matrix, columns, rows, k, w, 0),
-        Leaf::CooperativeMatrix(columns, rows, k, w, role) => six(
-            Kind::CooperativeMatrix,
-            columns,
-            rows,
-            k,
-            w,
-            role,
-        ),
-        Leaf::Atomic(k, w) => six(Kind::Atomic, k, w, 0, 0, 0),
-        Leaf::RayQuery(v) => six(Kind::RayQuery, v, 0, 0, 0, 0),
+        Leaf::Scalar(k, w) => Words::of(Kind::Scalar as u32, k, w, 0, 0),
+        Leaf::Vector(n, k, w) => Words::of(Kind::Vector as u32, n, k, w, 0),
+        Leaf::Matrix(columns, rows, k, w) => Words::of(Kind::Matrix as u32, columns, rows, k, w),
+        Leaf::CooperativeMatrix(columns, rows, k, w, role) => Words {
+            e: role,
+            ..Words::of(Kind::CooperativeMatrix as u32, columns, rows, k, w)
+        },
+        Leaf::Atomic(k, w) => Words::of(Kind::Atomic as u32, k, w, 0, 0),
+        Leaf::RayQuery(v) => Words::of(Kind::RayQuery as u32, v, 0, 0, 0),
     }
 }
 
@@ -139,14 +116,14 @@ fn inner_words(inner: TypeInner) -> Words
             base,
             count,
             stride,
-        } => six(Kind::Array, base, 0, count, stride, 0),
-        TypeInner::RuntimeArray { base, stride } => six(Kind::Array, base, 1, 0, stride, 0),
-        TypeInner::Struct { count, span } => six(Kind::Struct, 0, count, span, 0, 0),
-        TypeInner::Other(_) => six(Kind::Image, 0, 0, 0, 0, 0),
+        } => Words::array(base, Some(count), stride),
+        TypeInner::RuntimeArray { base, stride } => Words::array(base, None, stride),
+        TypeInner::Struct { count, span } => Words::of(Kind::Struct as u32, 0, count, span, 0),
+        TypeInner::Other(_) => Words::of(Kind::Image as u32, 0, 0, 0, 0),
     }
 }
 
-// Kept: not equality, since a struct is the same type as none.
+// Kept: more than `==`: a struct is never the same type, not even as itself, since there the Rust asserts.
 fn same_words(v: Words, w: Words) -> bool
     ensures { result ≡ same_words v w }
 {
@@ -154,7 +131,7 @@ fn same_words(v: Words, w: Words) -> bool
 }
 
 // Whether two records say the same type, and no struct.
-// Kept: not equality of records, since a struct is the same type as none.
+// Kept: as same_words.
 fn same_type(types: &[u32], s: u32, t: u32) -> bool
     ensures { result ≡ same_type (type_inner types.now s) (type_inner types.now t) }
 {
@@ -164,7 +141,7 @@ fn same_type(types: &[u32], s: u32, t: u32) -> bool
 }
 
 // Number 34 with detail 3 to 5, or the flags, of the struct whose members a and b have source 0 and 1. own: the flags of a's type.
-// Kept: `part`, `count`: as source_at.
+// Kept: `part`, `count`: any part and any count will do; Members says that the one is as long as the other, and would ask that of a caller.
 pub fn pair_of(
     types: &[u32],
     own: u32,
@@ -213,6 +190,8 @@ fn struct_blend<F: Fn(u32) -> u32>(
     }
 }
 
+// Kept: `sourced ≡ false → Sourceless part.words.now (member_count part.words.now)`, `sourced ≡ false → Sourceless part.now (member_count part.now)`: the flag
+// is found with the alignment or with the bounds, and the part is that of the struct; a struct of both would be made of them for this call.
 // All rules of blend sources, of a struct whose members leave these flags. sourced: a member may have one; flags_of: the flags of a type.
 pub fn blended_flags<F: Fn(u32) -> u32>(
     sourced: bool,
@@ -229,8 +208,7 @@ pub fn blended_flags<F: Fn(u32) -> u32>(
     if !sourced {
         return Ok(flags);
     }
-    let dual = valid_flags::capable(capabilities, valid_width::DUAL_SOURCE_BLENDING);
-    sources_of(dual, part.words, part.count)?;
+    sources_of(capabilities, part.words, part.count)?;
     struct_blend(types, flags_of, part, flags)
 }
 
@@ -249,9 +227,8 @@ pub fn source_before(
     if !sourced {
         return Ok(());
     }
-    let dual = valid_flags::capable(capabilities, valid_width::DUAL_SOURCE_BLENDING);
     if refusal.fault == Fault::InvalidData {
-        return sources_of(dual, part, refusal.member);
+        return sources_of(capabilities, part, refusal.member);
     }
-    sources_of(dual, part, refusal.member + 1)
+    sources_of(capabilities, part, refusal.member + 1)
 }

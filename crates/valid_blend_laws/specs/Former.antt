@@ -1,7 +1,7 @@
 -- 02, E9: "Arenas without blend sources give the former rows." The former definitions: member records of two words, type and offset, and no
 -- rule of blend sources. They are those of valid_arena (Arena) and of the crates below it but for what stands here. Rows are by the older uniform rule.
 -- Assumes nothing.
-use Rattle.std.specs.Prelude.{Bool, ◌&&◌, List, [], ◌∷◌, ◌≡◌, ℕ, ◌+◌, ◌*◌, ◌/◌, ◌%◌, ◌<◌, eqb, leb, ltb, length, get_or}
+use Rattle.std.specs.Prelude.{Bool, ◌&&◌, List, [], ◌∷◌, ℕ, ◌+◌, ◌*◌, ◌/◌, ◌%◌, ◌<◌, eqb, leb, ltb, length, get_or}
 use Rattle.ir_records.specs.Result.{Result, ok, pick, require, and_then}
 use Rattle.ir_records.specs.Record.{Decoded, decoded, type_words, type_count, member_count, member_type, member_offset, struct_members, Sourceless}
 use Rattle.ir_records.specs.Fields.{most_types, most_members, row_words, fields_at}
@@ -10,7 +10,6 @@ use Rattle.ir_records.specs.Outcome.{Outcome}
 use Rattle.ir_records.specs.Outcome.{Refused}
 use Rattle.ir_records.specs.declared.TypeInner.{TypeInner}
 use Rattle.ir_records.specs.declared.TypeInner.TheVariants.{Plain, Array, RuntimeArray, Struct, Other}
-use Rattle.proc_type_alignment.specs.declared.TypeLayout.{TypeLayout}
 use Rattle.proc_layouter.specs.Layouter.{layout, layout_at, rows_after}
 use Rattle.valid_type_info.specs.declared.Row.{Row}
 use Rattle.valid_type_info.specs.TypeInfo.{empty_row, words_of, row_sizes, row_flags}

@@ -5,9 +5,9 @@ ghost use Rattle.std.specs.Prelude.{◌≡◌, ◌<◌};
 ghost use Rattle.std.specs.Int.Bits.{bit_and, bit_or};
 ghost use Rattle.ir_records.specs.Kinds.{kind_number};
 ghost use Rattle.valid_flags.specs.Flags.{bit, data_bit, sized_bit, io_shareable_bit, host_shareable_bit, creation_resolved_bit, is_sized_data, starting_flags, scalar_flags, space_flag, pointer_flags, not_host_shareable};
-ghost use Rattle.valid_flags.specs.Serving.{flags_over_base};
+ghost use Rattle.valid_flags.specs.Serving.{NamesSpace, flags_over_base};
 
-use ir_records::{Kind, ScalarKind};
+use ir_records::{Fault, Kind, ScalarKind, TypeRefusal};
 
 /// naga's AddressSpace, by its number in a record.
 #[derive(Clone, Copy, Debug, PartialEq, Eq)]
@@ -22,6 +22,29 @@ pub enum AddressSpace {
     TaskPayload = 7,
     RayPayload = 8,
     IncomingRayPayload = 9,
+}
+
+impl TryFrom<u32> for AddressSpace {
+    type Error = TypeRefusal;
+
+    ghost try_from_gives = { NamesSpace };
+
+    /// Number 2 for a number of no address space.
+    fn try_from(number: u32) -> Result<Self, TypeRefusal> {
+        match number {
+            0 => Ok(AddressSpace::Function),
+            1 => Ok(AddressSpace::Private),
+            2 => Ok(AddressSpace::WorkGroup),
+            3 => Ok(AddressSpace::Uniform),
+            4 => Ok(AddressSpace::Storage),
+            5 => Ok(AddressSpace::Handle),
+            6 => Ok(AddressSpace::Immediate),
+            7 => Ok(AddressSpace::TaskPayload),
+            8 => Ok(AddressSpace::RayPayload),
+            9 => Ok(AddressSpace::IncomingRayPayload),
+            _ => Err(TypeRefusal::of(Fault::FieldOutside)),
+        }
+    }
 }
 
 // The bits that are tested for.
@@ -81,6 +104,7 @@ fn bit(word: u32, k: u32) -> bool
 }
 
 // Bit k of a capability word.
+// Kept: this and the five after it are bit of a word, each by the name of what the bit says; with the bit as a parameter they would be bit itself.
 pub fn capable(capabilities: u32, k: u32) -> bool
     requires { k < 32 }
     ensures { result ≡ bit capabilities k }
@@ -143,21 +167,33 @@ pub fn starting_flags(kind: Kind) -> u32
 pub fn scalar_flags(scalar_kind: u32, flags: u32) -> u32
     ensures { result ≡ scalar_flags scalar_kind flags }
 {
-    if scalar_kind == ScalarKind::Bool as u32 {
-        flags & UNSHAREABLE
-    } else {
-        flags
+    match ScalarKind::try_from(scalar_kind) {
+        Ok(ScalarKind::Bool) => flags & UNSHAREABLE,
+        _ => flags,
     }
 }
 
-// ptr_space_argument_flag: of function locals, private data and both ray payloads, which come last.
+// ptr_space_argument_flag: of function locals, private data and both ray payloads.
 fn space_flag(space: u32) -> u32
     ensures { result ≡ space_flag space }
 {
-    if (space <= AddressSpace::Private as u32) | (AddressSpace::RayPayload as u32 <= space) {
-        ARGUMENT
-    } else {
-        0
+    match AddressSpace::try_from(space) {
+        Ok(
+            AddressSpace::Function
+            | AddressSpace::Private
+            | AddressSpace::RayPayload
+            | AddressSpace::IncomingRayPayload,
+        ) => ARGUMENT,
+        Ok(
+            AddressSpace::Uniform
+            | AddressSpace::Storage
+            | AddressSpace::WorkGroup
+            | AddressSpace::Handle
+            | AddressSpace::Immediate
+            | AddressSpace::TaskPayload,
+        ) => 0,
+        // Number 2 refuses a record with such a number; the definition has it above the last of the spaces.
+        Err(_) => ARGUMENT,
     }
 }
 

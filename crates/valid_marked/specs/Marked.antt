@@ -1,6 +1,6 @@
 -- 01, 'Marked examples of layouts': M1 to M12 as rows of one table, by the older uniform rule. 02, E8: arenas by the newer.
 -- Assumes nothing.
-use Rattle.std.specs.Prelude.{◌≡◌, Bool, true, false, ◌&&◌, List, [], ◌∷◌, ◌++◌, ℕ, suc, ◌+◌, ◌*◌, eqb, length, take, drop, replicate}
+use Rattle.std.specs.Prelude.{◌≡◌, List, [], ◌∷◌, ◌++◌, ℕ, ◌+◌, ◌*◌, length, take, drop, replicate}
 use Rattle.ir_records.specs.Record.{type_count}
 use Rattle.ir_records.specs.Fields.{row_words}
 use Rattle.ir_records.specs.Outcome.{Outcome}

@@ -1,6 +1,6 @@
 -- Laws of a struct's members: what an accepted struct says of each.
 -- Assumes nothing.
-use mathlib.Core.Path.{◌≡◌, sym, ap, subst}
+use mathlib.Core.Path.{◌≡◌, sym, ap, subst, ◌∙◌}
 use mathlib.Core.Bool.{Bool, true, false, ◌&&◌, ◌||◌}
 use mathlib.Core.Logic.{◌⊎◌, inl, inr}
 use mathlib.Core.List.{List}
@@ -17,7 +17,9 @@ use Rattle.ir_records.proofs.ResultLaws.{required, and_then_ok, ok_inj, and_left
 use Rattle.proc_alignment.specs.Alignment.{most}
 use Rattle.valid_flags.specs.Flags.{bit, data_bit, sized_bit, host_shareable_bit, creation_resolved_bit, not_host_shareable}
 use Rattle.valid_flags.proofs.BitLaws.{bit-and, bit_and_both}
-use Rattle.std.specs.Prelude.{Option}
+use Rattle.std.specs.Prelude.{Option, Some, None, SomeIff}
+use Rattle.std.specs.Prelude.{Ok}
+use Rattle.std.specs.Option.{ok_or}
 use Rattle.valid_type_info.specs.declared.PreviousStruct.{PreviousStruct}
 use Rattle.valid_type_info.specs.Verdict.{previous_of, distance_ok}
 use Rattle.valid_member_bounds.specs.declared.Bounds.{Bounds}
@@ -200,3 +202,8 @@ module _ (inner : ℕ → TypeInner) (sizes flags : ℕ → ℕ) (count span : �
       let a = last_taken j b e in
       rw a.2.is
       (data_stays (leb a.0.end (member_offset members j)) a.0.flags (flags (member_type members j)) (members_data j a.0 a.1) a.2.is_data)
+
+-- what a sum says that is asked for
+pub summed : {E : Type 0} (r : Option ℕ) (e : E) (P : Type 0) (v n : ℕ) → SomeIff r P v → ok_or r e ≡ Ok n → P × (n ≡ v)
+summed (Some x) e P v n h same = let at : x ≡ n = cc in (h.0, sym at ∙ h.1)
+summed None e P v n h same = cc

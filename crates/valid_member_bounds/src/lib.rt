@@ -28,7 +28,8 @@ pub struct BoundMember {
 }
 
 // Whether type t is an array; its kind tells.
-// Kept: beside `valid_type_flags::is_struct`: each says of what a record says what its kind tells, by a definition of its own.
+// Kept: beside `valid_type_flags::is_struct`: is_of_kind says that a number is the kind's, these what the record says; one function for both would
+// need a definition from kinds to tests of TypeInner, which no rule reads.
 pub fn is_array(types: &[u32], t: u32) -> bool
     ensures { result ≡ is_array (type_inner types.now t) }
 {
@@ -77,11 +78,11 @@ pub fn is_within(d: Distance) -> bool
 pub fn member_bounds(
     count: u32,
     span: u32,
-    within: bool,
+    distance: Distance,
     m: BoundMember,
     so_far: Bounds,
 ) -> Result<Bounds, TypeRefusal>
-    ensures { judged result ≡ bounds_by count span within m.array m.offset m.j m.size m.flags so_far }
+    ensures { judged result ≡ bounds_by count span (is_within distance) m.array m.offset m.j m.size m.flags so_far }
 {
     let end = so_far.end;
     if !is_member_data(m.flags) {
@@ -90,15 +91,14 @@ pub fn member_bounds(
     if !is_apart(end, m.offset) {
         return Err(TypeRefusal::of_member(Fault::MemberOverlap, m.j));
     }
-    let sum = (m.offset as u64) + (m.size as u64);
-    if proc_alignment::MOST < sum {
-        return Err(TypeRefusal::of_member(Fault::StructSum, m.j));
-    }
-    let next = sum as u32;
+    let next = m
+        .offset
+        .checked_add(m.size)
+        .ok_or(TypeRefusal::of_member(Fault::StructSum, m.j))?;
     if span < next {
         return Err(TypeRefusal::of_member(Fault::MemberOutOfBounds, m.j));
     }
-    if !within {
+    if !is_within(distance) {
         return Err(TypeRefusal::of_member(Fault::StructSum, m.j));
     }
     if !is_member_sized(m.flags, m.array, m.j, count) {

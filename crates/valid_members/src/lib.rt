@@ -44,7 +44,7 @@ fn member(
     let bounds = valid_member_bounds::member_bounds(
         s.part.count,
         s.span,
-        valid_member_bounds::is_within(d),
+        d,
         BoundMember {
             j: m.j,
             offset: m.offset,
@@ -172,10 +172,13 @@ fn ordered_member(s: &StructType, m: MemberAt, state: State) -> Option<State>
     })
 }
 
-// Kept: `from.taken ≤ s.now.part.count`: of how far a loop has come in this struct; a struct of both would borrow the one that is lent.
-// Kept: three loops promise the same of the state: what holds by whichever rule goes on holding by it. A ghost field of the state would fix one rule,
+// Kept: `from.taken ≤ s.now.part.count`: of how far a loop has come in this struct. A struct of both, as immediates_walk::Walk, would be made of each
+// state that a loop hands on, and Reached is one for every loop.
+// Kept: three functions promise the same of the state: what holds by whichever rule goes on holding by it. A ghost field of the state would fix one rule,
 // which these loops do not read.
-// The members of struct i from `taken` on, up to the first for which `member` is needed. They are taken alike by either rule.
+// Kept: beside `valid_members_plain::plain_members`, up to the first member whose step says none as well: one loop for both would take the step as a
+// closure, and the invariant of each, which its contract names, as a parameter.
+// The members of struct s from `taken` on, up to the first for which `member` is needed. They are taken alike by either rule.
 fn ordered_members(s: &StructType, from: Reached<State>) -> Reached<State>
     requires { from.taken ≤ s.now.part.count }
     ensures taken_le_taken { from.taken ≤ result.taken }
@@ -222,7 +225,7 @@ fn least_at(s: &StructType, j: u32, end: u32) -> u64
 fn alignment_of(v: Verdict) -> Option<u32>
     ensures { result ≡ alignment_of v }
 {
-    if v.is_ok() { Some(v.ty) } else { None }
+    v.is_ok().then_some(v.ty)
 }
 
 // The same state for the loop of valid_members_plain.
@@ -293,7 +296,7 @@ fn plain_from(s: &StructType, from: Reached<State>) -> Reached<State>
     }
 }
 
-// The members of struct i from `taken` on, up to the first that needs every rule or another loop. They are taken alike by either rule.
+// The members of struct s from `taken` on, up to the first that needs every rule or another loop. They are taken alike by either rule.
 fn together(s: &StructType, from: Reached<State>) -> Reached<State>
     requires { from.taken ≤ s.now.part.count }
     ensures taken_le_taken { from.taken ≤ result.taken }
@@ -325,8 +328,7 @@ fn step(rule: UniformRule, s: &StructType, at: Reached<State>) -> Result<State, 
     member(rule, s, m, array, next, row, at.state)
 }
 
-// The members of struct i from `taken` on, whose rows are in part; rows has those of the types before it. After one that takes every rule,
-// the next are taken together again.
+// The members of struct s from `taken` on, by every rule where one needs it. After one that does, the next are taken together again.
 pub fn members_of(
     rule: UniformRule,
     s: &StructType,

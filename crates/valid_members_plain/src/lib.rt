@@ -1,5 +1,5 @@
 // Members of a struct one after the other, as long as none breaks a rule: the member loop of validate_type in naga's valid/type.rs,
-// in fewer tests than `members` takes. The loop carries both verdicts, which stay Ok, or the storage verdict alone.
+// in fewer tests than `valid_members::member` takes. The loop carries both verdicts, which stay Ok, or the storage verdict alone.
 #![tactic(auto)]
 
 ghost use Rattle.std.specs.Prelude.{Option, Some, ◌≡◌, ℕ, ◌+◌, ◌*◌, ◌≤◌, ◌<◌, length, false};
@@ -42,15 +42,16 @@ pub fn least_after(types: &[u32], t: u32, offset: u32, end: u64) -> u64
     requires { t * 6 + 6 ≤ length types.now }
     ensures { result ≡ least_of end (struct_at (type_inner types.now t) offset) }
 {
-    if ir_records::own_word(types, t, 0) == Kind::Struct as u32 {
-        let span = ir_records::own_word(types, t, 3);
-        let apart = (offset as u64) + proc_alignment::round_up(valid_type_info::MIN_UNIFORM, span);
-        return if end < apart { apart } else { end };
+    let w = ir_records::own_record(types, t);
+    if w.is(Kind::Struct) {
+        let rounded = proc_alignment::round_up(valid_type_info::MIN_UNIFORM, w.c);
+        return end.max(u64::from(offset) + rounded);
     }
     end
 }
 
-// Kept: `t < before.i`, `before`, `t`, `offset`: these tests are made of each member in a loop, and a struct of the three would be made for each.
+// Kept: `t < before.i`, `before`, `t`, `offset`: StructType gives the fact for each member of its part. A type of an earlier type's number would be made of
+// it in each turn of the loops, with the rows beside it.
 // Whether both verdicts stay Ok after a member of type t, and no immediates word comes with it.
 fn keeps_verdicts(before: Earlier, t: u32, offset: u32) -> bool
     requires { t < before.i }

@@ -24,7 +24,7 @@ use valid_members::State;
 use valid_members_plain::Reached;
 use valid_type_info::{Row, StructType, UniformRule};
 
-// All members of struct i, by the rules that do not read blend sources. Where none breaks a rule, no member comes next, and the struct right before it
+// All members of struct s, by the rules that do not read blend sources. Where none breaks a rule, no member comes next, and the struct right before it
 // is not looked for.
 fn members_of(rule: UniformRule, s: &StructType) -> Result<State, TypeRefusal>
     ensures { Told (least_for rule) (type_inner s.now.types.now) (rows_in s.now.before.rows.now) s.now.before.i s.now.part.count s.now.span s.now.part.words.now result }
@@ -59,6 +59,10 @@ fn members_of(rule: UniformRule, s: &StructType) -> Result<State, TypeRefusal>
 }
 
 // The row of struct i, whose fields and rows are in order and whose alignment is known.
+// Kept: beside `place_short_flags::struct_flags`: the same three steps, but this one carries verdicts between them and writes a row; one function would take
+// the members' result, which differs, and closures for what is read of it and for what is done with the flags.
+// Kept: `located.sourced ≡ false → Sourceless part.words.now (member_count part.words.now)`: the flag is in what the alignment was found with, and the part
+// in what the struct is made of; a struct of both would be made here of the two.
 fn members_row(
     capabilities: u32,
     rule: UniformRule,
@@ -152,7 +156,8 @@ pub fn record_row(
     ensures { Settled result (i * 14) rows.old rows.new (record_row (least_for rule) capabilities types.now members.now (take (i * 14) rows.old) i) }
 {
     let w = ir_records::own_record(types, i);
-    // Kept: the kind is asked again in `valid_types::judge_plain`: what these two have takes the rows with `&mut`, and the twelve kinds there none.
+    // Kept: two tests and no match on the kind: `valid_types::judge_plain` has the match, over kinds whose row it only works out; with one match here each
+    // of its twelve arms would write the row itself.
     if w.is(Kind::Struct) {
         return struct_row(capabilities, rule, types, members, rows, i, w);
     }

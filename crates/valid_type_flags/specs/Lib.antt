@@ -1,1 +1,2 @@
 pub mod TypeFlags
+pub mod Serving

@@ -3,13 +3,14 @@
 // of both, each call would say `Scalar { kind: w.b, width: w.c }` for `w.b, w.c`, and no contract would get shorter, since none has a fact of the two.
 #![tactic(auto)]
 
-ghost use Rattle.std.specs.Prelude.{◌≡◌, ℕ};
+ghost use Rattle.std.specs.Prelude.{◌≡◌, ℕ, eqb};
 ghost use Rattle.ir_records.specs.Serving.{size_of};
 ghost use Rattle.ir_records.specs.Record.{atomic_kind, value_pointer_kind, type_inner};
 ghost use Rattle.ir_records.specs.Refusal.{judged};
 ghost use Rattle.valid_flags.specs.Flags.{starting_flags, pointer_flags};
 ghost use Rattle.valid_width.specs.Width.{check_width, atomic_width};
 ghost use Rattle.valid_type_flags.specs.TypeFlags.{with_width, cooperative_flags, vertex_flags, matrix_flags, ray_query_flags, image_flags, is_struct, is_external_image, pointer_to, acceleration_flags, is_binding_base, binding_array_of};
+ghost use Rattle.valid_type_flags.specs.Serving.{NamesDimension, NamesClass, arrayed_image, external_image};
 
 use ir_records::{Fault, Kind, ScalarKind, TypeRefusal};
 use valid_flags::AddressSpace;
@@ -23,6 +24,23 @@ pub enum ImageDimension {
     Cube = 3,
 }
 
+impl TryFrom<u32> for ImageDimension {
+    type Error = TypeRefusal;
+
+    ghost try_from_gives = { NamesDimension };
+
+    /// Number 2 for a number of no dimension.
+    fn try_from(number: u32) -> Result<Self, TypeRefusal> {
+        match number {
+            0 => Ok(ImageDimension::D1),
+            1 => Ok(ImageDimension::D2),
+            2 => Ok(ImageDimension::D3),
+            3 => Ok(ImageDimension::Cube),
+            _ => Err(TypeRefusal::of(Fault::FieldOutside)),
+        }
+    }
+}
+
 /// naga's ImageClass, by its number in a record, which has not what the class says besides.
 #[derive(Clone, Copy, Debug, PartialEq, Eq)]
 pub enum ImageClass {
@@ -32,17 +50,35 @@ pub enum ImageClass {
     Storage = 3,
 }
 
+impl TryFrom<u32> for ImageClass {
+    type Error = TypeRefusal;
+
+    ghost try_from_gives = { NamesClass };
+
+    /// Number 2 for a number of no class.
+    fn try_from(number: u32) -> Result<Self, TypeRefusal> {
+        match number {
+            0 => Ok(ImageClass::Sampled),
+            1 => Ok(ImageClass::Depth),
+            2 => Ok(ImageClass::External),
+            3 => Ok(ImageClass::Storage),
+            _ => Err(TypeRefusal::of(Fault::FieldOutside)),
+        }
+    }
+}
+
 pub fn cooperative_flags(capabilities: u32, kind: u32, width: u32) -> Result<u32, TypeRefusal>
     ensures { judged result ≡ cooperative_flags capabilities kind width }
 {
     valid_width::require_type_capability(capabilities, valid_width::COOPERATIVE_MATRIX)?;
-    if (kind != ScalarKind::Float as u32) | !matches!(width, 2 | 4) {
-        return Err(TypeRefusal::of(Fault::MatrixElementNotFloat));
+    match (ScalarKind::try_from(kind), width) {
+        (Ok(ScalarKind::Float), 2 | 4) => Ok(valid_flags::starting_flags(Kind::CooperativeMatrix)),
+        _ => Err(TypeRefusal::of(Fault::MatrixElementNotFloat)),
     }
-    Ok(valid_flags::starting_flags(Kind::CooperativeMatrix))
 }
 
 // vertex_return asks for a capability of its own.
+// Kept: vertex_return is a word of a record, of which any number but 0 asks.
 fn vertex_flags(capabilities: u32, vertex_return: u32, flags: u32) -> Result<u32, TypeRefusal>
     ensures { judged result ≡ vertex_flags capabilities vertex_return flags }
 {
@@ -55,11 +91,13 @@ fn vertex_flags(capabilities: u32, vertex_return: u32, flags: u32) -> Result<u32
 pub fn matrix_flags(capabilities: u32, kind: u32, width: u32) -> Result<u32, TypeRefusal>
     ensures { judged result ≡ matrix_flags capabilities kind width }
 {
-    if kind != ScalarKind::Float as u32 {
-        return Err(TypeRefusal::of(Fault::MatrixElementNotFloat));
+    match ScalarKind::try_from(kind) {
+        Ok(ScalarKind::Float) => {
+            valid_width::check_width(capabilities, kind, width)?;
+            Ok(valid_flags::starting_flags(Kind::Matrix))
+        }
+        _ => Err(TypeRefusal::of(Fault::MatrixElementNotFloat)),
     }
-    valid_width::check_width(capabilities, kind, width)?;
-    Ok(valid_flags::starting_flags(Kind::Matrix))
 }
 
 pub fn atomic_flags(capabilities: u32, kind: u32, width: u32) -> Result<u32, TypeRefusal>
@@ -80,6 +118,39 @@ pub fn ray_query_flags(capabilities: u32, vertex_return: u32) -> Result<u32, Typ
     )
 }
 
+// Kept: `dim`, `arrayed` and `class` are words of any record, here and in the two below: a number of no dimension is none of those asked for, and goes on.
+// Of an arrayed image: number 22 for one of three dimensions; an array of cubes asks for a capability.
+fn arrayed_image(capabilities: u32, dim: u32) -> Result<(), TypeRefusal>
+    ensures { judged result ≡ arrayed_image capabilities dim }
+{
+    match ImageDimension::try_from(dim) {
+        Ok(ImageDimension::D3) => Err(TypeRefusal::of(Fault::UnsupportedImageType)),
+        Ok(ImageDimension::Cube) => {
+            valid_width::require_type_capability(capabilities, valid_width::CUBE_ARRAY_TEXTURES)
+        }
+        _ => Ok(()),
+    }
+}
+
+// Of an external image: number 22 for another one than a plain image of two dimensions; then its capability.
+fn external_image(capabilities: u32, dim: u32, arrayed: u32) -> Result<(), TypeRefusal>
+    ensures { judged result ≡ external_image capabilities dim arrayed }
+{
+    match (ImageDimension::try_from(dim), arrayed) {
+        (Ok(ImageDimension::D2), 0) => {
+            valid_width::require_type_capability(capabilities, valid_width::TEXTURE_EXTERNAL)
+        }
+        _ => Err(TypeRefusal::of(Fault::UnsupportedImageType)),
+    }
+}
+
+// Whether a class is External.
+fn is_external(class: u32) -> bool
+    ensures { result ≡ eqb class 2 }
+{
+    matches!(ImageClass::try_from(class), Ok(ImageClass::External))
+}
+
 pub fn image_flags(
     capabilities: u32,
     dim: u32,
@@ -88,17 +159,11 @@ pub fn image_flags(
 ) -> Result<u32, TypeRefusal>
     ensures { judged result ≡ image_flags capabilities dim arrayed class }
 {
-    if (arrayed == 1) & (dim == ImageDimension::D3 as u32) {
-        return Err(TypeRefusal::of(Fault::UnsupportedImageType));
+    if arrayed == 1 {
+        arrayed_image(capabilities, dim)?;
     }
-    if (arrayed == 1) & (dim == ImageDimension::Cube as u32) {
-        valid_width::require_type_capability(capabilities, valid_width::CUBE_ARRAY_TEXTURES)?;
-    }
-    if class == ImageClass::External as u32 {
-        if (dim != ImageDimension::D2 as u32) | (arrayed != 0) {
-            return Err(TypeRefusal::of(Fault::UnsupportedImageType));
-        }
-        valid_width::require_type_capability(capabilities, valid_width::TEXTURE_EXTERNAL)?;
+    if is_external(class) {
+        external_image(capabilities, dim, arrayed)?;
     }
     Ok(valid_flags::starting_flags(Kind::Image))
 }
@@ -110,7 +175,8 @@ pub fn pointer_to(base: u32, space: u32) -> Result<u32, TypeRefusal>
     if !valid_flags::is_data(base) {
         return Err(TypeRefusal::of(Fault::InvalidPointerBase));
     }
-    if !(valid_flags::is_sized(base) | (space == AddressSpace::Storage as u32)) {
+    let stored = matches!(AddressSpace::try_from(space), Ok(AddressSpace::Storage));
+    if !(valid_flags::is_sized(base) | stored) {
         return Err(TypeRefusal::of(Fault::InvalidPointerToUnsized));
     }
     Ok(valid_flags::pointer_flags(space, valid_flags::starting_flags(Kind::Pointer)))
@@ -129,7 +195,7 @@ fn is_external_image(types: &[u32], t: u32) -> bool
     ensures { result ≡ is_external_image (type_inner types.now t) }
 {
     let class = ir_records::type_word(types, t, 3);
-    ir_records::is_of_kind(types, t, Kind::Image) & (class == ImageClass::External as u32)
+    ir_records::is_of_kind(types, t, Kind::Image) & is_external(class)
 }
 
 // Number 23: data in a binding array is a struct. base: the flags of type t.

@@ -1,7 +1,7 @@
 -- The distance rule by either rule on uniform verdicts: where there is distance enough it leaves the verdict as it is, and so it does wherever the minimum
 -- alignment is that of storage. Here alone the two rules are told apart.
 -- Assumes nothing.
-use mathlib.Core.Path.{◌≡◌, refl}
+use mathlib.Core.Path.{◌≡◌, refl, ◌∙◌}
 use mathlib.Core.Bool.{true, false}
 use Prim.Native.Nat.{ℕ, ◌+◌, ◌-◌}
 use lib.Dec.{leb}
@@ -10,7 +10,9 @@ use Rattle.valid_type_info.specs.declared.Verdict.{Verdict}
 use Rattle.valid_type_info.specs.declared.UniformRule.{UniformRule}
 use Rattle.valid_type_info.specs.declared.UniformRule.TheVariants.{Older, Newer}
 use Rattle.valid_type_info.specs.declared.Distance.TheVariants.{Short}
-use Rattle.std.specs.Prelude.{Option}
+use Rattle.std.specs.Prelude.{Option, Result, Ok, Err, OkIff}
+use Rattle.std.specs.Result.{result_ok}
+use Rattle.std.proofs.lemmas.Option.{none-some, same_Some}
 use Rattle.valid_type_info.specs.declared.PreviousStruct.{PreviousStruct}
 use Rattle.std.specs.Prelude.{None, Some}
 use Rattle.valid_type_info.specs.Verdict.{min_uniform, min_storage, least_for, distance_verdict}
@@ -40,3 +42,12 @@ pub distance_short : (rule : UniformRule) (i j offset span at : ℕ) (v : Verdic
 unfolding distance_verdict
 distance_short Older i j offset span at v h = rw h refl
 distance_short Newer i j offset span at v h = refl
+
+-- what a conversion says whose value is asked for
+pub converted : {E : Type 0} (r : Result ℕ E) (P : Type 0) (v n : ℕ) → OkIff r P v → Some n ≡ result_ok r → P × (n ≡ v)
+converted (Ok x) P v n h e = (h.0, same_Some n x e ∙ h.1)
+converted (Err x) P v n h e = cc
+
+pub not_converted : {E : Type 0} (r : Result ℕ E) (P : Type 0) (v : ℕ) → OkIff r P v → None ≡ result_ok r → ¬ P
+not_converted (Ok x) P v h e = absurd (none-some x e)
+not_converted (Err x) P v h e = h

@@ -1,19 +1,52 @@
 // TypeInfo of naga's valid/type.rs: what a result row has, verdicts and the rules that make them.
 #![tactic(auto)]
 
-ghost use Rattle.std.specs.Prelude.{◌≡◌, Bool, true, ℕ, ◌*◌, ◌≤◌, ◌<◌, length};
+ghost use Rattle.std.specs.Prelude.{◌≡◌, Bool, true, ℕ, ◌*◌, ◌≤◌, ◌<◌, length, Some};
+ghost use Rattle.std.specs.Option.{unwrap_or};
 ghost use Rattle.ir_records.specs.Record.{member_type};
 ghost use Rattle.valid_type_info.specs.declared.Verdict as verdict;
 ghost use Rattle.valid_type_info.specs.declared.UniformRule as rule;
+ghost use Rattle.valid_type_info.specs.declared.Distance.TheVariants.{Overflow};
 ghost use Rattle.valid_type_info.specs.Verdict.{NamesRule, is_ok, min_uniform, least_for, ok_verdict, array_verdict, share_verdict, offset_verdict, member_verdict, distance_verdict, distance_ok, unsized_verdict, span_verdict};
-ghost use Rattle.valid_type_info.specs.Serving.{after_distance, is_within};
+ghost use Rattle.valid_type_info.specs.Serving.{NamesDisalignment, after_distance, is_within};
 
-use ir_records::{Fault, Members, Refusal};
+use ir_records::{Fault, Members, Refusal, TypeRefusal};
 use ir_rows::Earlier;
 
-// naga's LayoutCompatibility: code 0 is Ok, with the alignment in ty.
-// Kept: a number for a code, since these are the five words that stand in a row, which the caller reads; a base's verdict is passed on as it lies there.
+/// naga's Disalignment: why a verdict is not Ok, by its code.
 #[derive(Clone, Copy, Debug, PartialEq, Eq)]
+pub enum Disalignment {
+    ArrayStride = 1,
+    StructSpan = 2,
+    MemberOffset = 3,
+    MemberOffsetAfterStruct = 4,
+    UnsizedMember = 5,
+    NonHostShareable = 6,
+}
+
+impl TryFrom<u32> for Disalignment {
+    type Error = TypeRefusal;
+
+    ghost try_from_gives = { NamesDisalignment };
+
+    /// Number 2 for a code of none: 0, which is Ok, or above 6.
+    fn try_from(code: u32) -> Result<Self, TypeRefusal> {
+        match code {
+            1 => Ok(Disalignment::ArrayStride),
+            2 => Ok(Disalignment::StructSpan),
+            3 => Ok(Disalignment::MemberOffset),
+            4 => Ok(Disalignment::MemberOffsetAfterStruct),
+            5 => Ok(Disalignment::UnsizedMember),
+            6 => Ok(Disalignment::NonHostShareable),
+            _ => Err(TypeRefusal::of(Fault::FieldOutside)),
+        }
+    }
+}
+
+// naga's LayoutCompatibility: code 0 is Ok, with the alignment in ty.
+// Kept: five words and no Result of an alignment: they stand so in a row, which the caller of the C interface reads, and a base's verdict is passed on
+// as it lies there. Each reader of rows would make such a Result of any words, and each writer the words again.
+#[derive(Clone, Copy, Debug, Default, PartialEq, Eq)]
 pub struct Verdict {
     pub code: u32,
     pub ty: u32,
@@ -23,7 +56,7 @@ pub struct Verdict {
 }
 
 // The fourteen words of a result row.
-#[derive(Clone, Copy, Debug, PartialEq, Eq)]
+#[derive(Clone, Copy, Debug, Default, PartialEq, Eq)]
 pub struct Row {
     pub size: u32,
     pub alignment: u32,
@@ -46,7 +79,6 @@ impl TryFrom<u32> for UniformRule {
     ghost try_from_gives = { NamesRule };
 
     /// Number 1 for a word of no rule.
-    // Kept: these arms by number are the conversion.
     fn try_from(word: u32) -> Result<Self, Refusal> {
         match word {
             0 => Ok(UniformRule::Older),
@@ -84,7 +116,8 @@ pub struct StructType<'t, 'r, 'm> {
 }
 
 // The distance from a struct to the member right after it.
-// Kept: three outcomes of one rule; as a Result of an Option each reader would have to know what Ok(None) and Ok(Some) say.
+// Kept: three outcomes of one rule: the verdict reads the first two, number 21 the third. As a Result its refusal could not be passed on by `?`, since
+// numbers 17 to 19 come before it; as an Option of an Option each reader would have to know what either none says.
 #[derive(Clone, Copy, Debug, PartialEq, Eq)]
 pub enum Distance {
     Enough,
@@ -129,7 +162,7 @@ pub fn array_verdict(least: u32, i: u32, stride: u32, alignment: u32, base: Verd
         ok_verdict(a)
     } else {
         Verdict {
-            code: 1,
+            code: Disalignment::ArrayStride as u32,
             ty: i,
             index: 0,
             value: stride,
@@ -149,7 +182,7 @@ pub fn share_verdict(shareable: bool, t: u32, so_far: Verdict) -> Verdict
         return so_far;
     }
     Verdict {
-        code: 6,
+        code: Disalignment::NonHostShareable as u32,
         ty: t,
         index: 0,
         value: 0,
@@ -165,7 +198,7 @@ pub fn offset_verdict(m: MemberAt, so_far: u32, alignment: u32) -> Verdict
         return ok_verdict(so_far.max(alignment));
     }
     Verdict {
-        code: 3,
+        code: Disalignment::MemberOffset as u32,
         ty: m.i,
         index: m.j,
         value: m.offset,
@@ -186,6 +219,21 @@ pub fn member_verdict(m: MemberAt, so_far: Verdict, member: Verdict) -> Verdict
     offset_verdict(m, so_far.ty, member.ty)
 }
 
+// The distance from this struct; none where a sum or the difference of the Rust leaves 32 bits.
+fn distance_from(previous: PreviousStruct, offset: u32) -> Option<Distance>
+    ensures within { is_within (unwrap_or result Overflow) ≡ distance_ok (Some previous) offset }
+    ensures verdict { (rule : rule.UniformRule) (i j : ℕ) (v : verdict.Verdict) → is_within (unwrap_or result Overflow) ≡ true → after_distance (least_for rule) (unwrap_or result Overflow) i j offset v ≡ distance_verdict (least_for rule) i j offset (Some previous) v }
+{
+    let diff = offset.checked_sub(previous.offset)?;
+    // The Rust's span + 15 leaves 32 bits just where the rounded span does.
+    let min = u32::try_from(proc_alignment::round_up(MIN_UNIFORM, previous.span)).ok()?;
+    if min <= diff {
+        return Some(Distance::Enough);
+    }
+    let expected = previous.offset.checked_add(min)?;
+    Some(Distance::Short(expected))
+}
+
 // The distance rule; Overflow where a sum or the difference of the Rust leaves 32 bits.
 pub fn distance_to(previous: Option<PreviousStruct>, offset: u32) -> Distance
     ensures within { is_within result ≡ distance_ok previous offset }
@@ -193,29 +241,12 @@ pub fn distance_to(previous: Option<PreviousStruct>, offset: u32) -> Distance
 {
     match previous {
         None => Distance::Enough,
-        Some(PreviousStruct { span, offset: at }) => {
-            if offset < at {
-                return Distance::Overflow;
-            }
-            // The Rust's span + 15 leaves 32 bits just where the rounded span does.
-            let min = proc_alignment::round_up(MIN_UNIFORM, span);
-            if proc_alignment::MOST < min {
-                return Distance::Overflow;
-            }
-            let diff = (offset - at) as u64;
-            if min <= diff {
-                return Distance::Enough;
-            }
-            let expected = (at as u64) + min;
-            if proc_alignment::MOST < expected {
-                return Distance::Overflow;
-            }
-            Distance::Short(expected as u32)
-        }
+        Some(previous) => distance_from(previous, offset).unwrap_or(Distance::Overflow),
     }
 }
 
 // The minimum alignment of a rule.
+// Kept: the rules below take it, as the definitions do: storage verdicts have the smaller one, and no rule of uniform buffers.
 pub fn least_for(rule: UniformRule) -> u32
     ensures { result ≡ least_for rule }
 {
@@ -231,7 +262,7 @@ pub fn after_distance(least: u32, d: Distance, m: MemberAt, so_far: Verdict) -> 
 {
     match d {
         Distance::Short(expected) if MIN_STORAGE < least => Verdict {
-            code: 4,
+            code: Disalignment::MemberOffsetAfterStruct as u32,
             ty: m.i,
             index: m.j,
             value: m.offset,
@@ -252,7 +283,7 @@ pub fn unsized_verdict(sized: bool, m: MemberAt, so_far: Verdict) -> Verdict
         return so_far;
     }
     Verdict {
-        code: 5,
+        code: Disalignment::UnsizedMember as u32,
         ty: m.i,
         index: m.j,
         value: 0,
@@ -268,7 +299,7 @@ pub fn span_verdict(i: u32, span: u32, alignment: u32, so_far: Verdict) -> Verdi
         return so_far;
     }
     Verdict {
-        code: 2,
+        code: Disalignment::StructSpan as u32,
         ty: i,
         index: 0,
         value: span,

@@ -12,15 +12,7 @@ use valid_type_info::{MemberAt, Row, Verdict};
 fn empty_row() -> Row
     ensures { result ≡ empty_row }
 {
-    let none = valid_type_info::ok_verdict(0);
-    Row {
-        size: 0,
-        alignment: 0,
-        flags: 0,
-        uniform: none,
-        storage: none,
-        immediates: 0,
-    }
+    Row::default()
 }
 
 // The verdict in words w to w + 4 of row k, which stands there.

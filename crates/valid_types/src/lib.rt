@@ -124,7 +124,7 @@ fn pointer_row(types: &[u32], rows: &[u32], w: Words) -> Result<PlainRow, TypeRe
     ensures { (k : ℕ) → RowIn result k (type_count types.now) (type_inner types.now) rows.now pointer_kind w }
 {
     let layout = proc_type_layout::pointer_layout(types, w)?;
-    let base = ir_rows::row_word(rows, w.a, 2);
+    let base = ir_rows::row_word(rows, w.a, ir_rows::FLAGS as u32);
     let flags = valid_type_flags::pointer_to(base, w.b)?;
     Ok(handle(layout, flags))
 }
@@ -175,7 +175,7 @@ fn binding_array_row(types: &[u32], rows: &[u32], w: Words) -> Result<PlainRow, 
     ensures { (k : ℕ) → RowIn result k (type_count types.now) (type_inner types.now) rows.now binding_array_kind w }
 {
     let layout = proc_type_layout::binding_array_layout(types, w)?;
-    let base = ir_rows::row_word(rows, w.a, 2);
+    let base = ir_rows::row_word(rows, w.a, ir_rows::FLAGS as u32);
     let flags = valid_type_flags::binding_array_of(types, w.a, base, w.array_size())?;
     Ok(handle(layout, flags))
 }
@@ -209,7 +209,7 @@ fn judge_plain(
     }
 }
 
-// Kept: `rows`, `i`, `w`: the rows are lent with `&mut`; a struct of the three would be made anew for each type.
+// Kept: `rows`, `i`, `w`: the rows are lent with `&mut`; a struct of the three would be lent in turn, and each contract say what it leaves of each.
 // Of type i, which is neither array nor struct: numbers 2 to 7 and then its row, which is written where there is one.
 pub fn plain_row(
     capabilities: u32,

@@ -12,7 +12,7 @@ ghost use Rattle.ir_records.specs.Refusal.{judged};
 use ir_records::{Fault, ScalarKind, TypeRefusal};
 
 // 01's capability bits.
-// Kept: numbers: a bit is what shifts the caller's word, and what number 8 gives as its detail; naga's capabilities are constants of bits too.
+// Kept: constants, as naga's capabilities are: they are public, and the two functions that take one take any bit, which an enum would ask more than.
 pub const FLOAT64: u32 = 0;
 
 pub const SHADER_FLOAT16: u32 = 1;
@@ -54,7 +54,6 @@ pub fn require_type_capability(capabilities: u32, b: u32) -> Result<(), TypeRefu
 }
 
 // Of an integer or a float: 4, or 2 and 8 with the capability for it.
-// Kept: these arms are bytes and no kinds: naga matches a width in the same way and has no names for them.
 fn number_width(capabilities: u32, half: u32, double: u32, width: u32) -> Result<(), TypeRefusal>
     requires half_bit { half < 32 }
     requires double_bit { double < 32 }
@@ -86,7 +85,6 @@ pub fn check_width(capabilities: u32, kind: u32, width: u32) -> Result<(), TypeR
     }
 }
 
-// Kept: as number_width, the arms are bytes.
 #[tactic(auto, unfolding(crate::specs::Width::integer_atomic))]
 fn integer_atomic(capabilities: u32, width: u32) -> Result<(), TypeRefusal>
     ensures { judged result ≡ integer_atomic capabilities width }
@@ -114,6 +112,7 @@ pub fn atomic_width(capabilities: u32, kind: u32, width: u32) -> Result<(), Type
 }
 
 // 0, or 1 plus the scalar kind for an integer or float of width 2.
+// Kept: 0 and no Option: this is a word of a row, as 01 has it, and a base's word is passed on as it lies there.
 pub fn immediates_word(kind: u32, width: u32) -> u32
     ensures { result ≡ immediates_word kind width }
 {

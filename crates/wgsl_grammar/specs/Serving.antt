@@ -13,7 +13,7 @@ use Rattle.wgsl_grammar.specs.declared.Problem.{Problem}
 use Rattle.wgsl_grammar.specs.declared.Problem.TheVariants as problem
 use Rattle.wgsl_grammar.specs.declared.Why.TheVariants as why
 use Rattle.wgsl_grammar.specs.declared.Refusal.{Refusal}
-use Rattle.wgsl_grammar.specs.declared.Number.{Number}
+use Rattle.program_words.specs.declared.NumberRead.{NumberRead}
 
 -- the fault that a problem is
 abbrev pub fault_of : Problem → Fault
@@ -50,6 +50,6 @@ abbrev pub NameRead : List ℕ → (at : ℕ) → Result Span Refusal → Type 0
 NameRead s at (Ok name) = (name.start ≤ name.end) × (name.end ≤ length s) × (name_of (from s at) ≡ read (record { name = part s name.start name.end; rest = from s name.end }))
 NameRead s at (Err r) = name_of (from s at) ≡ refused (number_of r.fault)
 
-abbrev pub number_read : List ℕ → Result Number Refusal → Reading Value
+abbrev pub number_read : List ℕ → Result NumberRead Refusal → Reading Value
 number_read s (Ok n) = read (record { value = n.value; rest = from s n.at })
 number_read s (Err r) = refused (number_of r.fault)

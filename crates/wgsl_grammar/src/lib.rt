@@ -7,10 +7,10 @@ ghost use Rattle.wgsl_grammar.specs.Grammar.{expect, skipping, name_of, number_o
 ghost use Rattle.wgsl_grammar.specs.Serving.{fault_of, refusal_of, next_read, NameRead, number_read};
 
 use ir_records::Fault;
-use program_words::Span;
+use program_words::{NumberRead, Span};
 use wgsl_tokens::Lexed;
 
-/// What is wrong in a text: one for each line that `wgsl_messages` says of it, in their order.
+/// What is wrong in a text: one for each text that `wgsl_messages` says of it.
 #[derive(Clone, Copy, Debug, PartialEq, Eq)]
 pub enum Problem {
     OpenComment,
@@ -36,7 +36,6 @@ pub enum Problem {
 }
 
 /// What was wrong at a place: a mark that was expected is not there, or another problem.
-// Kept: no variant says that there is nothing. As a variant of `Problem` the mark would take from it that a problem's line is its number.
 #[derive(Clone, Copy, Debug, PartialEq, Eq)]
 pub enum Why {
     Mark(u8),
@@ -44,19 +43,12 @@ pub enum Why {
 }
 
 /// A refusal; beside its fault, for a message, a position before the token at which it stands, and what was wrong there.
-/// No contract speaks of the last two.
+/// No reading of a text tells the last two: they are for the message.
 #[derive(Clone, Copy, Debug, PartialEq, Eq)]
 pub struct Refusal {
     pub fault: Fault,
     pub at: usize,
     pub why: Why,
-}
-
-/// A number, and where the text goes on after it.
-#[derive(Clone, Copy, Debug, PartialEq, Eq)]
-pub struct Number {
-    pub value: u32,
-    pub at: usize,
 }
 
 impl From<Problem> for Fault {
@@ -90,7 +82,8 @@ impl Refusal {
     }
 }
 
-// Kept: the text and a position are two parameters, since a function reads at several positions of one text: a struct would be made anew for each.
+// Kept: the text and a position are two parameters: what is read answers a position alone, which records and refusals hold, so a struct of both would be
+// built again from the text at each call: `Place { text: s, at }.expect(b',')?` for `expect(s, at, b',')?`.
 /// The position after a mark that must stand here.
 pub fn expect(s: &[u8], at: usize, byte: u8) -> Result<usize, Refusal>
     ensures { expect byte (from s.now at) ≡ next_read s.now result }
@@ -117,19 +110,17 @@ pub fn name_at(s: &[u8], at: usize) -> Result<Span, Refusal>
     ensures { NameRead s.now at result }
 {
     match wgsl_tokens::next_token(s, at) {
-        Ok(Some(Lexed::Word { start, end })) if !wgsl_names::is_keyword(&s[start..end]) => {
-            Ok(Span { start, end })
-        }
+        Ok(Some(Lexed::Word(name))) if !wgsl_names::is_keyword(name.bytes(s)) => Ok(name),
         _ => Err(Refusal::of(Problem::NoName, at)),
     }
 }
 
 /// A number, at most 4,294,967,295.
-pub fn number_at(s: &[u8], at: usize) -> Result<Number, Refusal>
+pub fn number_at(s: &[u8], at: usize) -> Result<NumberRead, Refusal>
     ensures { number_of (from s.now at) ≡ number_read s.now result }
 {
     match wgsl_tokens::next_token(s, at) {
-        Ok(Some(Lexed::Number { value, end })) => Ok(Number { value, at: end }),
+        Ok(Some(Lexed::Number { value, end })) => Ok(NumberRead { value, at: end }),
         Ok(Some(Lexed::Large(_))) => Err(Refusal::of(Problem::LargeNumber, at)),
         _ => Err(Refusal::of(Problem::NoNumber, at)),
     }

@@ -23,7 +23,8 @@ pub fn put_answer(out: &mut Output, text: &[u8])
 }
 
 /// Writes the answer to a text to standard output.
-// Kept: `answer` of from_spirv is alike in form alone: what it puts is the answer to a module.
+// Kept: `answer` of from_spirv puts the answer to a module between the same two calls, of `new` and of `write_out`. A function that is lent what to put
+// would take a closure for each, and save each one line.
 pub fn answer(text: &[u8]) {
     let mut out = Output::new();
     put_answer(&mut out, text);

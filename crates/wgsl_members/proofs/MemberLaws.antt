@@ -65,27 +65,26 @@ module _ (s words : List ℕ) (names : List Span) (members : List ℕ) (b : Body
         end = offset + size_of_member a e;
         align = max b.align (align_of_member a e);
         fixed = b.fixed && e.fixed;
-        types = types;
-        members = b.members + 1;
+        made = record { types = types; members = b.made.members + 1 };
         at = at;
       }
 
-  pub place_is : b.names < length names → b.members * member_words + member_words ≤ length members
-      → members_in s (tables (set names b.names name) words (with_part member_words members (b.members * member_words) (e.number ∷ min offset most ∷ 0 ∷ 0 ∷ []))) placed_body
+  pub place_is : b.names < length names → b.made.members * member_words + member_words ≤ length members
+      → members_in s (tables (set names b.names name) words (with_part member_words members (b.made.members * member_words) (e.number ∷ min offset most ∷ 0 ∷ 0 ∷ []))) placed_body
       ≡ with_member (members_in s (tables names words members) b) a (name_in s name.start name.end) e (records_in type_words words types) (from s at)
   unfolding with_member
   place_is named room =
       rw (
         take_more_set names b.names name named,
         one_name s (take b.names names) name,
-        one_record member_words members (e.number ∷ min offset most ∷ 0 ∷ 0 ∷ []) b.members refl room,
+        one_record member_words members (e.number ∷ min offset most ∷ 0 ∷ 0 ∷ []) b.made.members refl room,
       )
 
 -- ---- a member that is read: its bounds, what is kept, and the reading
 module _ (s : List ℕ) (r : Rooms) (was is : Tables) (b after : Body) (a : Attributes) (e : Shape) (made : ℕ) (name : Span) (at : ℕ)
-    (bounds : Bounds r was b) (more : b.types ≤ made) (within : made ≤ r.types) (behind : drop (made * type_words) is.types ≡ drop (made * type_words) was.types)
+    (bounds : Bounds r was b) (more : b.made.types ≤ made) (within : made ≤ r.types) (behind : drop (made * type_words) is.types ≡ drop (made * type_words) was.types)
     (long-types : length is.types ≡ length was.types) (long-names : length is.names ≡ length was.names) (long-members : length is.members ≡ length was.members)
-    (room : b.members < r.members)
+    (room : b.made.members < r.members)
     (placed : PlacedIn was.names is.names was.members is.members b a e made name at after) where
   pub placed_bounds : Bounds r is after
   placed_bounds =

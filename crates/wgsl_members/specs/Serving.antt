@@ -51,27 +51,27 @@ members_in s t b =
       end = b.end;
       align = b.align;
       fixed = b.fixed;
-      types = records_in type_words t.types b.types;
-      members = records_in member_words t.members b.members;
+      types = records_in type_words t.types b.made.types;
+      members = records_in member_words t.members b.made.members;
       rest = from s b.at;
     }
 
 -- the tables have room; each member adds less than 2 ^ 33 bytes
 pub record Bounds (r : Rooms) (t : Tables) (b : Body) : Type 0 where
-  pub types : Room r.types b.types t.types
-  pub made : b.members ≤ r.members
+  pub types : Room r.types b.made.types t.types
+  pub made : b.made.members ≤ r.members
   pub room : r.members ≤ 4096
   pub words : r.members * member_words ≤ length t.members
-  pub fewer : b.names ≤ b.members
+  pub fewer : b.names ≤ b.made.members
   pub named : 4096 ≤ length t.names
   pub end : b.end ≤ b.names * 8589934592
 
 -- behind the records nothing changes
 pub record Kept (was is : Tables) (before after : Body) : Type 0 where
-  pub more-types : before.types ≤ after.types
-  pub types : drop (after.types * type_words) is.types ≡ drop (after.types * type_words) was.types
-  pub more-members : before.members ≤ after.members
-  pub members : drop (after.members * member_words) is.members ≡ drop (after.members * member_words) was.members
+  pub more-types : before.made.types ≤ after.made.types
+  pub types : drop (after.made.types * type_words) is.types ≡ drop (after.made.types * type_words) was.types
+  pub more-members : before.made.members ≤ after.made.members
+  pub members : drop (after.made.members * member_words) is.members ≡ drop (after.made.members * member_words) was.members
 
 abbrev pub MemberRead : List ℕ → Rooms → (was is : Tables) → (before : Body) → Reading Members → Result Body Refusal → Type 0
 MemberRead s r was is before m (Ok after) = (m ≡ read (members_in s is after)) × Bounds r is after × Kept was is before after
@@ -80,16 +80,16 @@ MemberRead s r was is before m (Err x) = m ≡ refused (number_of x.fault)
 -- ---- one more member, in the tables of names and of member records
 pub record Placeable (names : List Span) (members : List ℕ) (b : Body) : Type 0 where
   pub named : b.names < 4096
-  pub made : b.members < 4096
+  pub made : b.made.members < 4096
   pub name_room : 4096 ≤ length names
-  pub room : b.members * member_words + member_words ≤ length members
+  pub room : b.made.members * member_words + member_words ≤ length members
   pub end : b.end ≤ b.names * 8589934592
 
 -- whatever the text and the type words are
 pub record PlacedIn (names names-now : List Span) (members members-now : List ℕ) (b : Body) (a : Attributes) (e : Shape) (types : ℕ) (name : Span) (at : ℕ) (r : Body) : Type 0 where
   pub is : (s words : List ℕ) → members_in s (tables names-now words members-now) r ≡ with_member (members_in s (tables names words members) b) a (name_in s name.start name.end) e (records_in type_words words types) (from s at)
-  pub types_made : r.types ≡ types
-  pub members_made : r.members ≡ b.members + 1
+  pub types_made : r.made.types ≡ types
+  pub members_made : r.made.members ≡ b.made.members + 1
   pub named : r.names ≡ b.names + 1
   pub end_within : r.end ≤ r.names * 8589934592
-  pub behind : drop (r.members * member_words) members-now ≡ drop (r.members * member_words) members
+  pub behind : drop (r.made.members * member_words) members-now ≡ drop (r.made.members * member_words) members

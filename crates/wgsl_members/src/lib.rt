@@ -1,4 +1,6 @@
 // A member of a struct in WGSL text: attributes, a name, a type; and where it is placed.
+// Kept: `s` and `at`, the text and a position, are two parameters, as in wgsl_grammar: positions are what is read, and tokens, records and refusals hold them
+// alone, so a struct of both would be built again from the text at each call.
 #![tactic(auto)]
 
 ghost use Rattle.std.specs.Prelude.{◌≡◌, ◌&&◌, Ok, None, Some, ltb, min, length};
@@ -12,8 +14,8 @@ ghost use Rattle.wgsl_members.specs.Members.{attributes, again, value_of, attrib
 ghost use Rattle.wgsl_members.specs.Serving.{attributes_read, tables, members_in, Bounds, MemberRead, Placeable, PlacedIn, Fits, Unplaced};
 
 use ir_records::Records;
-use program_words::Span;
-use wgsl_grammar::{Number, Problem, Refusal};
+use program_words::{NumberRead, Span};
+use wgsl_grammar::{Problem, Refusal};
 use wgsl_placement::Shape;
 use wgsl_tables::NamedShape;
 use wgsl_types::{Closed, Unclosed};
@@ -43,16 +45,15 @@ pub struct AttributesAt {
     pub at: usize,
 }
 
-// The members of a struct read so far: how many names, the end of the last one, the struct's alignment, whether its footprint is fixed, how many
-// type and member records there are, and where the text goes on.
+// The members of a struct read so far: how many names, the end of the last one, the struct's alignment, whether its footprint is fixed, the records
+// made, and where the text goes on.
 #[derive(Clone, Copy, Debug, PartialEq, Eq)]
 pub struct Body {
     pub names: u32,
     pub end: u64,
     pub align: u32,
     pub fixed: bool,
-    pub types: u32,
-    pub members: u32,
+    pub made: Records,
     pub at: usize,
 }
 
@@ -61,14 +62,14 @@ pub const MOST_DEPTH: u32 = 32;
 
 // `(`, a number, perhaps a comma, `)`.
 #[tactic(auto, unfolding(crate::specs::Members::value_of))]
-fn value_at(s: &[u8], at: usize) -> Result<Number, Refusal>
+fn value_at(s: &[u8], at: usize) -> Result<NumberRead, Refusal>
     ensures { number_read s.now result ≡ value_of (from s.now at) }
 {
     let first = wgsl_grammar::expect(s, at, b'(')?;
     let number = wgsl_grammar::number_at(s, first)?;
     let last = wgsl_grammar::skipping(s, number.at, b',');
     let end = wgsl_grammar::expect(s, last, b')')?;
-    Ok(Number {
+    Ok(NumberRead {
         value: number.value,
         at: end,
     })
@@ -91,7 +92,7 @@ fn attribute_at(s: &[u8], given: Attributes, at: usize) -> Result<AttributesAt, 
     ensures { attributes_read s.now result ≡ attribute_of given (from s.now at) }
 {
     let name = wgsl_grammar::name_at(s, at)?;
-    let w = &s[name.start..name.end];
+    let w = name.bytes(s);
     if wgsl_names::same(w, b"align") {
         let number = value_at(s, name.end)?;
         let attributes = Attributes {
@@ -126,6 +127,8 @@ fn attributes_at(s: &[u8], at: usize) -> Result<AttributesAt, Refusal>
         size: Ok(None),
     };
     let mut next = at;
+    // Kept: the turns are those of the definition. `while let Ok(name) = expect(..)` would have to fall in the tokens that are left, and a law would have to
+    // say that a text has no more of them than bytes.
     for _turn in 0..s.len() {
         let Ok(name) = wgsl_grammar::expect(s, next, b'@') else {
             return Ok(AttributesAt {
@@ -202,20 +205,22 @@ fn place_member(
     name: Span,
 ) -> Body
     requires { Placeable names.old members.old body }
-    ensures { (a : Attributes) → fit.align ≡ align_of_member a closed.shape → fit.size ≡ size_of_member a closed.shape → PlacedIn names.old names.new members.old members.new body a closed.shape closed.made name closed.at result }
+    ensures { (a : Attributes) → fit.align ≡ align_of_member a closed.shape → fit.size ≡ size_of_member a closed.shape → PlacedIn names.old names.new members.old members.new body a closed.shape closed.made name closed.end.at result }
 {
     let shape = closed.shape;
-    let offset = wgsl_placement::round_up(fit.align, body.end);
-    wgsl_tables::put_member(members, body.members, shape.number, written(offset));
+    let offset = proc_alignment::round_up_wide(fit.align, body.end);
+    wgsl_tables::put_member(members, body.made.members, shape.number, written(offset));
     names[body.names as usize] = name;
     Body {
         names: body.names + 1,
         end: offset + u64::from(fit.size),
         align: body.align.max(fit.align),
         fixed: body.fixed & shape.fixed,
-        types: closed.made,
-        members: body.members + 1,
-        at: closed.at,
+        made: Records {
+            types: closed.made,
+            members: body.made.members + 1,
+        },
+        at: closed.end.at,
     }
 }
 
@@ -223,10 +228,9 @@ fn place_member(
 fn full_refusal(attributes: Attributes, shape: Shape, close: usize) -> Refusal
     ensures { number_of result.fault ≡ pick (attributes_fit attributes shape) 1 33 }
 {
-    match fitted(attributes, shape, close) {
-        Ok(_) => Refusal::of(Problem::TypesFull, close),
-        Err(refusal) => refusal,
-    }
+    fitted(attributes, shape, close)
+        .err()
+        .unwrap_or(Refusal::of(Problem::TypesFull, close))
 }
 
 // The refusal for a member whose type has not closed, or has closed with no room.
@@ -258,11 +262,19 @@ fn typed_member(
     requires { Bounds room (tables names.old types.old members.old) body }
     ensures { MemberRead s.now room (tables names.old types.old members.old) (tables names.new types.new members.new) body (typed_member room (structs_in s.now structs.now) (members_in s.now (tables names.old types.old members.old) body) attributes (name_in s.now name.start name.end) (from s.now at)) result }
 {
-    let read = wgsl_types::read_type(s, structs, types, room.types, body.types, at, MOST_DEPTH);
+    let read = wgsl_types::read_type(
+        s,
+        structs,
+        types,
+        room.types,
+        body.made.types,
+        at,
+        MOST_DEPTH,
+    );
     let closed = read.map_err(|unclosed| refused(unclosed, attributes))?;
-    let fit = fitted(attributes, closed.shape, closed.close)?;
-    if room.members <= body.members {
-        return Err(Refusal::of(Problem::MembersFull, closed.close));
+    let fit = fitted(attributes, closed.shape, closed.end.close)?;
+    if room.members <= body.made.members {
+        return Err(Refusal::of(Problem::MembersFull, closed.end.close));
     }
     Ok(place_member(names, members, body, fit, closed, name))
 }
@@ -284,7 +296,7 @@ fn named_member(
     ensures { MemberRead s.now room (tables names.old types.old members.old) (tables names.new types.new members.new) body (named_member room (structs_in s.now structs.now) (members_in s.now (tables names.old types.old members.old) body) attributes (from s.now at)) result }
 {
     let name = wgsl_grammar::name_at(s, at)?;
-    let w = &s[name.start..name.end];
+    let w = name.bytes(s);
     if wgsl_tables::is_one_of(s, w, &names[..body.names as usize]) {
         return Err(Refusal::of(Problem::RepeatedMember, at));
     }

@@ -3,7 +3,6 @@
 use Rattle.std.specs.Prelude.{List, [], ◌∷◌, ◌++◌, Option, Some, None, Result, Ok, Err, ℕ, ◌-◌, min, eqb, ltb, length, take, drop}
 use Rattle.ir_records.specs.Result.{pick}
 use Rattle.program_output.specs.Bytes.{ascii, named}
-use Rattle.program_output.specs.Answers.{numbered_line}
 use Rattle.wgsl_grammar.specs.declared.Problem.{Problem}
 use Rattle.wgsl_grammar.specs.declared.Problem.TheVariants.{OpenComment, NotAscii, NoComma, NoName, NoNumber, NoDeclaration, NoAttribute, NoScalar, TooDeep, UnknownType, RepeatedType, RepeatedMember, LargeNumber, ZeroCount, LargeArray, Align, Size, LargeStruct, TypesFull, MembersFull}
 use Rattle.wgsl_grammar.specs.declared.Why.{Why}
@@ -13,34 +12,28 @@ use Rattle.wgsl_tokens.specs.Lexed.{end_of}
 use Rattle.wgsl_tokens.specs.declared.BadToken.{BadToken}
 use Rattle.wgsl_messages.specs.Position.{line_of, column_of}
 
--- the lines of the problems, numbered from 0 on
-unfoldable pub reasons : List ℕ
-reasons = ascii "a comment is not closed\na comment holds a byte that is no ASCII\nexpected a comma or a closing mark\nexpected a name that is no keyword\nexpected a decimal number with no leading zero, point or suffix\nexpected struct, a semicolon or the end of the text\nno such attribute; there are @align and @size\nexpected bool, i32, u32, f32 or f16\ntypes stand inside types more than 32 deep\nno earlier type has this name\nan earlier type has this name\nan earlier member of the struct has this name\nthe number is above 4294967295\nan array has one element at least\nthe array has more than 4294967295 bytes\n@align stands twice, is no power of two or is no multiple of the type's alignment\n@size stands twice, is less than the type's size or the type has no fixed size\nthe struct has more than 4294967295 bytes\nthere is no room for one more type record\nthere is no room for one more member record\n"
-
-abbrev pub line_number : Problem → ℕ
-line_number OpenComment = 0
-line_number NotAscii = 1
-line_number NoComma = 2
-line_number NoName = 3
-line_number NoNumber = 4
-line_number NoDeclaration = 5
-line_number NoAttribute = 6
-line_number NoScalar = 7
-line_number TooDeep = 8
-line_number UnknownType = 9
-line_number RepeatedType = 10
-line_number RepeatedMember = 11
-line_number LargeNumber = 12
-line_number ZeroCount = 13
-line_number LargeArray = 14
-line_number Align = 15
-line_number Size = 16
-line_number LargeStruct = 17
-line_number TypesFull = 18
-line_number MembersFull = 19
-
-abbrev pub sentence : Problem → List ℕ
-sentence problem = numbered_line reasons 0 (line_number problem)
+-- what is said of a problem
+unfoldable pub sentence : Problem → List ℕ
+sentence OpenComment = ascii "a comment is not closed\n"
+sentence NotAscii = ascii "a comment holds a byte that is no ASCII\n"
+sentence NoComma = ascii "expected a comma or a closing mark\n"
+sentence NoName = ascii "expected a name that is no keyword\n"
+sentence NoNumber = ascii "expected a decimal number with no leading zero, point or suffix\n"
+sentence NoDeclaration = ascii "expected struct, a semicolon or the end of the text\n"
+sentence NoAttribute = ascii "no such attribute; there are @align and @size\n"
+sentence NoScalar = ascii "expected bool, i32, u32, f32 or f16\n"
+sentence TooDeep = ascii "types stand inside types more than 32 deep\n"
+sentence UnknownType = ascii "no earlier type has this name\n"
+sentence RepeatedType = ascii "an earlier type has this name\n"
+sentence RepeatedMember = ascii "an earlier member of the struct has this name\n"
+sentence LargeNumber = ascii "the number is above 4294967295\n"
+sentence ZeroCount = ascii "an array has one element at least\n"
+sentence LargeArray = ascii "the array has more than 4294967295 bytes\n"
+sentence Align = ascii "@align stands twice, is no power of two or is no multiple of the type's alignment\n"
+sentence Size = ascii "@size stands twice, is less than the type's size or the type has no fixed size\n"
+sentence LargeStruct = ascii "the struct has more than 4294967295 bytes\n"
+sentence TypesFull = ascii "there is no room for one more type record\n"
+sentence MembersFull = ascii "there is no room for one more member record\n"
 
 -- a mark that was expected
 unfoldable pub mark_text : (mark : ℕ) → List ℕ

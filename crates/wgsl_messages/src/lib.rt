@@ -4,7 +4,7 @@
 ghost use Rattle.std.specs.Prelude.{◌≡◌, length, List, ℕ, min};
 ghost use Rattle.program_output.specs.Bytes.{Adds};
 ghost use Rattle.wgsl_messages.specs.Position.{breaks_line, position_of};
-ghost use Rattle.wgsl_messages.specs.Message.{token_text, found_text, line_number, sentence, mark_text, reason_text, position_text, broken_text};
+ghost use Rattle.wgsl_messages.specs.Message.{token_text, found_text, sentence, mark_text, reason_text, position_text, broken_text};
 ghost use Rattle.wgsl_messages.specs.Says.{Says};
 
 use program_output::Output;
@@ -31,6 +31,7 @@ pub fn line_and_column(text: &[u8], at: usize) -> Position
     let end = at.min(text.len());
     let mut line = 1;
     let mut column = 1;
+    // Kept: an index: a byte is judged by the one after it, which may stand past `end`; `windows(2)` would give the pairs, and none for the text's last byte.
     for i in 0..end {
         if breaks_line(text[i], wgsl_tokens::byte_at(text, i + 1)) {
             line += 1;
@@ -43,6 +44,7 @@ pub fn line_and_column(text: &[u8], at: usize) -> Position
 }
 
 // A token in its own bytes.
+// Kept: two positions: the end is the token's own, so a `Span` would be put together for this one call and taken apart for `get`.
 #[tactic(auto, unfolding(crate::specs::Message::token_text))]
 fn put_token(out: &mut Output, text: &[u8], start: usize, end: usize)
     ensures { Adds out.old (token_text text.now start end) out.new }
@@ -55,6 +57,7 @@ fn put_token(out: &mut Output, text: &[u8], start: usize, end: usize)
 }
 
 // The token that was found at a place.
+// Kept: the Result is what stands there, of which the message says something in each case, and no outcome that is handed on.
 fn put_found(out: &mut Output, text: &[u8], start: usize, token: Result<Option<Lexed>, BadToken>)
     ensures { Adds out.old (found_text text.now start token) out.new }
 {
@@ -68,43 +71,41 @@ fn put_found(out: &mut Output, text: &[u8], start: usize, token: Result<Option<L
     }
 }
 
-// The line of a problem, from 0 on: the problems stand in the order of their lines.
-fn line_number(problem: Problem) -> u32
-    ensures { result ≡ line_number problem }
+// What is said of a problem.
+#[tactic(auto, unfolding(crate::specs::Message::sentence))]
+fn sentence(problem: Problem) -> &'static [u8]
+    ensures { result.now ≡ sentence problem }
 {
-    problem as u32
+    match problem {
+        Problem::OpenComment => b"a comment is not closed\n",
+        Problem::NotAscii => b"a comment holds a byte that is no ASCII\n",
+        Problem::NoComma => b"expected a comma or a closing mark\n",
+        Problem::NoName => b"expected a name that is no keyword\n",
+        Problem::NoNumber => b"expected a decimal number with no leading zero, point or suffix\n",
+        Problem::NoDeclaration => b"expected struct, a semicolon or the end of the text\n",
+        Problem::NoAttribute => b"no such attribute; there are @align and @size\n",
+        Problem::NoScalar => b"expected bool, i32, u32, f32 or f16\n",
+        Problem::TooDeep => b"types stand inside types more than 32 deep\n",
+        Problem::UnknownType => b"no earlier type has this name\n",
+        Problem::RepeatedType => b"an earlier type has this name\n",
+        Problem::RepeatedMember => b"an earlier member of the struct has this name\n",
+        Problem::LargeNumber => b"the number is above 4294967295\n",
+        Problem::ZeroCount => b"an array has one element at least\n",
+        Problem::LargeArray => b"the array has more than 4294967295 bytes\n",
+        Problem::Align =>
+            b"@align stands twice, is no power of two or is no multiple of the type's alignment\n",
+        Problem::Size =>
+            b"@size stands twice, is less than the type's size or the type has no fixed size\n",
+        Problem::LargeStruct => b"the struct has more than 4294967295 bytes\n",
+        Problem::TypesFull => b"there is no room for one more type record\n",
+        Problem::MembersFull => b"there is no room for one more member record\n",
+    }
 }
 
-// Lines of one text, one for each problem, in their order.
-#[tactic(auto, unfolding(crate::specs::Message::reasons))]
 fn put_sentence(out: &mut Output, problem: Problem)
     ensures { Adds out.old (sentence problem) out.new }
 {
-    out.put_line_of(
-        b"a comment is not closed
-a comment holds a byte that is no ASCII
-expected a comma or a closing mark
-expected a name that is no keyword
-expected a decimal number with no leading zero, point or suffix
-expected struct, a semicolon or the end of the text
-no such attribute; there are @align and @size
-expected bool, i32, u32, f32 or f16
-types stand inside types more than 32 deep
-no earlier type has this name
-an earlier type has this name
-an earlier member of the struct has this name
-the number is above 4294967295
-an array has one element at least
-the array has more than 4294967295 bytes
-@align stands twice, is no power of two or is no multiple of the type's alignment
-@size stands twice, is less than the type's size or the type has no fixed size
-the struct has more than 4294967295 bytes
-there is no room for one more type record
-there is no room for one more member record
-",
-        0,
-        line_number(problem),
-    );
+    out.put_text(sentence(problem));
 }
 
 // A mark that was expected.

@@ -1,6 +1,7 @@
 -- 02, E7: the names that WGSL has: its keywords, and the types that are declared before any text. Words are compared byte by byte.
 -- Assumes nothing.
-use Rattle.std.specs.Prelude.{Bool, true, false, ◌&&◌, ◌||◌, List, [], ◌∷◌, Option, Some, None, ℕ, eqb}
+use Rattle.std.specs.Prelude.{Bool, ◌||◌, List, [], ◌∷◌, Option, Some, None, ℕ, nat_eq}
+use Rattle.std.specs.Cmp.Lexicographic.{pointwise}
 use Rattle.ir_records.specs.Result.{pick}
 use Rattle.wgsl_names.specs.declared.Scalar.{Scalar}
 use Rattle.wgsl_names.specs.declared.Scalar.TheVariants.{Bool as BoolScalar, I32, U32, F32, F16}
@@ -11,10 +12,7 @@ use Rattle.wgsl_names.specs.declared.TypeName.{TypeName}
 use Rattle.wgsl_names.specs.declared.TypeName.TheVariants.{OfScalar, OfTemplate, Array}
 
 unfoldable pub same : List ℕ → List ℕ → Bool
-same [] [] = true
-same [] (y ∷ t) = false
-same (x ∷ s) [] = false
-same (x ∷ s) (y ∷ t) = eqb x y && same s t
+same s t = pointwise nat_eq s t
 
 -- ---- keywords
 -- alias, break, case, const, const_assert, continue, continuing, default, diagnostic

@@ -1,9 +1,10 @@
 -- The placement of the W3C WGSL specification, in its words, as the reader of WGSL text works it out: AlignOf, SizeOf and StrideOf of types.
 -- roundUp(k, n) = ⌈n ÷ k⌉ × k is the one of the alignment crate.
 -- Assumes nothing.
-use Rattle.std.specs.Prelude.{Bool, true, false, ◌&&◌, List, [], ◌∷◌, Option, Some, None, ℕ, ◌*◌, leb}
+use Rattle.std.specs.Prelude.{Bool, ◌&&◌, List, [], ◌∷◌, Option, Some, None, ℕ, ◌*◌, leb}
 use Rattle.std.specs.Option.{is_some, unwrap_or}
 use Rattle.ir_records.specs.declared.Words.{Words}
+use Rattle.ir_records.specs.Record.{record_of, array_words}
 use Rattle.proc_alignment.specs.Alignment.{vector_alignment, round_up, most}
 use Rattle.wgsl_names.specs.Names.{kind_of, width_of, bytes_of, number_of}
 use Rattle.wgsl_names.specs.declared.Scalar.{Scalar}
@@ -64,9 +65,6 @@ array_shape number n e = shape number (elements n * stride_of e) e.align (is_cou
 abbrev pub words_of : Words → List ℕ
 words_of w = w.kind ∷ w.a ∷ w.b ∷ w.c ∷ w.d ∷ w.e ∷ []
 
-abbrev pub record_of : (kind a b c d : ℕ) → Words
-record_of kind a b c d = record { kind = kind; a = a; b = b; c = c; d = d; e = 0 }
-
 abbrev pub scalar_record : Scalar → Words
 scalar_record s = record_of 0 (kind_of s) (width_of s) 0 0
 
@@ -74,11 +72,6 @@ abbrev pub template_record : Template → Scalar → Words
 template_record (Vector n) s = record_of 1 (number_of n) (kind_of s) (width_of s) 0
 template_record (Matrix columns rows) s = record_of 2 (number_of columns) (number_of rows) (kind_of s) (width_of s)
 template_record Atomic s = record_of 4 (kind_of s) (width_of s) 0 0
-
--- form 0 has a count, form 1 is runtime-sized
-abbrev pub array_words : Count → (element stride : ℕ) → Words
-array_words (Some n) element stride = record_of 7 element 0 n stride
-array_words None element stride = record_of 7 element 1 0 stride
 
 abbrev pub array_record : Count → Shape → Words
 array_record n e = array_words n e.number (stride_of e)

@@ -5,7 +5,7 @@ ghost use Rattle.std.specs.Prelude.{◌≡◌, true, ◌≤◌, ◌+◌, ◌*◌
 ghost use Rattle.ir_records.specs.Kinds.{kind_number};
 ghost use Rattle.proc_alignment.specs.Alignment.{round_up};
 ghost use Rattle.wgsl_names.specs.Names.{bytes_of, number_of};
-ghost use Rattle.wgsl_placement.specs.Placement.{shape, align_of_vector, size_of_vector, align_of_template, size_of_template, record_of, scalar_record, template_record, array_words};
+ghost use Rattle.wgsl_placement.specs.Placement.{shape, align_of_vector, size_of_vector, align_of_template, size_of_template, scalar_record, template_record};
 ghost use Rattle.wgsl_placement.specs.Serving.{Measured};
 
 use ir_records::{Kind, ScalarKind, Words};
@@ -27,26 +27,14 @@ pub struct Measure {
     pub stride: u32,
 }
 
-// Rounding up as the standard has it: divide, take the ceiling, multiply.
-// Kept: `proc_alignment::round_up` takes 32 bits, as naga's does, and the end of a struct may leave them here; one function for both widths would need
-// a trait of numbers with the laws of their division.
-pub fn round_up(alignment: u32, n: u64) -> u64
-    requires { n ≤ 1152921504606846976 }
-    ensures { (result ≡ round_up alignment n) × (result ≤ n + alignment) }
-{
-    if alignment == 0 {
-        return 0;
-    }
-    let k = u64::from(alignment);
-    n.div_ceil(k) * k
-}
-
 fn align_of_vector(n: Dimension, scalar: Scalar) -> u32
     ensures { (result ≡ align_of_vector n scalar) × (result ≤ 16) }
 {
     proc_alignment::vector_alignment(u32::from(n)) * wgsl_names::bytes_of(scalar)
 }
 
+// Kept: here and below a template and its scalar are two parameters, as in the definitions: a text has the scalar after the `<` of its template, so wgsl_types
+// would make a struct of both for these calls, and each of them would take it apart.
 fn align_of_template(template: Template, scalar: Scalar) -> u32
     ensures { result ≡ align_of_template template scalar }
 {
@@ -69,7 +57,7 @@ fn size_of_matrix(columns: Dimension, rows: Dimension, scalar: Scalar) -> u32
 {
     let align = align_of_vector(rows, scalar);
     let column = size_of_vector(rows, scalar);
-    let step = round_up(align, u64::from(column)) as u32;
+    let step = proc_alignment::round_up(align, column) as u32;
     u32::from(columns) * step
 }
 
@@ -101,15 +89,15 @@ pub fn template_record(template: Template, scalar: Scalar) -> Words
     let kind = ScalarKind::from(scalar) as u32;
     let width = wgsl_names::width_of(scalar);
     match template {
-        Template::Vector(n) => record_of(Kind::Vector as u32, u32::from(n), kind, width, 0),
-        Template::Matrix(columns, rows) => record_of(
+        Template::Vector(n) => Words::of(Kind::Vector as u32, u32::from(n), kind, width, 0),
+        Template::Matrix(columns, rows) => Words::of(
             Kind::Matrix as u32,
             u32::from(columns),
             u32::from(rows),
             kind,
             width,
         ),
-        Template::Atomic => record_of(Kind::Atomic as u32, kind, width, 0, 0),
+        Template::Atomic => Words::of(Kind::Atomic as u32, kind, width, 0, 0),
     }
 }
 
@@ -130,38 +118,14 @@ pub fn scalar_record(scalar: Scalar) -> Words
 {
     let kind = ScalarKind::from(scalar) as u32;
     let width = wgsl_names::width_of(scalar);
-    record_of(Kind::Scalar as u32, kind, width, 0, 0)
-}
-
-// A record's kind and the words after it; none has more than four.
-// Kept: the kind by its number: a record may be asked for of any.
-pub fn record_of(kind: u32, a: u32, b: u32, c: u32, d: u32) -> Words
-    ensures { result ≡ record_of kind a b c d }
-{
-    Words {
-        kind,
-        a,
-        b,
-        c,
-        d,
-        e: 0,
-    }
+    Words::of(Kind::Scalar as u32, kind, width, 0, 0)
 }
 
 /// StrideOf, and N of them; nothing where they leave 32 bits. No count: a runtime-sized array, which measures one element.
 pub fn array_measure(count: Option<u32>, e: Shape) -> Option<Measure>
     ensures { Measured count e result }
 {
-    let stride = u32::try_from(round_up(e.align, u64::from(e.size))).ok()?;
+    let stride = u32::try_from(proc_alignment::round_up(e.align, e.size)).ok()?;
     let size = count.unwrap_or(1).checked_mul(stride)?;
     Some(Measure { size, stride })
-}
-
-pub fn array_record(count: Option<u32>, element: u32, stride: u32) -> Words
-    ensures { result ≡ array_words count element stride }
-{
-    match count {
-        Some(n) => record_of(Kind::Array as u32, element, 0, n, stride),
-        None => record_of(Kind::Array as u32, element, 1, 0, stride),
-    }
 }

@@ -33,7 +33,7 @@ module _ (s : List ℕ) (was is : Declarations) (r : Rooms) (rooms-are : r ≡ r
       let e = whole (read (declared_in s is d)) h.0 in
       let t = h.1.types in (
         rw e,
-        rw e (left-in type_words d.types was.types is.types (omega (arith, t.0, t.2)) h.2.types),
-        rw e (left-in member_words d.members was.members is.members (omega (arith, h.1.made, h.1.words)) h.2.members),
+        rw e (left-in type_words d.made.types was.types is.types (omega (arith, t.0, t.2)) h.2.types),
+        rw e (left-in member_words d.made.members was.members is.members (omega (arith, h.1.made, h.1.words)) h.2.members),
       )
   text_filled (Err x) h = whole (refused (number_of x.fault)) h

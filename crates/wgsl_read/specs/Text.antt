@@ -8,7 +8,7 @@ use Rattle.ir_records.specs.declared.Records as made
 use Rattle.wgsl_tokens.specs.Tokens.{code, tokens}
 use Rattle.wgsl_grammar.specs.Grammar.{Reading, refused, read}
 use Rattle.wgsl_grammar.specs.declared.Refusal.{Refusal}
-use Rattle.wgsl_tables.specs.Tables.{Records}
+use Rattle.wgsl_tables.specs.Tables.{Records, room_in}
 use Rattle.wgsl_members.specs.Members.{Rooms}
 use Rattle.wgsl_structs.specs.Structs.{Declared, declarations_of}
 use Rattle.wgsl_structs.specs.declared.State.{State}
@@ -17,7 +17,7 @@ use Rattle.wgsl_read.specs.TextAnswer as answer
 
 -- 'more records than 01 or the lent tables admit is number 1': whole ones
 abbrev pub rooms_in : (types members : ℕ) → Rooms
-rooms_in types members = record { types = min (types / type_words) most_types; members = min (members / member_words) most_members }
+rooms_in types members = room_in types members
 
 abbrev pub no_records : Records
 no_records = record { made = 0; words = [] }
@@ -51,7 +51,7 @@ numbered_by (Err r) = answer.Refused (number_of r.fault)
 -- what the declarations leave before a refusal zeroes the words
 abbrev pub Filled : (text types types-now members members-now : List ℕ) → Result State Refusal → Type 0
 Filled text types types-now members members-now (Ok d) =
-    (answer_of (text_of (length types) (length members) text) ≡ answer.Records d.types d.members)
+    (answer_of (text_of (length types) (length members) text) ≡ answer.Records d.made.types d.made.members)
     × (types-now ≡ types_left (text_of (length types) (length members) text) types)
     × (members-now ≡ members_left (text_of (length types) (length members) text) members)
 Filled text types types-now members members-now (Err r) = text_of (length types) (length members) text ≡ refused (number_of r.fault)

@@ -19,7 +19,6 @@ const NO_NAME: Span = Span { start: 0, end: 0 };
 const NO_STRUCT: NamedShape = NamedShape {
     name: NO_NAME,
     shape: Shape {
-        // Kept: the number of a type record, and not of a refusal.
         number: 0,
         size: 0,
         align: 0,
@@ -31,10 +30,7 @@ const NO_STRUCT: NamedShape = NamedShape {
 fn fill(text: &[u8], types: &mut [u32], members: &mut [u32]) -> Result<State, Refusal>
     ensures { Filled text.now types.old types.new members.old members.new result }
 {
-    let room = Records {
-        types: (types.len() / ir_records::TYPE_WORDS).min(MOST_TYPES) as u32,
-        members: (members.len() / ir_records::MEMBER_WORDS).min(MOST_MEMBERS) as u32,
-    };
+    let room = wgsl_tables::room_in(types, members);
     let mut structs = [NO_STRUCT; MOST_TYPES];
     let mut names = [NO_NAME; MOST_MEMBERS];
     wgsl_structs::read_declarations(text, &mut structs, &mut names, types, members, room)
@@ -48,10 +44,7 @@ pub fn read_at(text: &[u8], types: &mut [u32], members: &mut [u32]) -> Result<Re
     ensures members_after { members.new ≡ members_left (text_of (length types.old) (length members.old) text.now) members.old }
 {
     match fill(text, types, members) {
-        Ok(state) => Ok(Records {
-            types: state.types,
-            members: state.members,
-        }),
+        Ok(state) => Ok(state.made),
         Err(refusal) => {
             types.fill(0);
             members.fill(0);

@@ -42,7 +42,7 @@ declarations_step turns count turn r d h = let one : count - turn ≡ suc (count
 
 -- ---- the same members, where the text goes on elsewhere
 abbrev pub at_position : Body → ℕ → Body
-at_position b at = record { names = b.names; end = b.end; align = b.align; fixed = b.fixed; types = b.types; members = b.members; at = at }
+at_position b at = record { names = b.names; end = b.end; align = b.align; fixed = b.fixed; made = b.made; at = at }
 
 pub bounds-at : (r : Rooms) (t : Tables) (b : Body) (at : ℕ) → Bounds r t b → Bounds r t (at_position b at)
 bounds-at r t b at h =
@@ -57,23 +57,23 @@ pub kept_both : (was mid is : Tables) (a b c : Body) → Kept was mid a b → Ke
 kept_both was mid is a b c g h =
     record {
       more-types = omega (arith, g.more-types, h.more-types);
-      types = h.types ∙ drop_later mid.types was.types (b.types * type_words) (c.types * type_words) g.types (omega (arith, h.more-types));
+      types = h.types ∙ drop_later mid.types was.types (b.made.types * type_words) (c.made.types * type_words) g.types (omega (arith, h.more-types));
       more-members = omega (arith, g.more-members, h.more-members);
-      members = h.members ∙ drop_later mid.members was.members (b.members * member_words) (c.members * member_words) g.members (omega (arith, h.more-members));
+      members = h.members ∙ drop_later mid.members was.members (b.made.members * member_words) (c.made.members * member_words) g.members (omega (arith, h.more-members));
     }
 
 pub state_both : (was mid is : Declarations) (a b c : State) → StateKept was mid a b → StateKept mid is b c → StateKept was is a c
 state_both was mid is a b c g h =
     record {
       more-types = omega (arith, g.more-types, h.more-types);
-      types = h.types ∙ drop_later mid.types was.types (b.types * type_words) (c.types * type_words) g.types (omega (arith, h.more-types));
+      types = h.types ∙ drop_later mid.types was.types (b.made.types * type_words) (c.made.types * type_words) g.types (omega (arith, h.more-types));
       more-members = omega (arith, g.more-members, h.more-members);
-      members = h.members ∙ drop_later mid.members was.members (b.members * member_words) (c.members * member_words) g.members (omega (arith, h.more-members));
+      members = h.members ∙ drop_later mid.members was.members (b.made.members * member_words) (c.made.members * member_words) g.members (omega (arith, h.more-members));
     }
 
 -- ---- no member yet
 abbrev pub first_body : State → (at : ℕ) → Body
-first_body d at = record { names = 0; end = 0; align = 1; fixed = true; types = d.types; members = d.members; at = at }
+first_body d at = record { names = 0; end = 0; align = 1; fixed = true; made = d.made; at = at }
 
 -- ---- a struct in the tables
 -- of what was declared before, only the structs and the number of members count
@@ -87,22 +87,22 @@ module _ (s : List ℕ) (structs : List NamedShape) (names : List Span) (types m
   span = round_up b.align b.end
 
   abbrev pub struct_shape : Shape
-  struct_shape = shape b.types span b.align b.fixed
+  struct_shape = shape b.made.types span b.align b.fixed
 
   abbrev pub next_state : State
-  next_state = record { structs = d.structs + 1; types = b.types + 1; members = b.members; at = b.at }
+  next_state = record { structs = d.structs + 1; made = record { types = b.made.types + 1; members = b.made.members }; at = b.at }
 
-  pub struct_is : d.structs < length structs → b.types * type_words + type_words ≤ length types
+  pub struct_is : d.structs < length structs → b.made.types * type_words + type_words ≤ length types
       → declared_in s (
       declarations (set structs d.structs (record { name = name; shape = struct_shape }))
-      names (with_part type_words types (b.types * type_words) (words_of (struct_record d.members (b.members - d.members) span))) members) next_state
+      names (with_part type_words types (b.made.types * type_words) (words_of (struct_record d.made.members (b.made.members - d.made.members) span))) members) next_state
       ≡ with_struct (declared_in s (declarations structs names types members) d) (name_in s name.start name.end) (members_in s (tables names types members) b)
   unfolding with_struct
   struct_is named room =
       rw (
         take_more_set structs d.structs (record { name = name; shape = struct_shape }) named,
         one_struct s (take d.structs structs) (record { name = name; shape = struct_shape }),
-        one_record type_words types (words_of (struct_record d.members (b.members - d.members) span)) b.types refl room,
+        one_record type_words types (words_of (struct_record d.made.members (b.made.members - d.made.members) span)) b.made.types refl room,
       )
 
 -- ---- a struct from its members on
@@ -150,7 +150,7 @@ module _ (s : List ℕ) (r : Rooms) (structs structs-now : List NamedShape) (nam
         },
         record {
           more-types = omega (arith, c.2, kept.more-types);
-          types = c.5 ∙ drop_later mid types (b.types * type_words) (after.types * type_words) kept.types (omega (arith, c.2));
+          types = c.5 ∙ drop_later mid types (b.made.types * type_words) (after.made.types * type_words) kept.types (omega (arith, c.2));
           more-members = omega (arith, c.4, kept.more-members);
           members = rw c.4 kept.members;
         },

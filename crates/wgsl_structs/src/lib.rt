@@ -1,4 +1,6 @@
 // The members of a struct, the struct, and the declarations of a WGSL text.
+// Kept: `s` and `at`, the text and a position, are two parameters, as in wgsl_grammar: positions are what is read, and tokens, records and refusals hold them
+// alone, so a struct of both would be built again from the text at each call.
 #![tactic(auto)]
 
 ghost use Rattle.std.specs.Prelude.{◌≡◌, ◌+◌, length, Ok};
@@ -9,20 +11,15 @@ ghost use Rattle.wgsl_members.specs.Serving.{tables, members_in, Bounds};
 ghost use Rattle.wgsl_structs.specs.Structs.{goes, closes_or, member_end, members_of, struct_body, struct_of, declaration_of, declarations_of};
 ghost use Rattle.wgsl_structs.specs.Serving.{end_read, MembersRead, declarations, declared_in, StateBounds, StructRead, Closable, ClosedIn, first, DeclarationRead};
 
-use ir_records::{Kind, Records};
+use ir_records::{Kind, Records, Words};
 use program_words::Span;
+use std::ops::ControlFlow;
 use wgsl_grammar::{Problem, Refusal};
 use wgsl_members::Body;
 use wgsl_placement::Shape;
 use wgsl_tables::NamedShape;
 use wgsl_tokens::Lexed;
-
-// What follows a member: the struct closes, or there is another member.
-#[derive(Clone, Copy, Debug, PartialEq, Eq)]
-pub enum EndAt {
-    Closes { at: usize, close: usize },
-    Goes(usize),
-}
+use wgsl_types::End;
 
 // The members of a struct that has closed; `close` is a position before its `}`.
 #[derive(Clone, Copy, Debug, PartialEq, Eq)]
@@ -31,31 +28,31 @@ pub struct MembersAt {
     pub close: usize,
 }
 
-// How many structs, type records and member records there are, and where the text goes on.
+// How many structs there are, the records made, and where the text goes on.
 #[derive(Clone, Copy, Debug, PartialEq, Eq)]
 pub struct State {
     pub structs: u32,
-    pub types: u32,
-    pub members: u32,
+    pub made: Records,
     pub at: usize,
 }
 
-fn after_comma(s: &[u8], at: usize) -> EndAt
+// After a comma: `}`, at which the struct ends, or another member.
+fn after_comma(s: &[u8], at: usize) -> ControlFlow<End, usize>
     ensures { end_read s.now (Ok result) ≡ closes_or (expect 125 (from s.now at)) (goes (from s.now at)) }
 {
     if let Ok(end) = wgsl_grammar::expect(s, at, b'}') {
-        return EndAt::Closes { at: end, close: at };
+        return ControlFlow::Break(End { at: end, close: at });
     }
-    EndAt::Goes(at)
+    ControlFlow::Continue(at)
 }
 
 // After a member: `}`, or a comma, and perhaps `}`.
 #[tactic(auto, unfolding(crate::specs::Structs::member_end))]
-fn end_at(s: &[u8], at: usize) -> Result<EndAt, Refusal>
+fn end_at(s: &[u8], at: usize) -> Result<ControlFlow<End, usize>, Refusal>
     ensures { end_read s.now result ≡ member_end (from s.now at) }
 {
     if let Ok(end) = wgsl_grammar::expect(s, at, b'}') {
-        return Ok(EndAt::Closes { at: end, close: at });
+        return Ok(ControlFlow::Break(End { at: end, close: at }));
     }
     let next = wgsl_grammar::expect(s, at, b',')?;
     Ok(after_comma(s, next))
@@ -76,16 +73,18 @@ fn read_members(
     ensures { MembersRead s.now room (tables names.old types.old members.old) (tables names.new types.new members.new) first (members_of (length s.now) (length s.now) room (structs_in s.now structs.now) (members_in s.now (tables names.old types.old members.old) first)) result }
 {
     let mut body = first;
+    // Kept: the turns are those of the definition. `while let ControlFlow::Continue(at) = end_at(..)?` would have to fall in the tokens that are left, and a law
+    // would have to say that a text has no more of them than bytes.
     for _turn in 0..s.len() {
         let more = wgsl_members::read_member(s, structs, names, types, members, room, body)?;
         match end_at(s, more.at)? {
-            EndAt::Closes { at, close } => {
+            ControlFlow::Break(end) => {
                 return Ok(MembersAt {
-                    body: Body { at, ..more },
-                    close,
+                    body: Body { at: end.at, ..more },
+                    close: end.close,
                 });
             }
-            EndAt::Goes(at) => {
+            ControlFlow::Continue(at) => {
                 body = Body { at, ..more };
             }
         }
@@ -106,18 +105,16 @@ fn close_struct(
     requires { Closable structs.old types.old room state body }
     ensures { ClosedIn structs.old structs.new types.old types.new room state body name result }
 {
-    let span = wgsl_placement::round_up(body.align, body.end);
-    let Ok(size) = u32::try_from(span) else {
-        return Err(Refusal::of(Problem::LargeStruct, close));
-    };
-    if room <= body.types {
+    let span = proc_alignment::round_up_wide(body.align, body.end);
+    let size = u32::try_from(span).map_err(|_| Refusal::of(Problem::LargeStruct, close))?;
+    if room <= body.made.types {
         return Err(Refusal::of(Problem::TypesFull, close));
     }
-    let count = body.members - state.members;
-    let w = wgsl_placement::record_of(Kind::Struct as u32, state.members, count, size, 0);
-    wgsl_tables::put_type(types, body.types, w);
+    let count = body.made.members - state.made.members;
+    let w = Words::of(Kind::Struct as u32, state.made.members, count, size, 0);
+    wgsl_tables::put_type(types, body.made.types, w);
     let shape = Shape {
-        number: body.types,
+        number: body.made.types,
         size,
         align: body.align,
         fixed: body.fixed,
@@ -125,8 +122,10 @@ fn close_struct(
     structs[state.structs as usize] = NamedShape { name, shape };
     Ok(State {
         structs: state.structs + 1,
-        types: body.types + 1,
-        members: body.members,
+        made: Records {
+            types: body.made.types + 1,
+            ..body.made
+        },
         at: body.at,
     })
 }
@@ -152,8 +151,7 @@ fn struct_body(
         end: 0,
         align: 1,
         fixed: true,
-        types: state.types,
-        members: state.members,
+        made: state.made,
         at,
     };
     let earlier = &structs[..state.structs as usize];
@@ -180,7 +178,7 @@ fn read_struct(
 {
     let name = wgsl_grammar::name_at(s, at)?;
     let earlier = &structs[..state.structs as usize];
-    if wgsl_types::known_type(s, earlier, &s[name.start..name.end]).is_some() {
+    if wgsl_types::known_type(s, earlier, name.bytes(s)).is_some() {
         return Err(Refusal::of(Problem::RepeatedType, at));
     }
     let next = wgsl_grammar::expect(s, name.end, b'{')?;
@@ -203,8 +201,8 @@ fn declaration_at(
     match wgsl_tokens::next_token(s, state.at) {
         Ok(None) => Ok(None),
         Ok(Some(Lexed::Mark { byte: b';', end })) => Ok(Some(State { at: end, ..state })),
-        Ok(Some(Lexed::Word { start, end })) if wgsl_names::same(&s[start..end], b"struct") => {
-            let next = read_struct(s, structs, names, types, members, room, state, end)?;
+        Ok(Some(Lexed::Word(word))) if wgsl_names::same(word.bytes(s), b"struct") => {
+            let next = read_struct(s, structs, names, types, members, room, state, word.end)?;
             Ok(Some(next))
         }
         _ => Err(Refusal::of(Problem::NoDeclaration, state.at)),
@@ -225,10 +223,13 @@ pub fn read_declarations(
 {
     let mut state = State {
         structs: 0,
-        types: 0,
-        members: 0,
+        made: Records {
+            types: 0,
+            members: 0,
+        },
         at: 0,
     };
+    // Kept: the turns are those of the definition. `while let Some(next) = declaration_at(..)?` would have to fall in the tokens that are left, by the same law.
     for _turn in 0..s.len() + 1 {
         let read = declaration_at(s, structs, names, types, members, room, state)?;
         let Some(next) = read else {

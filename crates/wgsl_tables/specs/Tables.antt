@@ -1,10 +1,13 @@
 -- The tables that the reader of WGSL text fills: type and member records in the lent words; for each struct its name and its shape, and the names
 -- of the members of the struct that is being read. A name is two positions in the text.
 -- Assumes nothing.
-use Rattle.std.specs.Prelude.{Bool, true, false, ◌&&◌, ◌||◌, List, [], ◌∷◌, ◌++◌, ℕ, ◌*◌, leb, length, take, Some, None}
+use Rattle.std.specs.Prelude.{Bool, true, false, ◌&&◌, ◌||◌, List, [], ◌∷◌, ◌++◌, ℕ, ◌*◌, ◌/◌, min, leb, length, take, Some, None}
 use Rattle.std.specs.Prelude as std
 use Rattle.std.proofs.Math.Option.{Option, none, some}
 use Rattle.ir_records.specs.Result.{pick}
+use Rattle.ir_records.specs.Record.{type_words, member_words}
+use Rattle.ir_records.specs.Fields.{most_types, most_members}
+use Rattle.ir_records.specs.declared.Records as counts
 use Rattle.program_words.specs.Words.{part}
 use Rattle.program_words.specs.declared.Span.{Span}
 use Rattle.wgsl_names.specs.Names.{same}
@@ -18,6 +21,10 @@ pub record Records : Type 0 where
 
 abbrev pub records_in : (width : ℕ) → List ℕ → (made : ℕ) → Records
 records_in width words made = record { made = made; words = take (made * width) words }
+
+-- how many whole records so many lent words have room for, at most as many as an arena may have
+abbrev pub room_in : (types members : ℕ) → counts.Records
+room_in types members = record { types = min (types / type_words) most_types; members = min (members / member_words) most_members }
 
 -- ---- names
 unfoldable pub is_one_of : List ℕ → List (List ℕ) → Bool

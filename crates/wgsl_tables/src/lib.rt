@@ -5,9 +5,9 @@ ghost use Rattle.std.specs.Prelude.{◌≡◌, [], ◌∷◌, ◌≤◌, ◌+◌
 ghost use Rattle.ir_rows.specs.Rows.{with_part};
 ghost use Rattle.ir_records.specs.Record.{type_words, member_words};
 ghost use Rattle.wgsl_placement.specs.Placement.{words_of};
-ghost use Rattle.wgsl_tables.specs.Tables.{name_in, names_in, is_one_of, structs_in, lookup, shape_found};
+ghost use Rattle.wgsl_tables.specs.Tables.{room_in, name_in, names_in, is_one_of, structs_in, lookup, shape_found};
 
-use ir_records::{MEMBER_WORDS, TYPE_WORDS, Words};
+use ir_records::{MEMBER_WORDS, MOST_MEMBERS, MOST_TYPES, Records, TYPE_WORDS, Words};
 use program_words::Span;
 use wgsl_placement::Shape;
 
@@ -16,6 +16,16 @@ use wgsl_placement::Shape;
 pub struct NamedShape {
     pub name: Span,
     pub shape: Shape,
+}
+
+/// How many records the lent words have room for: whole ones, and no more than an arena may have.
+pub fn room_in(types: &[u32], members: &[u32]) -> Records
+    ensures { result ≡ room_in (length types.now) (length members.now) }
+{
+    Records {
+        types: (types.len() / TYPE_WORDS).min(MOST_TYPES) as u32,
+        members: (members.len() / MEMBER_WORDS).min(MOST_MEMBERS) as u32,
+    }
 }
 
 // Writes words from `at` on.
@@ -31,8 +41,7 @@ pub fn put_type(types: &mut [u32], i: u32, w: Words)
     requires { i * type_words + type_words ≤ length types.old }
     ensures { types.new ≡ with_part type_words types.old (i * type_words) (words_of w) }
 {
-    let words = [w.kind, w.a, w.b, w.c, w.d, w.e];
-    put_words(types, (i as usize) * TYPE_WORDS, &words);
+    put_words(types, (i as usize) * TYPE_WORDS, &w.words());
 }
 
 // Member record number i: no location, no blend source.
@@ -44,7 +53,7 @@ pub fn put_member(members: &mut [u32], i: u32, ty: u32, offset: u32)
     put_words(members, (i as usize) * MEMBER_WORDS, &words);
 }
 
-// The bytes of a name; none where its two positions are none in the text.
+// The bytes of a name; none where its two positions are none in the text, which `Span::bytes` asks of its callers.
 fn name_in(s: &[u8], name: Span) -> &[u8]
     ensures { result.now ≡ name_in s.now name.start name.end }
 {

@@ -9,11 +9,12 @@ use lib.Dec.{eqb}
 use lib.ListN.{length, get_or, drop, drop_of_length-le}
 use borrow.Author.Tests.{eqb-true, ne_eqb}
 use Rattle.std.specs.Prelude.{Result, Ok, Err}
+use Rattle.std.proofs.lemmas.Bool.{and_parts}
 use Rattle.wgsl_tokens.specs.Tokens.{Mode, code, line, block, stopped, is_blank, ends_line, is_ascii, opens_line, opens_block, closes_block, code_step, block_step, step_of, tokens, from}
 use Rattle.wgsl_tokens.specs.Lexed.{IsBad}
 use Rattle.wgsl_tokens.specs.Serving.{GapAt}
 use Rattle.wgsl_tokens.specs.declared.BrokenComment.{BrokenComment}
-use Rattle.wgsl_tokens.proofs.TokenLaws.{inside, both, head_next, drop_two, code_skip, block_skip, tokens_at}
+use Rattle.wgsl_tokens.proofs.TokenLaws.{inside, head_next, drop_two, code_skip, block_skip, tokens_at}
 
 module _ (s : List ℕ) (i : ℕ) where
   -- ---- a line comment
@@ -67,10 +68,10 @@ module _ (s : List ℕ) (i : ℕ) where
 
   -- the second byte is inside
   pub closes_inside : closes_block (get_or s i 0) (get_or s (i + 1) 0) ≡ true → i + 1 < length s
-  closes_inside e = inside s (i + 1) 46 (eqb-true (get_or s (i + 1) 0) 47 (both (eqb (get_or s i 0) 42) (eqb (get_or s (i + 1) 0) 47) e).1)
+  closes_inside e = inside s (i + 1) 46 (eqb-true (get_or s (i + 1) 0) 47 (and_parts (eqb (get_or s i 0) 42) (eqb (get_or s (i + 1) 0) 47) e).1)
 
   pub opens_inside : opens_block (get_or s i 0) (get_or s (i + 1) 0) ≡ true → i + 1 < length s
-  opens_inside e = inside s (i + 1) 41 (eqb-true (get_or s (i + 1) 0) 42 (both (eqb (get_or s i 0) 47) (eqb (get_or s (i + 1) 0) 42) e).1)
+  opens_inside e = inside s (i + 1) 41 (eqb-true (get_or s (i + 1) 0) 42 (and_parts (eqb (get_or s i 0) 47) (eqb (get_or s (i + 1) 0) 42) e).1)
 
   -- ---- between tokens
   module _ (h : i < length s) where

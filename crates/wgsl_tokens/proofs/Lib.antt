@@ -1,4 +1,3 @@
 pub mod TokenLaws
 pub mod GapLaws
 pub mod WordLaws
-pub mod RunLaws

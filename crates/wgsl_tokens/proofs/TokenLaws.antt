@@ -1,6 +1,5 @@
 -- Tokens, byte by byte: what stands at a position, by the byte there and the next one. Assumes nothing.
 use mathlib.Core.Path.{◌≡◌, refl, sym, ap, ◌∙◌}
-use mathlib.Core.Bool.{Bool, true, false, ◌||◌, ◌&&◌}
 use mathlib.Core.List.{List, [], ◌∷◌}
 use Prim.Native.Nat.{ℕ, zero, suc, ◌+◌, ◌≤◌, ◌<◌}
 use native.Mathlib.Numerals.{add-one}
@@ -9,7 +8,6 @@ use native.Mathlib.Omega.{arith}
 use native.Mathlib.Decide.{dec_le}
 use lib.ListN.{length, get_or, drop, drop_of_length-le, get_or-eq_default}
 use lib.Seq.{drop-cons, drop-drop, get_or-drop}
-use Rattle.ir_records.proofs.ResultLaws.{true_T, T_true, and_left, and_right}
 use Rattle.wgsl_tokens.specs.Tokens.{Mode, code, block, head, step_of, followed, tokens, from}
 
 -- a position with a byte other than 0 is inside
@@ -19,15 +17,6 @@ inside s i b e = go (dec_le (length s) i)
     go : Dec (length s ≤ i) → i < length s
     go (yes h) = let z = get_or-eq_default s 0 h in absurd (omega arith)
     go (no h) = omega arith
-
--- of two tests by `&&`
-pub both : (a b : Bool) → a && b ≡ true → (a ≡ true) × (b ≡ true)
-both a b e = (T_true a (and_left a b (true_T e)), T_true b (and_right a b (true_T e)))
-
--- of two tests by `||`
-pub neither : (a b : Bool) → a || b ≡ false → (a ≡ false) × (b ≡ false)
-neither true b e = (e, let z : ◌≡◌ {A = ℕ} 0 1 = cc in absurd (omega arith))
-neither false b e = (refl, e)
 
 -- the byte after position i
 pub head_next : (s : List ℕ) (i : ℕ) → head (drop (suc i) s) ≡ get_or s (i + 1) 0

@@ -14,17 +14,18 @@ use borrow.Author.Tests.{eq-eqb}
 use Rattle.program_words.specs.Words.{run_of, part}
 use Rattle.program_words.specs.Number.{is_digit, number_of}
 use Rattle.std.specs.Prelude.{Result}
+use Rattle.std.proofs.lemmas.Bool.{or_parts}
 use Rattle.program_words.specs.declared.NumberError.{NumberError}
 use Rattle.wgsl_tokens.specs.Tokens.{number_token, Token, word, mark, bad, code, stopped, is_blank, starts_word, in_word, is_mark, opens_line, opens_block, word_of, digits_of, code_step, step_of, tokens, from}
 use Rattle.wgsl_tokens.specs.Lexed.{IsBad, starts_gap}
-use Rattle.wgsl_tokens.proofs.TokenLaws.{neither, head_next, code_skip, tokens_at}
+use Rattle.wgsl_tokens.proofs.TokenLaws.{head_next, code_skip, tokens_at}
 
 -- neither blank nor a comment
 pub gap_free : (s : List ℕ) (i : ℕ) → starts_gap s i ≡ false
     → (is_blank (get_or s i 0) ≡ false) × (opens_line (get_or s i 0) (get_or s (i + 1) 0) ≡ false) × (opens_block (get_or s i 0) (get_or s (i + 1) 0) ≡ false)
 gap_free s i e =
-    let first = neither (is_blank (get_or s i 0) || opens_line (get_or s i 0) (get_or s (i + 1) 0)) (opens_block (get_or s i 0) (get_or s (i + 1) 0)) e in
-    let second = neither (is_blank (get_or s i 0)) (opens_line (get_or s i 0) (get_or s (i + 1) 0)) first.0 in
+    let first = or_parts (is_blank (get_or s i 0) || opens_line (get_or s i 0) (get_or s (i + 1) 0)) (opens_block (get_or s i 0) (get_or s (i + 1) 0)) e in
+    let second = or_parts (is_blank (get_or s i 0)) (opens_line (get_or s i 0) (get_or s (i + 1) 0)) first.0 in
     (second.0, second.1, first.1)
 
 -- ---- a part of the text

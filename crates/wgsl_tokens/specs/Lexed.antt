@@ -23,14 +23,14 @@ StartAt s at (Err broken) = IsBad (from s at)
 
 -- where the text goes on after a token
 abbrev pub end_of : Lexed → ℕ
-end_of (Word start end) = end
+end_of (Word name) = name.end
 end_of (Number value end) = end
 end_of (Large end) = end
 end_of (Mark byte end) = end
 
 -- a token that stands next, and where the text goes on
 abbrev pub LexedAt : List ℕ → (at : ℕ) → Result Lexed BadToken → Type 0
-LexedAt s at (Ok (Word start end)) = (start ≤ end) × (end ≤ length s) × (from s at ≡ word (part s start end) ∷ from s end)
+LexedAt s at (Ok (Word name)) = (name.start ≤ name.end) × (name.end ≤ length s) × (from s at ≡ word (part s name.start name.end) ∷ from s name.end)
 LexedAt s at (Ok (Number value end)) = from s at ≡ number value ∷ from s end
 LexedAt s at (Ok (Large end)) = from s at ≡ large ∷ from s end
 LexedAt s at (Ok (Mark byte end)) = from s at ≡ mark byte ∷ from s end

@@ -1,15 +1,11 @@
 -- Serves the contracts of functions inside the library: it adds nothing to what the other files say, and a reader may skip it.
 -- Assumes nothing.
-use Rattle.std.specs.Prelude.{◌≡◌, Bool, List, ℕ, ◌+◌, ◌≤◌, ◌<◌, length, drop, Result, Ok, Err}
+use Rattle.std.specs.Prelude.{◌≡◌, List, ℕ, ◌+◌, ◌≤◌, ◌<◌, length, drop, Result, Ok, Err}
 use Rattle.wgsl_tokens.specs.Tokens.{Mode, block, tokens, from}
 use Rattle.wgsl_tokens.specs.declared.BrokenComment.{BrokenComment}
 use Rattle.wgsl_tokens.specs.declared.Block.{Block}
 use Rattle.wgsl_tokens.specs.declared.Block.TheVariants.{Inside, Closed}
 use Rattle.wgsl_tokens.specs.Lexed.{IsBad}
-
--- what a function answers of a byte is a test of it
-abbrev pub Tells : (post : ℕ → Bool → Type 0) (test : ℕ → Bool) → Type 0
-Tells post test = (c : ℕ) (r : Bool) → post c r → r ≡ test c
 
 -- from `at` on in a mode, the text goes on between tokens further on, or is bad
 abbrev pub GapAt : Mode → List ℕ → (at : ℕ) → Result ℕ BrokenComment → Type 0

@@ -1,21 +1,23 @@
 // WGSL text as tokens: the next one from a position on, after blankspace and comments.
+// Kept: `s` and `at`, the text and a position, are two parameters, as in wgsl_grammar: positions are what is read, and tokens, records and refusals hold them
+// alone, so a struct of both would be built again from the text at each call.
 #![tactic(auto)]
 
-ghost use Rattle.std.specs.Prelude.{◌≡◌, Bool, ℕ, true, false, ◌+◌, ◌≤◌, ◌<◌, length, get_or, drop};
-ghost use Rattle.program_words.specs.Words.{run_of};
+ghost use Rattle.std.specs.Prelude.{◌≡◌, true, false, ◌≤◌, ◌<◌, length, get_or};
 ghost use Rattle.program_words.specs.Number.{is_digit};
 ghost use Rattle.wgsl_tokens.specs.Tokens.{code, is_blank, ends_line, is_ascii, starts_word, in_word, is_mark, opens_line, opens_block, closes_block, line, block};
 ghost use Rattle.wgsl_tokens.specs.Lexed.{starts_gap, end_of, StartAt, LexedAt, TokenAt};
-ghost use Rattle.wgsl_tokens.specs.Serving.{Tells, GapAt, BlockAt};
+ghost use Rattle.wgsl_tokens.specs.Serving.{GapAt, BlockAt};
 
-use program_words::NumberError;
+use program_words::{NumberError, Span};
 
 // A token, and where the text goes on after it.
 #[derive(Clone, Copy, Debug, PartialEq, Eq)]
 pub enum Lexed {
-    Word { start: usize, end: usize },
+    Word(Span),
     Number { value: u32, end: usize },
     // A number above 4,294,967,295.
+    // Kept: a token of its own, as in the definition of tokens; with an Option as the value of `Number` its readers would tell the two apart all the same.
     Large(usize),
     Mark { byte: u8, end: usize },
 }
@@ -26,10 +28,8 @@ impl Lexed {
         ensures { result ≡ end_of self }
     {
         match self {
-            Lexed::Word { end, .. }
-            | Lexed::Number { end, .. }
-            | Lexed::Large(end)
-            | Lexed::Mark { end, .. } => end,
+            Lexed::Word(word) => word.end,
+            Lexed::Number { end, .. } | Lexed::Large(end) | Lexed::Mark { end, .. } => end,
         }
     }
 }
@@ -51,6 +51,7 @@ impl From<BrokenComment> for BadToken {
 }
 
 // A byte later in block comments: in how many of them, or after the last one.
+// Kept: as a `ControlFlow<usize, Depth>` it would need a struct for the position and the depth, and its two cases would lose their names.
 #[derive(Clone, Copy, Debug, PartialEq, Eq)]
 pub enum Block {
     Inside { at: usize, depth: usize },
@@ -90,16 +91,10 @@ fn starts_word(c: u8) -> bool
     c.is_ascii_alphabetic() | (c == b'_')
 }
 
-fn is_digit(c: u8) -> bool
-    ensures { result ≡ is_digit c }
-{
-    c.is_ascii_digit()
-}
-
 fn in_word(c: u8) -> bool
     ensures { result ≡ in_word c }
 {
-    starts_word(c) | is_digit(c)
+    starts_word(c) | program_words::is_digit(c)
 }
 
 fn is_mark(c: u8) -> bool
@@ -128,19 +123,6 @@ fn closes_block(c: u8, next: u8) -> bool
     ensures { result ≡ closes_block c next }
 {
     (c == b'*') & (next == b'/')
-}
-
-// Where the run of bytes that pass a test ends, which starts at `at`.
-// Kept: `run_end` of program_words is the same search by classes of bytes, which have names in its definitions.
-fn run_end<F: Fn(u8) -> bool>(s: &[u8], at: usize, in_run: F) -> usize
-    requires callable { F.IsAlwaysCallable in_run }
-    requires within { at ≤ length s.now }
-    ensures value { (test : ℕ → Bool) → Tells (F.post in_run) test → result ≡ at + run_of test (drop at s.now) }
-    ensures lower_bound { (at ≤ result) × (result ≤ length s.now) }
-{
-    let rest = &s[at..];
-    let length = rest.iter().position(|c| !in_run(*c)).unwrap_or(rest.len());
-    at + length
 }
 
 // From `at` on in a line comment, which may end with the text.
@@ -259,13 +241,13 @@ fn word_at(s: &[u8], start: usize) -> Result<Lexed, BadToken>
     requires { (start < length s.now) × (starts_gap s.now start ≡ false) × (starts_word (get_or s.now start 0) ≡ true) }
     ensures { LexedAt s.now start result }
 {
-    let end = run_end(s, start + 1, in_word);
+    let end = program_words::run_end(s, start + 1, in_word);
     let second = byte_at(s, start + 1);
     let long = end - start;
     if (s[start] == b'_') & ((long == 1) | (second == b'_')) {
         return Err(BadToken);
     }
-    Ok(Lexed::Word { start, end })
+    Ok(Lexed::Word(Span { start, end }))
 }
 
 // A number that starts at a position: no leading zero, no suffix, no point.
@@ -273,7 +255,7 @@ fn number_at(s: &[u8], start: usize) -> Result<Lexed, BadToken>
     requires { (start < length s.now) × (starts_gap s.now start ≡ false) × (starts_word (get_or s.now start 0) ≡ false) × (is_digit (get_or s.now start 0) ≡ true) }
     ensures { LexedAt s.now start result }
 {
-    let end = run_end(s, start + 1, is_digit);
+    let end = program_words::run_end(s, start + 1, program_words::is_digit);
     let next = byte_at(s, end);
     let long = end - start;
     if ((s[start] == b'0') & (1 < long)) | in_word(next) | (next == b'.') {
@@ -295,7 +277,7 @@ fn lexed_at(s: &[u8], start: usize) -> Result<Lexed, BadToken>
     if starts_word(c) {
         return word_at(s, start);
     }
-    if is_digit(c) {
+    if program_words::is_digit(c) {
         return number_at(s, start);
     }
     if is_mark(c) {

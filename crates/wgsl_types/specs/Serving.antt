@@ -19,13 +19,13 @@ use Rattle.wgsl_types.specs.declared.Unclosed.{Unclosed}
 use Rattle.wgsl_types.specs.declared.Unclosed.TheVariants as unclosed
 
 abbrev pub count_read : List ℕ → Result CountAt Refusal → Reading Counted
-count_read s (Ok c) = read (record { count = c.count; rest = from s c.at })
+count_read s (Ok c) = read (record { count = c.count; rest = from s c.end.at })
 count_read s (Err r) = refused (number_of r.fault)
 
 -- what is left of a type after its name and its `<`
 abbrev pub opened_type : (inner : Records → List Token → Closing) → (room left : ℕ) → Records → List ℕ → Result Opened Refusal → Closing
-opened_type inner room left types s (Ok (opened.Scalar k at close)) = scalar_type room types k (from s at)
-opened_type inner room left types s (Ok (opened.Struct e at close)) = closed e types (from s at)
+opened_type inner room left types s (Ok (opened.Scalar k end)) = scalar_type room types k (from s end.at)
+opened_type inner room left types s (Ok (opened.Struct e end)) = closed e types (from s end.at)
 opened_type inner room left types s (Ok (opened.Template t at)) = template_type room left types t (from s at)
 opened_type inner room left types s (Ok (opened.Array at)) = arguments_of room (inner types (from s at))
 opened_type inner room left types s (Err r) = stopped (number_of r.fault)
@@ -38,7 +38,7 @@ refused_inside (unclosed.Full e close) = refusal_of TypesFull close
 -- what the reading of a type came to, after so many records, in the type words as they were and as they are; behind the records nothing changes
 abbrev pub TypeRead : List ℕ → (room before : ℕ) → (was is : List ℕ) → Closing → Result Closed Unclosed → Type 0
 TypeRead s room before was is c (Ok x) =
-    (c ≡ closed x.shape (records_in type_words is x.made) (from s x.at)) × (before ≤ x.made) × (x.made ≤ room) × (drop (x.made * type_words) is ≡ drop (x.made * type_words) was)
+    (c ≡ closed x.shape (records_in type_words is x.made) (from s x.end.at)) × (before ≤ x.made) × (x.made ≤ room) × (drop (x.made * type_words) is ≡ drop (x.made * type_words) was)
 TypeRead s room before was is c (Err (unclosed.Full e close)) = c ≡ full e
 TypeRead s room before was is c (Err (unclosed.Refused r)) = c ≡ stopped (number_of r.fault)
 

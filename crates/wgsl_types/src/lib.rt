@@ -1,4 +1,6 @@
 // A type in WGSL text: the type reader and the template-argument reader call each other, and the levels left fall.
+// Kept: `s` and `at`, the text and a position, are two parameters, as in wgsl_grammar: positions are what is read, and tokens, records and refusals hold them
+// alone, so a struct of both would be built again from the text at each call.
 #![tactic(auto)]
 
 ghost use Rattle.std.specs.Prelude.{◌≡◌, None, List, ℕ};
@@ -22,45 +24,39 @@ pub enum Known {
     Struct(Shape),
 }
 
-// Of an array, none of a runtime-sized one, and where the text goes on after its `>`. `close`, here and below, is a position before the token at which a type closes.
+/// Where a type ends: the text goes on at `at`, and `close` is a position before the token at which it closes.
 #[derive(Clone, Copy, Debug, PartialEq, Eq)]
-pub struct CountAt {
-    pub count: Option<u32>,
+pub struct End {
     pub at: usize,
     pub close: usize,
 }
 
+// Of an array, none of a runtime-sized one, and the end after its `>`.
+#[derive(Clone, Copy, Debug, PartialEq, Eq)]
+pub struct CountAt {
+    pub count: Option<u32>,
+    pub end: End,
+}
+
 // A type after its name, and after the `<` of a template.
+// Kept: `read_type` has a step for each. As closures the four would each hold the same `&mut` table, which only one may.
 #[derive(Clone, Copy, Debug, PartialEq, Eq)]
 pub enum Opened {
-    Scalar {
-        scalar: Scalar,
-        at: usize,
-        close: usize,
-    },
-    Struct {
-        shape: Shape,
-        at: usize,
-        close: usize,
-    },
-    Template {
-        template: Template,
-        at: usize,
-    },
+    Scalar { scalar: Scalar, end: End },
+    Struct { shape: Shape, end: End },
+    Template { template: Template, at: usize },
     Array(usize),
 }
 
-/// A type that has closed: what it is, how many type records there are then, and where the text goes on.
+/// A type that has closed: what it is, how many type records there are then, and where it ends.
 #[derive(Clone, Copy, Debug, PartialEq, Eq)]
 pub struct Closed {
     pub shape: Shape,
     pub made: u32,
-    pub at: usize,
-    pub close: usize,
+    pub end: End,
 }
 
 /// Why there is no type: it is refused; or it has closed and there is no room for its record, which is refused last.
-// Kept: this is the error of a `Result`, and its two variants are refused at different places.
 #[derive(Clone, Copy, Debug, PartialEq, Eq)]
 pub enum Unclosed {
     Refused(Refusal),
@@ -103,21 +99,14 @@ fn open_type(s: &[u8], structs: &[NamedShape], at: usize) -> Result<Opened, Refu
     ensures { (inner : Records → List Token → Closing) (room left : ℕ) (types : Records) → type_after inner room left (structs_in s.now structs.now) types (from s.now at) ≡ opened_type inner room left types s.now result }
 {
     let name = wgsl_grammar::name_at(s, at)?;
-    let known = known_type(s, structs, &s[name.start..name.end]).ok_or(Refusal::of(
-        Problem::UnknownType,
-        at,
-    ))?;
+    let known = known_type(s, structs, name.bytes(s)).ok_or(Refusal::of(Problem::UnknownType, at))?;
+    let end = End {
+        at: name.end,
+        close: at,
+    };
     match known {
-        Known::Predeclared(TypeName::OfScalar(scalar)) => Ok(Opened::Scalar {
-            scalar,
-            at: name.end,
-            close: at,
-        }),
-        Known::Struct(shape) => Ok(Opened::Struct {
-            shape,
-            at: name.end,
-            close: at,
-        }),
+        Known::Predeclared(TypeName::OfScalar(scalar)) => Ok(Opened::Scalar { scalar, end }),
+        Known::Struct(shape) => Ok(Opened::Struct { shape, end }),
         Known::Predeclared(TypeName::OfTemplate(template)) => {
             let at = wgsl_grammar::expect(s, name.end, b'<')?;
             Ok(Opened::Template { template, at })
@@ -129,9 +118,10 @@ fn open_type(s: &[u8], structs: &[NamedShape], at: usize) -> Result<Opened, Refu
     }
 }
 
-// A record more, where there is room for it. The text goes on at `at`, whatever it is.
+// A record more, where there is room for it. The text goes on at the end, whatever it is.
 // Kept: `s`, `types`, `room`, `made`: here and below the lent words, the room in them and the count are three parameters, and `Room` is asked of them. A
-// struct of the three would hold a `&mut`, and each function that takes it would have to ensure that it still holds the same one.
+// struct of the three would hold a `&mut`, and each function that takes it would have to ensure that it still holds the same one. `types` cut to `room` records
+// would ask more of `read_type`'s callers, and each function would have to divide its length to know the room.
 #[tactic(auto, unfolding(crate::specs::Types::make_type))]
 fn make_type(
     types: &mut [u32],
@@ -139,22 +129,23 @@ fn make_type(
     made: u32,
     shape: Shape,
     w: Words,
-    at: usize,
-    close: usize,
+    end: End,
 ) -> Result<Closed, Unclosed>
     requires { Room room made types.old }
-    ensures { (s : List ℕ) → TypeRead s room made types.old types.new (make_type room (records_in type_words types.old made) shape w (from s at)) result }
+    ensures { (s : List ℕ) → TypeRead s room made types.old types.new (make_type room (records_in type_words types.old made) shape w (from s end.at)) result }
 {
     if made < room {
         wgsl_tables::put_type(types, made, w);
         return Ok(Closed {
             shape,
             made: made + 1,
-            at,
-            close,
+            end,
         });
     }
-    Err(Unclosed::Full { shape, close })
+    Err(Unclosed::Full {
+        shape,
+        close: end.close,
+    })
 }
 
 fn make_scalar(
@@ -162,18 +153,18 @@ fn make_scalar(
     room: u32,
     made: u32,
     scalar: Scalar,
-    at: usize,
-    close: usize,
+    end: End,
 ) -> Result<Closed, Unclosed>
     requires { Room room made types.old }
-    ensures { (s : List ℕ) → TypeRead s room made types.old types.new (scalar_type room (records_in type_words types.old made) scalar (from s at)) result }
+    ensures { (s : List ℕ) → TypeRead s room made types.old types.new (scalar_type room (records_in type_words types.old made) scalar (from s end.at)) result }
 {
     let shape = wgsl_placement::scalar_shape(made, scalar);
     let w = wgsl_placement::scalar_record(scalar);
-    make_type(types, room, made, shape, w, at, close)
+    make_type(types, room, made, shape, w, end)
 }
 
 // The end of a vector, matrix or atomic, after its scalar.
+// Kept: here and in the next `template` and `scalar`, as in wgsl_placement: `template_type` has a template before there is a scalar.
 fn close_template(
     s: &[u8],
     types: &mut [u32],
@@ -187,13 +178,13 @@ fn close_template(
     ensures { TypeRead s.now room made types.old types.new (close_template room template scalar (records_in type_words types.old made) (from s.now at)) result }
 {
     let close = wgsl_grammar::skipping(s, at, b',');
-    let next = wgsl_grammar::expect(s, close, b'>')?;
+    let at = wgsl_grammar::expect(s, close, b'>')?;
     let shape = wgsl_placement::template_shape(made, template, scalar);
     let w = wgsl_placement::template_record(template, scalar);
-    make_type(types, room, made, shape, w, next, close)
+    make_type(types, room, made, shape, w, End { at, close })
 }
 
-// A vector, matrix or atomic from its scalar on, which ends at `at`.
+// A vector, matrix or atomic from its scalar on, whose end is given.
 fn template_of(
     s: &[u8],
     types: &mut [u32],
@@ -201,14 +192,13 @@ fn template_of(
     made: u32,
     template: Template,
     scalar: Scalar,
-    at: usize,
-    close: usize,
+    end: End,
 ) -> Result<Closed, Unclosed>
     requires { Room room made types.old }
-    ensures { TypeRead s.now room made types.old types.new (template_of room (records_in type_words types.old made) template (some scalar) (from s.now at)) result }
+    ensures { TypeRead s.now room made types.old types.new (template_of room (records_in type_words types.old made) template (some scalar) (from s.now end.at)) result }
 {
-    let inner = make_scalar(types, room, made, scalar, at, close).map_err(refused_inside)?;
-    close_template(s, types, room, inner.made, template, scalar, inner.at)
+    let inner = make_scalar(types, room, made, scalar, end).map_err(refused_inside)?;
+    close_template(s, types, room, inner.made, template, scalar, inner.end.at)
 }
 
 // A vector, matrix or atomic after its `<`.
@@ -229,10 +219,14 @@ fn template_type(
         return Err(Refusal::of(Problem::TooDeep, at).into());
     }
     let name = wgsl_grammar::name_at(s, at)?;
-    let Some(TypeName::OfScalar(scalar)) = wgsl_names::predeclared(&s[name.start..name.end]) else {
+    let Some(TypeName::OfScalar(scalar)) = wgsl_names::predeclared(name.bytes(s)) else {
         return Err(Refusal::of(Problem::NoScalar, at).into());
     };
-    template_of(s, types, room, made, template, scalar, name.end, at)
+    let end = End {
+        at: name.end,
+        close: at,
+    };
+    template_of(s, types, room, made, template, scalar, end)
 }
 
 // A count, and the `>` after it.
@@ -245,23 +239,18 @@ fn number_count(s: &[u8], at: usize) -> Result<CountAt, Refusal>
         return Err(Refusal::of(Problem::ZeroCount, at));
     }
     let close = wgsl_grammar::skipping(s, number.at, b',');
-    let end = wgsl_grammar::expect(s, close, b'>')?;
+    let at = wgsl_grammar::expect(s, close, b'>')?;
     Ok(CountAt {
         count: Some(number.value),
-        at: end,
-        close,
+        end: End { at, close },
     })
 }
 
 // An array that ends at a `>` is runtime-sized.
-fn runtime_at(at: usize, close: usize) -> CountAt
-    ensures { result ≡ record { count = None; at = at; close = close } }
+fn runtime_at(end: End) -> CountAt
+    ensures { result ≡ record { count = None; end = end } }
 {
-    CountAt {
-        count: None,
-        at,
-        close,
-    }
+    CountAt { count: None, end }
 }
 
 // After the comma of an array.
@@ -269,8 +258,11 @@ fn runtime_at(at: usize, close: usize) -> CountAt
 fn comma_count(s: &[u8], at: usize) -> Result<CountAt, Refusal>
     ensures { count_read s.now result ≡ comma_count (from s.now at) }
 {
-    if let Ok(end) = wgsl_grammar::expect(s, at, b'>') {
-        return Ok(runtime_at(end, at));
+    if let Ok(next) = wgsl_grammar::expect(s, at, b'>') {
+        return Ok(runtime_at(End {
+            at: next,
+            close: at,
+        }));
     }
     number_count(s, at)
 }
@@ -280,8 +272,11 @@ fn comma_count(s: &[u8], at: usize) -> Result<CountAt, Refusal>
 fn count_at(s: &[u8], at: usize) -> Result<CountAt, Refusal>
     ensures { count_read s.now result ≡ count_of (from s.now at) }
 {
-    if let Ok(end) = wgsl_grammar::expect(s, at, b'>') {
-        return Ok(runtime_at(end, at));
+    if let Ok(next) = wgsl_grammar::expect(s, at, b'>') {
+        return Ok(runtime_at(End {
+            at: next,
+            close: at,
+        }));
     }
     let next = wgsl_grammar::expect(s, at, b',')?;
     comma_count(s, next)
@@ -294,15 +289,14 @@ fn close_array(
     made: u32,
     element: Shape,
     count: Option<u32>,
-    at: usize,
-    close: usize,
+    end: End,
 ) -> Result<Closed, Unclosed>
     requires { Room room made types.old }
-    ensures { (s : List ℕ) → TypeRead s room made types.old types.new (close_array room element (records_in type_words types.old made) (record { count = count; rest = from s at })) result }
+    ensures { (s : List ℕ) → TypeRead s room made types.old types.new (close_array room element (records_in type_words types.old made) (record { count = count; rest = from s end.at })) result }
 {
     let measure = wgsl_placement::array_measure(count, element).ok_or(Refusal::of(
         Problem::LargeArray,
-        close,
+        end.close,
     ))?;
     let shape = Shape {
         number: made,
@@ -310,8 +304,8 @@ fn close_array(
         align: element.align,
         fixed: count.is_some() & element.fixed,
     };
-    let w = wgsl_placement::array_record(count, element.number, measure.stride);
-    make_type(types, room, made, shape, w, at, close)
+    let w = Words::array(element.number, count, measure.stride);
+    make_type(types, room, made, shape, w, end)
 }
 
 // The end of an array, after its element.
@@ -328,15 +322,7 @@ fn array_of(
     ensures { TypeRead s.now room made types.old types.new (array_of room element (records_in type_words types.old made) (from s.now at)) result }
 {
     let counted = count_at(s, at)?;
-    close_array(
-        types,
-        room,
-        made,
-        element,
-        counted.count,
-        counted.at,
-        counted.close,
-    )
+    close_array(types, room, made, element, counted.count, counted.end)
 }
 
 // A type, with so many levels left, this one too.
@@ -358,13 +344,8 @@ pub fn read_type(
     }
     let inner = left - 1;
     match open_type(s, structs, at)? {
-        Opened::Scalar { scalar, at, close } => make_scalar(types, room, made, scalar, at, close),
-        Opened::Struct { shape, at, close } => Ok(Closed {
-            shape,
-            made,
-            at,
-            close,
-        }),
+        Opened::Scalar { scalar, end } => make_scalar(types, room, made, scalar, end),
+        Opened::Struct { shape, end } => Ok(Closed { shape, made, end }),
         Opened::Template { template, at } => template_type(
             s, types, room, inner, made, template, at,
         ),
@@ -387,5 +368,5 @@ fn read_arguments(
     ensures { TypeRead s.now room made types.old types.new (arguments_of room (type_of room left (structs_in s.now structs.now) (records_in type_words types.old made) (from s.now at))) result }
 {
     let inner = read_type(s, structs, types, room, made, at, left).map_err(refused_inside)?;
-    array_of(s, types, room, inner.made, inner.shape, inner.at)
+    array_of(s, types, room, inner.made, inner.shape, inner.end.at)
 }

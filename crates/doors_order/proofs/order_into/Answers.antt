@@ -1,12 +1,9 @@
--- `doors_order::order_into` meets its contract. Assumes nothing.
+-- `doors_order::order_into` meets its contract: what was found. Assumes nothing.
 use Rattle.std.proofs.Common.{length}
-use Rattle.doors_order.proofs.OrderLaws.{outcome_is, found_is}
+use Rattle.doors_order.proofs.OrderLaws.{found_is}
 use Rattle.doors_order.proofs.order_into.Goals as goal
 
-pub returns : goal.returns
-returns c =
+pub returns-clause-found_after : goal.returns-clause-found_after
+returns-clause-found_after c =
     let r = c.order-made.ensures in
-    let made = c.order-made.result in
-    let found = rw (found_is c.args.found.now (length c.args.wanted.now) made r.places, r.value) at c.put_found.ensures in
-    let answer = rw (← outcome_is made, r.value) at c.put_answer.ensures in
-    record { types_after = r.types_after; members_after = r.members_after; rows_after = r.rows_after; found_after = found; answer_after = answer }
+    rw (found_is c.args.found.now (length c.args.wanted.now) c.order-made.result r.places, r.value) at c.put_found.ensures

@@ -1,10 +1,10 @@
 -- `immediates_ranges::range_slots` meets its contract: the two shifts and the meet give the slots that the part covers, its borders those that it covers
 -- only in part. Assumes nothing.
-use mathlib.Core.Path.{◌≡◌, refl, sym, ap, ap₂, ◌∙◌}
+use mathlib.Core.Path.{◌≡◌, sym, ap, ap₂, ◌∙◌}
 use native.Mathlib.Omega.{arith}
 use Prim.Native.Nat.{ℕ, ◌+◌, ◌-◌, ◌/◌, ◌%◌, ◌^◌, ◌<◌, min}
 use lib.Bits.{bit_or}
-use borrow.Author.Tests.{ne_eqb, lt-leb, le-leb}
+use borrow.Author.Tests.{ne_eqb, le-leb}
 use Rattle.immediates_ranges.specs.Slots.{slot_bytes, range_slots}
 use Rattle.immediates_ranges.specs.Slots.{Mask}
 use Rattle.immediates_ranges.proofs.RangeLaws.{shifts, range_mask}

@@ -11,14 +11,14 @@ abbrev pub decreases-members_part : goal.decreases-members_part
 decreases-members_part l = 2 * l.walk.of.ty
 
 abbrev pub decreases-struct_part : goal.decreases-struct_part
-decreases-struct_part l = 2 * l.ty + 1
+decreases-struct_part l = 2 * l.own.ty + 1
 
 abbrev pub invariant-members_part-loop-j : goal.invariant-members_part-loop-j
 invariant-members_part-loop-j l = record {
-  within : l.j ≤ l.walk.of.count;
-  so_far : part_in l.part ≡ members_at l.walk.of.types.now l.walk.of.members.now l.walk.of.ty l.walk.of.offset l.j;
+  within : l.j ≤ l.walk.count;
+  so_far : part_in l.part ≡ members_at l.walk.of.types.now l.walk.of.members.now l.walk.of.ty l.walk.offset l.j;
   keeps : Keeps (part_at (decoded l.walk.of.types.now l.walk.of.members.now)) l.kept;
 }
 
 abbrev pub decreases-members_part-loop-j : goal.decreases-members_part-loop-j
-decreases-members_part-loop-j l = l.walk.of.count - l.j
+decreases-members_part-loop-j l = l.walk.count - l.j

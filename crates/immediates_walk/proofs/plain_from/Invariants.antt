@@ -5,4 +5,4 @@ use Rattle.immediates_walk.specs.Serving.{members_at}
 use Rattle.immediates_walk.proofs.plain_from.Given as goal
 
 abbrev pub invariant-loop-j : goal.invariant-loop-j
-invariant-loop-j l = part_in l.part ≡ members_at l.walk.of.types.now l.walk.of.members.now l.walk.of.ty l.walk.of.offset l.j
+invariant-loop-j l = part_in l.part ≡ members_at l.walk.of.types.now l.walk.of.members.now l.walk.of.ty l.walk.offset l.j

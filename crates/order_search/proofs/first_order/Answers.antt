@@ -1,6 +1,5 @@
 use mathlib.Core.Path.{sym, ◌∙◌}
 use native.Mathlib.Nat.{sub-zero}
-use native.Mathlib.Omega.{arith}
 use Rattle.order_numbers.proofs.SearchLaws.{first_hit, first_done}
 use Rattle.order_search.specs.Fitting.{number_fits, first_order}
 use Rattle.order_search.proofs.FittingLaws.{fits_here, search_on}

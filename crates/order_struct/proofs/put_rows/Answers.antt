@@ -1,7 +1,5 @@
-use native.Mathlib.Nat.{le_antisymm}
-use native.Mathlib.Omega.{arith}
 use Rattle.order_numbers.specs.Order.{member_at}
-use Rattle.order_struct.proofs.PutLaws.{rows_start, rows_more, rows_all}
+use Rattle.order_struct.proofs.PutLaws.{rows_start, rows_more}
 use Rattle.order_struct.proofs.put_rows.Goals as goal
 
 pub loop-j-init : goal.loop-j-init

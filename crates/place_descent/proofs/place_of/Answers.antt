@@ -1,6 +1,5 @@
 -- `place_descent::place_of` meets its contract. The invariant: the rest of the steps from here lead where all of them lead from the start. Assumes nothing.
 use mathlib.Core.Path.{refl, sym, ap, ◌∙◌}
-use native.Mathlib.Omega.{arith}
 use Rattle.place_steps.specs.Step.{step_made, step_found}
 use Rattle.place_descent.specs.Place.{found_place}
 use Rattle.place_descent.proofs.LoopLaws.{no_start, looking_start, looking_ends, looking_step, looking_at, looking_done, leaf_place, column_last, column_passed}

@@ -9,9 +9,8 @@ use native.Mathlib.Nat.{le_antisymm}
 use native.Mathlib.Numerals.{add-one}
 use native.Mathlib.Omega.{arith}
 use lib.ListN.{length, take}
-use Rattle.ir_records.specs.Fields.{record_at}
 use Rattle.ir_records.specs.Table.{outcome_at}
-use Rattle.ir_records.proofs.TableLaws.{stays, all_ok}
+use Rattle.ir_records.proofs.TableLaws.{stays}
 use Rattle.place_short.specs.Short.{three_at}
 use Rattle.place_short.specs.Serving.{three_from, three_result}
 use Rattle.place_short.proofs.ShortLaws.{three_wide, three_there, three_refusal, three_written, rest_kept}

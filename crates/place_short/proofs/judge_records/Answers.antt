@@ -1,14 +1,11 @@
-use Rattle.ir_records.specs.Refusal.{outcome_of}
-use Rattle.ir_records.proofs.RefusalLaws.{no_refusal, some_refusal}
+use Rattle.ir_records.specs.Refusal.{outcome_of, refused_by}
 use mathlib.Core.Path.{◌≡◌, sym, ap, ◌∙◌}
 use mathlib.Core.List.{List, ◌++◌}
 use Prim.Native.Nat.{ℕ, ◌*◌}
-use native.Mathlib.Omega.{arith}
 use lib.ListN.{replicate, take-append-drop}
 use Rattle.ir_records.specs.Record.{decoded}
 use Rattle.ir_records.specs.Table.{first_refusal}
 use Rattle.ir_records.specs.Outcome.{Outcome, Accepted}
-use Rattle.place_short.specs.Serving.{refused_outcome}
 use Rattle.proc_layouter.specs.Layouter.{layout_at}
 use Rattle.place_short.specs.Short.{scratch_after}
 use Rattle.place_short.proofs.OutcomeLaws.{arena_also, arena_passed}
@@ -35,7 +32,7 @@ returns-in-Err c =
     let r = c.refused in
     let found = ap outcome_of c.in-Err.is in
     let records = rw c.requires.n_value at a.arena.in_order in
-    let zeros = refused_scratch (first_refusal (layout_at (decoded ts ms)) a.arena.n) (refused_outcome c.in-Err.found) a.arena.capabilities ts ms a.arena.n a.words.now tt in
+    let zeros = refused_scratch (first_refusal (layout_at (decoded ts ms)) a.arena.n) (refused_by c.in-Err.found) a.arena.capabilities ts ms a.arena.n a.words.now tt in
     record {
       value = rw (sym (sym j.ensures.value ∙ found), c.requires.n_value) at r.ensures.value ∙ arena_also a.arena.capabilities ts ms records;
       words_after = r.ensures.words_after ∙ ap (λ (words : List ℕ). replicate (a.arena.n * 3) 0 ++ words) j.ensures.words_unchanged ∙ sym zeros ∙ ap (λ (o : Outcome). scratch_after o a.arena.capabilities ts ms a.arena.n a.words.now) (sym r.ensures.value);

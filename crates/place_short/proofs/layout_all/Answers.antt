@@ -9,8 +9,7 @@ use native.Mathlib.Numerals.{add-one}
 use native.Mathlib.Omega.{arith}
 use lib.ListN.{length, take}
 use Rattle.ir_records.specs.Record.{decoded}
-use Rattle.ir_records.specs.Fields.{record_at}
-use Rattle.ir_records.proofs.TableLaws.{stays, all_ok}
+use Rattle.ir_records.proofs.TableLaws.{stays}
 use Rattle.proc_layouter.specs.Layouter.{layout_at}
 use Rattle.place_short.specs.Serving.{laid_from}
 use Rattle.place_short.proofs.ShortLaws.{laid_at, laid_wide, laid_outcome, laid_three, three_written, rest_kept}

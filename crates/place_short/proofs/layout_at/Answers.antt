@@ -1,12 +1,8 @@
-use Rattle.std.proofs.Common.{rules, Err, Ok, ◌≡◌, ap}
-use Rattle.ir_records.specs.Result.{ok}
-use Rattle.ir_records.specs.Refusal.{judged, outcome_of}
+use Rattle.std.proofs.Common.{rules, Err, ◌≡◌, ap}
+use Rattle.ir_records.specs.Refusal.{outcome_of}
 use Rattle.ir_records.proofs.RefusalLaws.{judged_at_type}
 use Rattle.place_short.proofs.RefusedLaws.{stopped, unwritten}
 use mathlib.Core.Path.{refl, sym, ◌∙◌}
-use Prim.Native.Nat.{◌*◌}
-use native.Mathlib.Omega.{arith}
-use lib.Seq.{length-take-le}
 use Rattle.ir_records.specs.Fields.{record_at}
 use Rattle.ir_records.proofs.TableLaws.{all_ok}
 use Rattle.ir_records.proofs.RecordLaws.{record_bounds}

@@ -2,7 +2,8 @@
 use borrow.Author.Rules.{rules}
 use mathlib.Core.Path.{◌≡◌, sym, ◌∙◌}
 use native.Mathlib.Omega.{arith}
-use lib.ListN.{drop, length, length-set}
+use Prim.Native.Nat.{◌-◌}
+use lib.ListN.{drop, take, length, length-drop, length-set}
 use lib.Seq.{take_all}
 use Rattle.std.specs.Prelude.{Err}
 use Rattle.program_words.specs.Words.{words}
@@ -14,7 +15,7 @@ returns-in_default c =
     let a = c.args in
     let l = c.loop-k in
     let none = rw (c.in_ok-number.was, c.in_default.is) at c.next_number.ensures in
-    record { value = sym (numbers_end a.command (length a.numbers.now) l.k l.numbers (words (drop l.from a.s.now)) none) ∙ l.invariant.same }
+    sym (numbers_end a.command (length a.numbers.now) l.k l.numbers (words l.rest.now) none) ∙ l.invariant.same
 
 pub returns-in_err-number : goal.returns-in_err-number
 returns-in_err-number c =
@@ -23,7 +24,7 @@ returns-in_err-number c =
     let r = c.in_err-number.field-0.0 in
     let same : c.from_residual.result ≡ Err r = search rules in
     let no = rw c.in_err-number.was at c.next_number.ensures in
-    record { value = rw same (sym (numbers_wrong a.command (length a.numbers.now) l.k l.numbers (words (drop l.from a.s.now)) r (omega arith) no) ∙ l.invariant.same) }
+    rw same (sym (numbers_wrong a.command (length a.numbers.now) l.k l.numbers (words l.rest.now) r (omega arith) no) ∙ l.invariant.same)
 
 pub loop-k-preserved : goal.loop-k-preserved
 loop-k-preserved c =
@@ -31,23 +32,25 @@ loop-k-preserved c =
     let l = c.loop-k in
     let n = c.in-Some.number in
     let next = rw (c.in_ok-number.was, c.in-Some.is) at c.next_number.ensures in
+    let rest = l.rest.now in
+    let all : take (length rest - n.at) (drop n.at rest) ≡ drop n.at rest = take_all (length rest - n.at) (drop n.at rest) (omega (arith, length-drop n.at rest)) in
     record {
-      within = (simp length-set (omega arith), next.0);
+      within = simp length-set (omega arith);
       long = simp length-set l.invariant.long;
-      same = sym (numbers_more a.command (length a.numbers.now) l.k l.numbers (words (drop l.from a.s.now)) (words (drop n.end a.s.now)) n.value (omega arith) (omega arith) next.1) ∙ l.invariant.same;
+      same = rw all (sym (numbers_more a.command (length a.numbers.now) l.k l.numbers (words l.rest.now) (words (drop n.at l.rest.now)) n.value (omega arith) (omega arith) next.1) ∙ l.invariant.same);
     }
 
 pub returns-then-is_some : goal.returns-then-is_some
 returns-then-is_some c =
     let a = c.args in
     let l = c.loop-k in
-    let more = some_word a.s.now l.from c.next_word.result c.next_word.ensures (sym c.is_some.ensures ∙ c.if-is_some.true) in
-    record { value = sym (numbers_many a.command (length a.numbers.now) l.k l.numbers (words (drop l.from a.s.now)) more.0 more.1 (omega arith) more.2) ∙ l.invariant.same }
+    let more = some_word l.rest.now c.next_word.result c.next_word.ensures (sym c.is_some.ensures ∙ c.if-is_some.true) in
+    sym (numbers_many a.command (length a.numbers.now) l.k l.numbers (words l.rest.now) more.0 more.1 (omega arith) more.2) ∙ l.invariant.same
 
 pub returns : goal.returns
 returns c =
     let a = c.args in
     let l = c.loop-k in
-    let none = no_word a.s.now l.from c.next_word.result c.next_word.ensures (sym c.is_some.ensures ∙ c.if-is_some.false) in
+    let none = no_word l.rest.now c.next_word.result c.next_word.ensures (sym c.is_some.ensures ∙ c.if-is_some.false) in
     let all = take_all l.k l.numbers (omega arith) in
-    record { value = rw all at (sym (numbers_end a.command (length a.numbers.now) l.k l.numbers (words (drop l.from a.s.now)) none) ∙ l.invariant.same) }
+    rw all at (sym (numbers_end a.command (length a.numbers.now) l.k l.numbers (words l.rest.now) none) ∙ l.invariant.same)

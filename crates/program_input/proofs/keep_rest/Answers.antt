@@ -7,16 +7,16 @@ use Rattle.std.specs.List.{copy_within}
 use Rattle.std.proofs.lemmas.List.Edits.{take-paste}
 use Rattle.program_input.proofs.keep_rest.Goals as goal
 
-pub returns-then-from-end : goal.returns-then-from-end
-returns-then-from-end c =
-    let a = c.args in
-    let was = a.buffer.now in
-    let n : 0 + (a.end - a.from) ≡ a.end - a.from = omega arith in
-    let front = take-paste was 0 (drop a.from was) (a.end - a.from) (omega arith) (omega (arith, length-drop a.from was)) in
-    rw c.copy_within.ensures.after (subst (λ (m : ℕ). take m (copy_within was a.from a.end 0) ≡ take (a.end - a.from) (drop a.from was)) n front)
+pub returns-then-rest : goal.returns-then-rest
+returns-then-rest c =
+    let a = c.args.rest in
+    let was = c.args.buffer.now in
+    let n : 0 + (a.end - a.start) ≡ a.end - a.start = omega arith in
+    let front = take-paste was 0 (drop a.start was) (a.end - a.start) (omega arith) (omega (arith, length-drop a.start was)) in
+    rw c.copy_within.ensures.after (subst (λ (m : ℕ). take m (copy_within was a.start a.end 0) ≡ take (a.end - a.start) (drop a.start was)) n front)
 
-pub returns-else-from-end : goal.returns-else-from-end
-returns-else-from-end c =
-    let a = c.args in
-    let none : a.end - a.from ≡ 0 = omega arith in
+pub returns-else-rest : goal.returns-else-rest
+returns-else-rest c =
+    let a = c.args.rest in
+    let none : a.end - a.start ≡ 0 = omega arith in
     rw none refl

@@ -1,6 +1,6 @@
 -- `program_words::text_of` meets its contract, by the last byte of the line. Assumes nothing.
 use mathlib.Core.Path.{◌≡◌, refl, sym, ◌∙◌}
-use mathlib.Core.Bool.{Bool, true, false, ◌&&◌}
+use mathlib.Core.Bool.{and-true}
 use mathlib.Core.List.{List, [], ◌∷◌}
 use Prim.Native.Nat.{ℕ, ◌-◌, ◌≤◌}
 use native.Mathlib.Omega.{arith}
@@ -12,10 +12,6 @@ use Rattle.std.specs.Prelude.{eqb}
 use Rattle.program_words.specs.Words.{without_return}
 use Rattle.program_words.proofs.text_of.Goals as goal
 
-and_true : (a : Bool) → (a && true) ≡ a
-and_true true = refl
-and_true false = refl
-
 -- the last byte is a carriage return
 last_is : (s : List ℕ) → pointwise nat_eq (drop (length s - 1) s) (13 ∷ []) ≡ eqb (get_or s (length s - 1) 0) 13
 last_is [] = refl
@@ -23,7 +19,7 @@ last_is (b ∷ t) =
     let e : drop (length t) (b ∷ t) ≡ get_or (b ∷ t) (length t) 0 ∷ [] =
     drop-cons (b ∷ t) (length t) 0 (omega arith) ∙ let h : length t ≤ length t = omega arith in rw (drop_of_length-le t h) in
     let n : length (b ∷ t) - 1 ≡ length t = omega arith in
-    rw (n, e) (and_true (eqb (get_or (b ∷ t) (length t) 0) 13))
+    rw (n, e) (and-true (eqb (get_or (b ∷ t) (length t) 0) 13))
 
 pub returns-in-Some : goal.returns-in-Some
 unfolding without_return

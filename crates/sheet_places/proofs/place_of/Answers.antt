@@ -1,11 +1,7 @@
 -- `sheet_places::place_of` meets its contract. The invariant: so many instructions further is the place. Assumes nothing.
 use Rattle.std.proofs.Common.{◌≡◌, ◌+◌, ◌-◌, rules, sym, ◌∙◌, arith}
-use native.Mathlib.Nat.{sub-zero}
 use Rattle.sheet_places.proofs.PlaceLaws.{place_next, place_past, place_here}
 use Rattle.sheet_places.proofs.place_of.Goals as goal
-
-pub loop-init : goal.loop-init
-loop-init c = (search rules, rw sub-zero)
 
 pub returns-then-words-at : goal.returns-then-words-at
 returns-then-words-at c =

@@ -1,18 +1,12 @@
--- `spirv_ids::first_giver` meets its contract: it is the invariant that a search may begin at p. Assumes nothing.
-use mathlib.Core.Path.{sym, ◌∙◌}
-use native.Mathlib.Omega.{arith}
-use Rattle.spirv_ids.proofs.PlaceLaws.{gives_first, gives_next}
+-- `spirv_ids::first_giver` meets its contract: a search may begin at what is found. Assumes nothing.
+use borrow.Author.Rules.{rules}
+use lib.ListN.{length}
+use Rattle.spirv_words.specs.Module.{opcode}
+use Rattle.spirv_ids.specs.Places.{may_give}
+use Rattle.spirv_ids.proofs.PlaceLaws.{gives_or_first}
 use Rattle.spirv_ids.proofs.first_giver.Goals as goal
 
-pub loop-p-preserved : goal.loop-p-preserved
-loop-p-preserved c =
-    let b = c in
-    let l = b.loop-p in
-    let a = b.args in
-    let e = rw c.opcode_of.ensures at (sym c.may_give.ensures ∙ c.if-may_give.false) in
-    rw b.word_count-count.ensures.0
-    (gives_next a.words.now l.p l.invariant e (omega (arith, b.word_count-count.ensures.0, c.if-count-eq0.false)))
-
-pub loop-p-init : goal.loop-p-init
-loop-p-init c =
-    gives_first c.args.words.now
+pub returns : goal.returns
+returns c =
+    let ws = c.args.words.now in
+    rw c.unwrap_or.ensures (gives_or_first ws (length ws) c.first_between.result (c.first_between.ensures (λ p. may_give (opcode ws p)) (λ p r h told. search rules)))

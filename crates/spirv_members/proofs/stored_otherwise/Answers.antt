@@ -13,13 +13,13 @@ pub returns-then-step-gt0 : goal.returns-then-step-gt0
 unfolding stored_otherwise
 returns-then-step-gt0 c =
     let a = c.args in
-    let ws = a.words.now in
+    let ws = a.place.input.words.now in
     rw (
       lt-ltb 0 a.step c.if-step-gt0.true,
       c.is_some.ensures,
       c.first_between.ensures (is_otherwise ws c.word_of-id.result a.j a.step) (λ p r h told. search rules),
       c.word_of-id.ensures,
-      find_found ws a.at (is_otherwise ws (word ws a.at 1) a.j a.step) (a.at - 5) 5 (omega arith),
+      find_found ws a.place.at (is_otherwise ws (word ws a.place.at 1) a.j a.step) (a.place.at - 5) 5 (omega arith),
       found_is,
     )
 

@@ -2,9 +2,8 @@ use mathlib.Core.Path.{◌≡◌, sym, ◌∙◌, ap}
 use Prim.Native.Nat.{◌*◌}
 use native.Mathlib.Omega.{arith}
 use lib.ListN.{take-append-drop}
-use Rattle.ir_records.specs.Refusal.{outcome_of}
+use Rattle.ir_records.specs.Refusal.{outcome_of, refused_by}
 use Rattle.ir_records.specs.Outcome.{Accepted}
-use Rattle.valid_arena.specs.Serving.{refused_by}
 use Rattle.ir_records.proofs.RecordLaws.{tables_fitting}
 use Rattle.valid_type_info.specs.Verdict.{least_for}
 use Rattle.valid_arena.specs.Arena.{arena_rows}

@@ -1,31 +1,25 @@
-use mathlib.Core.Path.{refl, sym, ◌∙◌}
-use native.Mathlib.Nat.{max-eq_left, max-eq_right}
+use mathlib.Core.Path.{◌≡◌, refl, sym, ◌∙◌}
 use native.Mathlib.Omega.{arith}
+use borrow.Author.Tests.{eqb-true, eqb-false}
 use Rattle.proc_alignment.proofs.RoundLaws.{round_up_next}
-use Rattle.ir_records.specs.Record.{type_inner, inner_of, type_word}
+use Rattle.ir_records.specs.Record.{struct_kind, type_inner, inner_of, type_word}
 use Rattle.valid_member_rules.proofs.KindLaws.{no_struct_kind}
 use Rattle.valid_members_plain.proofs.least_after.Goals as goal
 
-pub overflow_add-apart : goal.overflow_add-apart
-overflow_add-apart c = omega (arith, c.round_up.ensures, (round_up_next 16 c.own_word-span.result (omega arith)).1, c.own_word-span.type_inv, c.ranges.offset)
+pub overflow_add-from : goal.overflow_add-from
+overflow_add-from c =
+    omega (arith, c.round_up-rounded.ensures, (round_up_next 16 c.own_record-w.result.c (omega arith)).1, c.own_record-w.type_inv.1.1.1.0, c.from.ensures, c.ranges.offset)
 
-pub returns-then-end-apart : goal.returns-then-end-apart
+pub returns-then-is : goal.returns-then-is
 unfolding type_inner inner_of
-returns-then-end-apart c =
-    let is-struct = sym c.own_word.ensures ∙ c.if-own_word.true in
-    let apart = rw c.own_word-span.ensures at c.round_up.ensures in
-    rw (is-struct, ← apart) (sym (max-eq_right (omega (arith, c.if-end-apart.true))))
-
-pub returns-else-end-apart : goal.returns-else-end-apart
-unfolding type_inner inner_of
-returns-else-end-apart c =
-    let is-struct = sym c.own_word.ensures ∙ c.if-own_word.true in
-    let apart = rw c.own_word-span.ensures at c.round_up.ensures in
-    rw (is-struct, ← apart) (sym (max-eq_left (omega (arith, c.if-end-apart.false))))
+returns-then-is c =
+    let is-struct = eqb-true _ _ (rw c.own_record-w.ensures at (sym c.is.ensures ∙ c.if-is.true)) in
+    rw (is-struct) (rw (c.from.ensures, c.round_up-rounded.ensures, c.own_record-w.ensures) at c.max.ensures)
 
 pub returns : goal.returns
 unfolding type_inner
 returns c =
     let a = c.args in
     let w = type_word a.types.now a.t in
-    rw (no_struct_kind (w 0) (w 1) (w 2) (w 3) (w 4) (w 5) a.offset (λ e. c.if-own_word.false (c.own_word.ensures ∙ e))) refl
+    let other : w 0 ≡ struct_kind → ⊥ = eqb-false _ _ (rw c.own_record-w.ensures at (sym c.is.ensures ∙ c.if-is.false)) in
+    rw (no_struct_kind (w 0) (w 1) (w 2) (w 3) (w 4) (w 5) a.offset other) refl

@@ -1,5 +1,5 @@
 use mathlib.Core.Path.{refl}
-use borrow.Author.Tests.{le-leb, lt-leb}
+use borrow.Author.Tests.{lt-leb}
 use Rattle.valid_type_info.proofs.after_distance.Goals as goal
 
 pub returns-in-Short : goal.returns-in-Short

@@ -1,13 +1,12 @@
 -- `wgsl_messages::put_token` meets its contract: nothing, or one after the other. Assumes nothing.
 use mathlib.Core.Path.{◌≡◌, refl}
-use mathlib.Core.Bool.{Bool, true, false}
 use mathlib.Core.List.{List, []}
 use mathlib.Core.Logic.{◌⊎◌, inl, inr}
 use Prim.Native.Nat.{ℕ, ◌<◌}
 use lib.Dec.{ltb}
 use lib.ListN.{length}
 use borrow.Author.Tests.{lt-ltb, le-ltb}
-use Rattle.ir_records.specs.Result.{pick}
+use Rattle.ir_records.proofs.ResultLaws.{pick_alike}
 use Rattle.program_output.proofs.PutLaws.{puts_none, puts_both}
 use Rattle.wgsl_messages.specs.Message.{token_text}
 use Rattle.wgsl_messages.proofs.put_token.Goals as goal
@@ -16,11 +15,7 @@ use Rattle.wgsl_messages.proofs.put_token.Goals as goal
 no_token : (text : List ℕ) (start end : ℕ) → (end < start) ⊎ (length text < end) → token_text text start end ≡ []
 unfolding token_text
 no_token text start end (inl h) = rw (lt-ltb end start h)
-no_token text start end (inr h) = rw (lt-ltb (length text) end h) (neither (ltb end start))
-  where
-    neither : (b : Bool) → pick {A = List ℕ} b [] [] ≡ []
-    neither true = refl
-    neither false = refl
+no_token text start end (inr h) = rw (lt-ltb (length text) end h) (pick_alike (λ (x : List ℕ). x) [] (ltb end start) [] [] refl refl)
 
 pub returns-in-Some : goal.returns-in-Some
 unfolding token_text

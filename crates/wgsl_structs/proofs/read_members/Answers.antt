@@ -16,17 +16,17 @@ returns-in_err-more c =
     let p = err_from_is_err_and c.from_residual.result c.from_residual.ensures.1 in
     rw (p.1, p.2) (sym l.invariant.0 ∙ step ∙ rw c.in_err-more.ensures)
 
-pub returns-in_err-at : goal.returns-in_err-at
-returns-in_err-at c =
+pub returns-in_err-end : goal.returns-in_err-end
+returns-in_err-end c =
     let l = c.loop-turn in
     let s = c.args.s.now in
     let step = members_step (length s) (length s) l._turn c.args.room (structs_in s c.args.structs.now) (members_in s (tables l.names l.types l.members) l.body) c.loop-turn-test.true in
     let t = c.in_ok-more.ensures in
-    let p = err_from_is_err_and c.from_residual-in_err-at.result c.from_residual-in_err-at.ensures.1 in
-    rw (p.1, p.2) (sym l.invariant.0 ∙ step ∙ rw (t.0, ← c.end_at.ensures, c.in_err-at.was))
+    let p = err_from_is_err_and c.from_residual-in_err-end.result c.from_residual-in_err-end.ensures.1 in
+    rw (p.1, p.2) (sym l.invariant.0 ∙ step ∙ rw (t.0, ← c.end_at.ensures, c.in_err-end.was))
 
-pub returns-in-Closes : goal.returns-in-Closes
-returns-in-Closes c =
+pub returns-in-Break : goal.returns-in-Break
+returns-in-Break c =
     let l = c.loop-turn in
     let s = c.args.s.now in
     let step = members_step (length s) (length s) l._turn c.args.room (structs_in s c.args.structs.now) (members_in s (tables l.names l.types l.members) l.body) c.loop-turn-test.true in
@@ -35,8 +35,8 @@ returns-in-Closes c =
     let mid = tables l.names l.types l.members in
     let is = tables c.read_member.new.names c.read_member.new.types c.read_member.new.members in
     let b = c.in_ok-more.more in
-    let at = c.in-Closes.at in (
-      sym l.invariant.0 ∙ step ∙ rw (t.0, ← c.end_at.ensures, c.in_ok-at.was, c.in-Closes.is),
+    let at = c.in-Break.end.at in (
+      sym l.invariant.0 ∙ step ∙ rw (t.0, ← c.end_at.ensures, c.in_ok-end.was, c.in-Break.is),
       bounds-at c.args.room is b at t.1,
       kept_at was is c.args.first b at (kept_both was mid is c.args.first l.body b l.invariant.2 t.2),
     )
@@ -51,8 +51,8 @@ loop-turn-preserved c =
     let mid = tables l.names l.types l.members in
     let is = tables c.read_member.new.names c.read_member.new.types c.read_member.new.members in
     let b = c.in_ok-more.more in
-    let at = c.in-Goes.at in (
-      sym (sym l.invariant.0 ∙ step ∙ rw (t.0, ← c.end_at.ensures, c.in_ok-at.was, c.in-Goes.is)),
+    let at = c.in-Continue.at in (
+      sym (sym l.invariant.0 ∙ step ∙ rw (t.0, ← c.end_at.ensures, c.in_ok-end.was, c.in-Continue.is)),
       bounds-at c.args.room is b at t.1,
       kept_at was is c.args.first b at (kept_both was mid is c.args.first l.body b l.invariant.2 t.2),
     )

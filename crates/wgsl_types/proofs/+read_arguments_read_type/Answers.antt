@@ -18,7 +18,7 @@ read_arguments-returns t c =
     let i = inner_read s a.room a.made a.types.now mid whole c.read_type.result c.map_err.result c.map_err.ensures.cases c.read_type.ensures in
     let e = rw c.in_ok-inner.was at i in
     rw e.0
-    (read_on s a.room a.made x.made a.types.now mid c.array_of.new.types (array_of a.room x.shape (records_in type_words mid x.made) (from s x.at)) c.array_of.result e.1 e.3 c.array_of.ensures)
+    (read_on s a.room a.made x.made a.types.now mid c.array_of.new.types (array_of a.room x.shape (records_in type_words mid x.made) (from s x.end.at)) c.array_of.result e.1 e.3 c.array_of.ensures)
 
 pub read_type-returns-then-left-eq0 : goal.read_type-returns-then-left-eq0
 unfolding type_of

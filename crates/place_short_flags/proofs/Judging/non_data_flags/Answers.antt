@@ -9,4 +9,4 @@ unfolding non_data_flags
 returns-in-BindingArray c =
     let i = c.in-BindingArray in
     let size = c.then_some.ensures ∙ size_told (eqb i.form 0) i.count in
-    rw i.is (rw c.short_word-in-BindingArray.ensures at (c.binding_array_of.ensures i.form i.count size))
+    rw i.is (rw c.flags_at-in-BindingArray.ensures at (c.binding_array_of.ensures i.form i.count size))
