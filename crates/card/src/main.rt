@@ -3,7 +3,7 @@
 
 use valid_type_info::UniformRule;
 
-// Kept: the system's number of the stream, as in each crate that writes to it: a crate for one number would be no plainer.
+// Kept: the system's number of the stream; program_input, which has it, is of programs that read.
 const STDOUT: i32 = 1;
 
 fn print_row(i: usize, row: &[u32]) {

@@ -427,7 +427,7 @@ pub fn wuldazin_read_spirv(
 }
 
 // The records of a WGSL text, and how many there are of each.
-// Kept: what a reader leaves in both tables is what each of its callers promises of them; no struct of two tables lent with `&mut` outlives a call.
+// Kept: the C interface lends both tables, and what the reader leaves in them is what this call promises, as each caller of a reader does.
 pub fn wuldazin_read_wgsl(
     text: &[u8],
     types: &mut [u32],

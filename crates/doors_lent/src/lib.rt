@@ -4,7 +4,7 @@
 
 ghost use Rattle.std.specs.Prelude.{◌≤◌};
 
-// Kept: the system's number of the stream, as in each crate that writes to it: a crate for one number would be no plainer.
+// Kept: the system's number of the stream; program_input, which has it, is of programs that read.
 const STDOUT: i32 = 1;
 
 // A line begins with a name.

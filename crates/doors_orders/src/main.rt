@@ -148,8 +148,9 @@ fn no_room() {
     of_two(b"rule 2", PAIR, 2, &[0, 1], 16);
 }
 
-// Kept: `types`, `members`, `rows`: how many words of each table the call is lent.
 // Two types and no member row are in use, with so many words of each table; the rows are handed back.
+// Kept: `types`, `members`, `rows`: lengths, and no tables: how many words of each the call is lent; a struct of the three would be made for this one
+// function.
 fn lent_in_part(name: &[u8], types: usize, members: usize, rows: usize) -> [u32; 44]
     requires { (types ≤ 24) × (members ≤ 12) × (rows ≤ 44) }
 {

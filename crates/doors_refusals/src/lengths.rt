@@ -44,7 +44,8 @@ fn check_long(name: &[u8], types: &[u32]) {
     doors_lent::count(b"rows that are 9", &rows, 9);
 }
 
-// Kept: types and members each lend a table of its own length, and one more, to a call of its own; const parameters give no length of one record more.
+// Kept: types and members each lend a table of its own length, and one record more, to a call of its own; one function would take the length, the
+// words of a record, two names and the call as a closure, for two callers.
 // "At most 1,024 types". A record of zeros is a scalar of width 0, which is no power of two: 7.
 fn types() {
     let types = [0u32; TYPE_TABLE + 6];

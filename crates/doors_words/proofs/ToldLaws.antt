@@ -1,8 +1,8 @@
 -- The four words of an answer are those of the code's, whatever stands beside them.
 -- Assumes nothing.
 use Rattle.std.specs.Prelude as std
-use Rattle.std.specs.Result.{result_unwrap_or}
-use mathlib.Core.Path.{◌≡◌, refl}
+use Rattle.std.specs.Result.{ResultUnwrapsOrElse}
+use mathlib.Core.Path.{◌≡◌, refl, ap}
 use Rattle.ir_records.specs.Refusal.{outcome_of}
 use Rattle.ir_records.specs.declared.Fault.{Fault}
 use Rattle.ir_records.specs.declared.Records.{Records}
@@ -55,7 +55,7 @@ text_counts (std.Ok x) = (refl, refl)
 text_counts (std.Err e) = (refl, refl)
 
 -- ---- zeros in the place of what a refusal doesn't have
-pub slots_or : (r : std.Result Slots Refusal) (zero : Slots) → zero.touched ≡ 0 → zero.partly ≡ 0
-    → ((result_unwrap_or r zero).touched ≡ touched_of (slots_answer_of r)) × ((result_unwrap_or r zero).partly ≡ partly_of (slots_answer_of r))
-slots_or (std.Ok s) zero a b = (refl, refl)
-slots_or (std.Err e) zero a b = (a, b)
+pub slots_or : (r : std.Result Slots Refusal) (P : Slots → Type 0) (s : Slots) → (P s → (s.touched ≡ 0) × (s.partly ≡ 0)) → ResultUnwrapsOrElse r P s
+    → (s.touched ≡ touched_of (slots_answer_of r)) × (s.partly ≡ partly_of (slots_answer_of r))
+slots_or (std.Ok t) P s zero told = (ap (λ (x : Slots). x.touched) told, ap (λ (x : Slots). x.partly) told)
+slots_or (std.Err e) P s zero told = zero told

@@ -18,7 +18,6 @@ use place_descent::Place;
 use place_report::Totals;
 use proc_plain_types::PlainLayout;
 
-// Kept: zeros written out where nothing is found: `unwrap_or_default` would ask for a derive of Default in immediates_ranges, place_descent, place_report, proc_plain_types and ir_records, each for one function here.
 /// The words stand at the front of a buffer; one of fewer words is left as it was.
 pub fn put_front<T: Copy, const N: usize>(words: &mut [T], front: [T; N])
     ensures { words.new ≡ with_front words.old front }
@@ -59,10 +58,7 @@ pub fn put_two(words: &mut [u64], a: u64, b: u64)
 pub fn put_masks(mask: &mut [u64], found: Result<Slots, Refusal>)
     ensures { mask.new ≡ with_masks mask.old (slots_answer_of found) }
 {
-    let slots = found.unwrap_or(Slots {
-        touched: 0,
-        partly: 0,
-    });
+    let slots = found.unwrap_or_default();
     if mask.len() == 1 {
         mask[0] = slots.touched;
     } else {
@@ -75,7 +71,7 @@ pub fn put_masks(mask: &mut [u64], found: Result<Slots, Refusal>)
 pub fn put_place(words: &mut [u64], found: Result<Place, Refusal>)
     ensures { words.new ≡ with_two words.old (byte_of (place_answer_of found)) (leaf_of (place_answer_of found)) }
 {
-    let place = found.unwrap_or(Place { byte: 0, leaf: 0 });
+    let place = found.unwrap_or_default();
     put_two(words, place.byte, place.leaf as u64);
 }
 
@@ -83,10 +79,7 @@ pub fn put_place(words: &mut [u64], found: Result<Place, Refusal>)
 pub fn put_totals(words: &mut [u64], found: Result<Totals, Refusal>)
     ensures { words.new ≡ with_two words.old (carried_of (report_answer_of found)) (wasted_of (report_answer_of found)) }
 {
-    let totals = found.unwrap_or(Totals {
-        carried: 0,
-        wasted: 0,
-    });
+    let totals = found.unwrap_or_default();
     put_two(words, totals.carried, totals.wasted);
 }
 
@@ -95,11 +88,7 @@ pub fn put_totals(words: &mut [u64], found: Result<Totals, Refusal>)
 pub fn put_numbers(numbers: &mut [u32], found: Result<PlainLayout, Refusal>)
     ensures { numbers.new ≡ with_numbers numbers.old (plain_answer_of found) }
 {
-    let plain = found.unwrap_or(PlainLayout {
-        size: 0,
-        alignment: 0,
-        step: 0,
-    });
+    let plain = found.unwrap_or_default();
     put_front(numbers, [plain.size, plain.alignment, plain.step]);
 }
 
@@ -146,9 +135,6 @@ pub fn put_read(answer: &mut [u32], read: Result<Records, Fault>)
 pub fn put_records(words: &mut [u32], read: Result<Records, Fault>)
     ensures { words.new ≡ with_two words.old (records_of read).types (records_of read).members }
 {
-    let records = read.unwrap_or(Records {
-        types: 0,
-        members: 0,
-    });
+    let records = read.unwrap_or_default();
     put_front(words, [records.types, records.members]);
 }

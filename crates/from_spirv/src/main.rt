@@ -9,12 +9,10 @@ ghost use Rattle.from_spirv.specs.Serving.{HeldWithin};
 ghost use Rattle.from_spirv.specs.Lines.{module_lines};
 
 use ir_records::Refusal;
+use program_input::STDOUT;
 use program_output::Output;
 use std::io::Read;
 use std::rt::{Env, Files};
-
-// Kept: the system's number of the stream, beside program_output's own: a name is written past `Output`, whose whole buffer would be filled for one line.
-const STDOUT: i32 = 1;
 
 // The most words that are held of a module.
 const MODULE_WORDS: usize = 1048576;

@@ -22,7 +22,8 @@ use immediates_ranges::Slots;
 use ir_records::Kind;
 
 /// How many members of a struct have been taken, and their part.
-// Kept: `valid_members_plain::Reached<Part>` has these two fields; for it this crate would depend on the validator's member rules, of which it uses nothing.
+// Kept: `valid_members_plain::Reached<Part>` says the same, with the part as its state; for it this crate would depend on the validator's member rules, of
+// which it uses nothing, or Reached, which is of loops, would stand among the records.
 #[derive(Clone, Copy, Debug, PartialEq, Eq)]
 pub struct Taken {
     pub taken: u32,
@@ -99,7 +100,7 @@ fn plain_from(walk: Walk) -> Option<Taken>
 
 // All members from where a walk stands.
 // Kept: `part_found result ≡ members_at walk.entry.of.types.now walk.entry.of.members.now walk.entry.of.ty walk.entry.offset walk.entry.count`: three
-// functions hand this one result up, over room for parts that each makes or is lent.
+// functions hand this one result up: one is lent room for parts, one makes it, and one chooses how much.
 #[cycle(members_part_struct_part)]
 fn members_part(walk: Walk, kept: &mut [OfType]) -> Option<Part>
     requires ty_in_bounds { walk.of.ty ≤ length kept.old }

@@ -1,5 +1,5 @@
 // Refusals 2 and 3: the sets that the fields of a type record lie in.
-// Kept: `types`, `members`, `i`: fields_at and record_at read both tables, of the type that is looked at, and records_ok goes over all.
+// Kept: `types`, `members`, `i`: a struct of both tables and a type's number would be made by records_ok for each type, for fields_at and record_at alone.
 #![tactic(auto, unfolding(ir_records::specs::Fields::fields_ok))]
 
 ghost use Rattle.std.specs.Prelude.{◌≡◌, ◌&&◌, ℕ, ◌+◌, ◌*◌, ◌/◌, ◌≤◌, ◌<◌, ltb};
@@ -13,7 +13,8 @@ ghost use Rattle.ir_fields.specs.Serving.{FieldsTold};
 use ir_records::{Fault, Kind, Refusal, TypeRefusal, Words};
 
 // The sets, by their largest number.
-// Kept: numbers, as the definitions have them: `ScalarKind::try_from` would say the same of one word, and widths, roles and flags have no enum.
+// Kept: numbers, as the definitions have them: `ScalarKind::try_from` would say the same of one word; AddressSpace, ImageDimension and ImageClass stand
+// in crates of the rules, of which this one uses nothing; and widths, roles and flags have no enum.
 const MOST_SCALAR_KIND: u32 = 5;
 
 const MOST_WIDTH: u32 = 255;
@@ -27,16 +28,11 @@ const MOST_CLASS: u32 = 3;
 const MOST_ROLE: u32 = 2;
 
 // Number 2 where the fields do not lie in their sets.
-// Kept: beside `ir_records::require_lengths`, of a type and of a call; one function for both would be handed the refusal and say it in its contract.
 #[tactic(auto)]
 fn within(fit: bool) -> Result<(), TypeRefusal>
     ensures { FieldsTold result fit }
 {
-    if fit {
-        Ok(())
-    } else {
-        Err(TypeRefusal::of(Fault::FieldOutside))
-    }
+    ir_records::require(fit, TypeRefusal::of(Fault::FieldOutside))
 }
 
 // A vector's size, or one of a matrix.
@@ -184,11 +180,8 @@ fn fields_ok(rows: usize, w: Words) -> Result<(), TypeRefusal>
 pub fn base_within(types: &[u32], base: u32) -> Result<(), TypeRefusal>
     ensures { judged result ≡ require (ltb base (type_count types.now)) 3 0 0 (ok tt) }
 {
-    if (base as usize) < ir_records::type_count(types) {
-        Ok(())
-    } else {
-        Err(TypeRefusal::of(Fault::BaseOutside))
-    }
+    let fit = (base as usize) < ir_records::type_count(types);
+    ir_records::require(fit, TypeRefusal::of(Fault::BaseOutside))
 }
 
 // Numbers 2 and 3 of record i by its fields, 2 first.

@@ -26,13 +26,15 @@ impl Member {
 }
 
 // How many records are taken apart at most: one more than the core takes, so that the core refuses what is too long.
-const MOST_RECORDS: usize = 4097;
+const MOST_RECORDS: usize = ir_records::MOST_MEMBERS + 1;
+
+const MOST_WORDS: usize = MOST_RECORDS * ir_records::MEMBER_WORDS;
 
 /// The words of member records, one record after the other.
 // Kept: an array and how much of it is used: there is no heap for a vector.
 #[derive(Drop)]
 pub struct MemberWords {
-    pub words: [u32; 16388],
+    pub words: [u32; MOST_WORDS],
     pub end: usize,
     ghost fits: { end ≤ 16388 },
 }
@@ -43,7 +45,7 @@ impl MemberWords {
         ensures { take result.end result.words ≡ flat (take (pick (leb (length ms.now) 4097) (length ms.now) 4097) ms.now) }
     {
         let n = ms.len().min(MOST_RECORDS);
-        let mut words = [0u32; 16388];
+        let mut words = [0u32; MOST_WORDS];
         for (i, m) in ms[..n].iter().enumerate() {
             let at = i * ir_records::MEMBER_WORDS;
             words[at..at + ir_records::MEMBER_WORDS].copy_from_slice(&m.words());

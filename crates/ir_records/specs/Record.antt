@@ -108,6 +108,10 @@ inner_of kind a b c d e =
     (pick (eqb kind ray_query_kind) (Plain (RayQuery a))
     (Other (BindingArray a b c))))))))))))))
 
+-- the same of six words
+abbrev pub inner_in : Words → TypeInner
+inner_in w = inner_of w.kind w.a w.b w.c w.d w.e
+
 -- a record of this kind whose first words are these; the fifth is 0
 abbrev pub record_of : (kind a b c d : ℕ) → Words
 record_of kind a b c d = record { kind = kind; a = a; b = b; c = c; d = d; e = 0 }
@@ -116,10 +120,6 @@ record_of kind a b c d = record { kind = kind; a = a; b = b; c = c; d = d; e = 0
 abbrev pub array_words : (size : Option ℕ) → (base stride : ℕ) → Words
 array_words (Some count) base stride = record_of array_kind base 0 count stride
 array_words None base stride = record_of array_kind base 1 0 stride
-
--- the same of six words
-abbrev pub inner_in : Words → TypeInner
-inner_in w = inner_of w.kind w.a w.b w.c w.d w.e
 
 -- record i of a table
 unfoldable pub type_inner : List ℕ → ℕ → TypeInner

@@ -69,9 +69,13 @@ abbrev pub outcome_of : {A : Type 0} → std.Result A Refusal → Outcome
 outcome_of (std.Ok a) = Accepted
 outcome_of (std.Err r) = refused_by r
 
+-- a refusal just where a test says false
+abbrev pub RefusedUnless : {E : Type 0} → std.Result (Unit {0}) E → (refused : E) → (fit : Bool) → Type 0
+RefusedUnless told refused fit = std.MatchResult told (λ _. fit ≡ true) (λ r. (r ≡ refused) × (fit ≡ false))
+
 -- number 1 just where a test of lengths, or of the capability word, says false
 abbrev pub LengthsTold : std.Result (Unit {0}) Refusal → (fit : Bool) → Type 0
-LengthsTold told fit = std.MatchResult told (λ _. fit ≡ true) (λ r. (r ≡ refusal TableLength 0 0 0) × (fit ≡ false))
+LengthsTold told fit = RefusedUnless told (refusal TableLength 0 0 0) fit
 
 -- the judgement of one type as an answer about it
 abbrev pub at_type : {A : Type 0} → std.Result A TypeRefusal → ℕ → std.Result A Refusal

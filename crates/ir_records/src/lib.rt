@@ -8,12 +8,12 @@ ghost use Rattle.std.specs.Prelude.{◌≡◌, ◌&&◌, ℕ, ◌+◌, ◌*◌, 
 ghost use Rattle.ir_records.specs.Record.{type_word, type_count, member_words, member_count, member_type, member_offset, member_location, member_source, array_kind, inner_in, type_inner, struct_members, record_of, array_words};
 ghost use Rattle.ir_records.specs.Serving.{record_words, size_of};
 ghost use Rattle.ir_records.specs.Kinds.{kind_number, NamesKind, NamesScalarKind};
-ghost use Rattle.ir_records.specs.Refusal.{number_of, type_refusal, refusal, at_type, LengthsTold};
+ghost use Rattle.ir_records.specs.Refusal.{number_of, type_refusal, refusal, at_type, RefusedUnless, LengthsTold};
 ghost use Rattle.ir_records.specs.Fields.{tables_fit, capabilities_known, is_unlocated, sources_located};
 
 // Data that is neither array nor struct: 01's leaves.
-// Kept: words and no ScalarKind, AddressSpace or size of a binding array, here and in NonData: what a record says is asked for before number 2 has
-// passed it, and of any words.
+// Kept: words and no ScalarKind, AddressSpace, ImageDimension, ImageClass or size of a binding array, here and in NonData: what a record says is asked
+// for before number 2 has passed it, and of any words.
 #[derive(Clone, Copy, Debug, PartialEq, Eq)]
 pub enum Leaf {
     Scalar(u32, u32),
@@ -267,7 +267,7 @@ impl TryFrom<u32> for ScalarKind {
 }
 
 /// How many type and member records a reader made.
-#[derive(Clone, Copy, Debug, PartialEq, Eq)]
+#[derive(Clone, Copy, Debug, Default, PartialEq, Eq)]
 pub struct Records {
     pub types: u32,
     pub members: u32,
@@ -417,8 +417,8 @@ const LOCATION: u32 = 2;
 
 const SOURCE: u32 = 3;
 
-// Kept: these four are one line each over table_word, by four definitions; one function of the word's position would be table_word itself. And a location
-// or a source is the word as it is stored, value plus one or 0: the rules compare these words, and an Option would be made for each comparison.
+// Kept: these four are one line each over table_word, by four definitions; with the word's position as a parameter each caller would name the position.
+// And a location or a source is the word as it is stored, value plus one or 0: the rules compare these words, and an Option would be made for each comparison.
 pub fn member_type(part: &[u32], j: u32) -> u32
     ensures { result ≡ member_type part.now j }
 {
@@ -638,15 +638,18 @@ pub fn struct_members<'a>(types: &[u32], members: &'a [u32], i: u32) -> &'a [u32
     &members[..0]
 }
 
+/// A refusal where a test fails.
+pub fn require<E: Copy>(fit: bool, refusal: E) -> Result<(), E>
+    ensures { RefusedUnless result refusal fit }
+{
+    if fit { Ok(()) } else { Err(refusal) }
+}
+
 /// Number 1 where a test of lengths or of the capability word fails.
 pub fn require_lengths(fit: bool) -> Result<(), Refusal>
     ensures { LengthsTold result fit }
 {
-    if fit {
-        Ok(())
-    } else {
-        Err(Refusal::of(Fault::TableLength))
-    }
+    require(fit, Refusal::of(Fault::TableLength))
 }
 
 /// Number 1: whole records, not too many, and a row for each type.

@@ -12,7 +12,7 @@ ghost use Rattle.place_descent.specs.Serving.{Descends};
 use place_steps::Step;
 
 /// The byte place of a leaf and its type; of a column, the matrix's type.
-#[derive(Clone, Copy, Debug, PartialEq, Eq)]
+#[derive(Clone, Copy, Debug, Default, PartialEq, Eq)]
 pub struct Place {
     pub byte: u64,
     pub leaf: u32,

@@ -20,14 +20,16 @@ use ir_records::{Fault, Leaf, Refusal, TypeInner, TypeRefusal};
 use valid_type_info::UniformRule;
 
 /// The bytes carried and the bytes wasted, of a struct or of all.
-#[derive(Clone, Copy, Debug, PartialEq, Eq)]
+#[derive(Clone, Copy, Debug, Default, PartialEq, Eq)]
 pub struct Totals {
     pub carried: u64,
     pub wasted: u64,
 }
 
-// Words of the report a type.
-const REPORT_WIDTH: usize = 2;
+/// Words of the report a type, and of as many types as there may be.
+pub const REPORT_WIDTH: usize = 2;
+
+pub const REPORT_TABLE: usize = ir_records::MOST_TYPES * REPORT_WIDTH;
 
 const SIZE: u32 = ir_rows::SIZE as u32;
 
@@ -40,11 +42,7 @@ fn entry(report: &[u64], k: u32) -> Option<u64>
 {
     let at = (k as usize) * REPORT_WIDTH;
     let mark = ir_records::item_or(report, at + 1, 0);
-    if mark == 0 {
-        Some(ir_records::item_or(report, at, 0))
-    } else {
-        None
-    }
+    (mark == 0).then_some(ir_records::item_or(report, at, 0))
 }
 
 // Writes two words of the report from `at` on.
@@ -210,10 +208,7 @@ fn counts_at(types: &[u32], rows: &[u32], i: u32, bytes: u64) -> Totals
             wasted: size - bytes,
         };
     }
-    Totals {
-        carried: 0,
-        wasted: 0,
-    }
+    Totals::default()
 }
 
 // The second pass: the counts of each type in place of what was kept, and their totals.

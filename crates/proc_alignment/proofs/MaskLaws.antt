@@ -1,13 +1,10 @@
 -- A number that shares no binary digit with the number before it is a power of two, and the number before it masks its remainders.
 -- Assumes nothing.
-use Rattle.std.proofs.Common.{◌≡◌, ℕ, zero, suc, ◌+◌, ◌-◌, ◌/◌, ◌%◌, ◌^◌, ◌<◌, ◌≤◌, Bool, true, false, ◌&&◌, T, eqb, ltb, ◌⊎◌, refl, ap, inl, inr, pow-suc, arith, le-ltb, lt-ltb, ne_eqb, eqb-true}
+use Rattle.std.proofs.Common.{◌≡◌, ℕ, zero, suc, ◌+◌, ◌-◌, ◌/◌, ◌%◌, ◌^◌, ◌<◌, Bool, true, false, ◌&&◌, eqb, ◌⊎◌, refl, ap, inl, inr, pow-suc, arith, eqb-true}
 use native.Mathlib.Nat.{mod-zero}
-use native.Mathlib.Decide.{dec_le}
 use lib.Arith.{bin_ind}
 use lib.Bits.{bit_and, and_step, and_self, and_mask, and_zero_l}
-use Rattle.ir_records.specs.Result.{pick}
-use Rattle.proc_alignment.specs.Alignment.{Power, is_mask, is_aligned, power_of_two}
-use Rattle.proc_alignment.proofs.Finite.{all, holds, same, same_eq}
+use Rattle.proc_alignment.specs.Alignment.{Power, is_mask, is_aligned}
 
 parity : (n : ℕ) → (n % 2 ≡ 0) ⊎ (n % 2 ≡ 1)
 parity n = go (n % 2) (omega arith)
@@ -62,21 +59,3 @@ masked (suc a) n r hn hr e = rw (before a r hr e) (go (is_mask (suc a)) refl)
     go : (b : Bool) → is_mask (suc a) ≡ b → (b && eqb (bit_and n (suc a - 1)) 0) ≡ (b && is_aligned (suc a) n)
     go true m = ap (λ (x : ℕ). eqb x 0) (mask_remainder (suc a) n (omega arith) (eqb-true (bit_and (suc a) (suc a - 1)) 0 m))
     go false m = refl
-
--- the same test of a width, beside the list of powers
-power_agrees : ℕ → Bool
-power_agrees w = same (eqb (bit_and w (w - 1)) 0) (pick (eqb w 0) true (power_of_two w))
-
-powers_agree : T (all power_agrees 129)
-unfolding power_agrees
-powers_agree = tt
-
-pub power_test : (w r : ℕ) → r < 4294967296 → (r + 1) % 4294967296 ≡ w → (ltb r 128 && eqb (bit_and w r) 0) ≡ power_of_two w
-unfolding power_agrees
-power_test zero r hr e = rw (before_zero r hr e) refl
-power_test (suc w) r hr e = rw (before w r hr e) (go (dec_le (suc w) 128))
-  where
-    go : Dec (suc w ≤ 128) → (ltb (suc w - 1) 128 && eqb (bit_and (suc w) (suc w - 1)) 0) ≡ power_of_two (suc w)
-    go (yes h) = rw (lt-ltb (suc w - 1) 128 (omega arith)) (same_eq (eqb (bit_and (suc w) (suc w - 1)) 0) (power_of_two (suc w)) (simp (ne_eqb (suc w) 0 (λ x. omega arith)) at (holds power_agrees 129 powers_agree (suc w) (omega arith))))
-    go (no h) =
-        rw (le-ltb (suc w - 1) 128 (omega arith), ne_eqb (suc w) 1 (λ x. omega arith), ne_eqb (suc w) 2 (λ x. omega arith), ne_eqb (suc w) 4 (λ x. omega arith), ne_eqb (suc w) 8 (λ x. omega arith), ne_eqb (suc w) 16 (λ x. omega arith), ne_eqb (suc w) 32 (λ x. omega arith), ne_eqb (suc w) 64 (λ x. omega arith), ne_eqb (suc w) 128 (λ x. omega arith)) refl

@@ -1,6 +1,7 @@
 // Layouts: Layouter::update of naga's proc/layouter.rs, over lent rows.
 // Kept: `rows`, `n`: the caller may lend rows for more types than there are, and gets the rest back as it was.
-// Kept: `n ≡ type_count types.now`: without n each function below would work it out of the table again, and prove again that it fits 32 bits.
+// Kept: `n ≡ type_count types.now`: without n layout_tables and layout_all would each work it out of the table again, and prove again that it fits 32
+// bits.
 // Kept: `types`, `members`, `rows`, `i`: the tables that a caller lends, and the type whose row is made; as in ir_records.
 // Kept: `i * 6 + 6 ≤ length types.now`, `n * 14 ≤ length rows.old`: that there is a record and a row for each type, which tables_fit tells once a call;
 // the rows are lent with `&mut`, so that no struct that says so can outlive the write of one row.

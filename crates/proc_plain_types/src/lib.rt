@@ -9,7 +9,7 @@ use ir_records::{Fault, Refusal};
 
 /// Of a plain type; the step is 0 where there are no columns.
 // Kept: 0 and no Option: the definition gives three numbers, and the call of the C interface writes them.
-#[derive(Clone, Copy, Debug, PartialEq, Eq)]
+#[derive(Clone, Copy, Debug, Default, PartialEq, Eq)]
 pub struct PlainLayout {
     pub size: u32,
     pub alignment: u32,
@@ -17,7 +17,7 @@ pub struct PlainLayout {
 }
 
 // Shape by shape, at widths 1, 2, 4 and 8: size, alignment and column step.
-// Kept: a flat table, as the definition `entry_in` reads it: as 52 structs of three fields it would be 200 lines, and as arrays in arrays three brackets
+// Kept: a flat table, as the definition `entry_in` reads it: as 52 structs of three fields it would be 260 lines, and as arrays in arrays three brackets
 // an entry, with a definition that opens them one after the other.
 const NUMBERS: [u32; 156] = [
     // scalar

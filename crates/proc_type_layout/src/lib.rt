@@ -63,9 +63,9 @@ pub fn cooperative_layout(w: Words) -> Result<TypeLayout, TypeRefusal>
     })
 }
 
-// Kept: the kinds below that have no width are two lines each: its fields, which differ by kind, and its size. One function would take the fields as a
-// closure, and its contract could not name the kind.
-// Of a type that has no width: its size is given, its alignment is 1.
+// Of a type whose alignment is 1: its size is given.
+// Kept: each kind below is its fields, which differ by kind, the test of its base where it has one, and its size. One function would take the fields as a
+// closure, and its contract would have to say the closure's again.
 fn handle_layout(size: u32) -> TypeLayout
     ensures { result ≡ record { size = size; alignment = 1 } }
 {

@@ -76,8 +76,8 @@ pub fn read_all<S: Read>(source: &mut S, bytes: &mut [u8]) -> Result<usize, Read
     }
 }
 
-// One byte more than a text may have, so that a full buffer tells that there are more.
-const TEXT_BYTES: usize = 1048577;
+/// One byte more than a text or a module may have, so that a full buffer tells that there are more.
+pub const INPUT_BYTES: usize = 1048577;
 
 /// An array of one item so many times. A caller's proof knows its length, and does not write the items out.
 pub fn filled<T: Copy, const N: usize>(item: T) -> [T; N]
@@ -110,7 +110,7 @@ impl Messages {
 pub fn answer_text<S: Read, F: FnOnce(&[u8])>(source: &mut S, messages: Messages, answer: F)
     requires { F.IsAlwaysCallable answer }
 {
-    let mut bytes = filled::<u8, TEXT_BYTES>(0);
+    let mut bytes = filled::<u8, INPUT_BYTES>(0);
     match read_all(source, &mut bytes) {
         Ok(held) => answer(&bytes[..held]),
         Err(error) => tell(messages.of(error)),

@@ -1,6 +1,6 @@
 // Reads a line of the program `inspect`: the command and the numbers after it.
 // Kept: `1025 ≤ length numbers.old`: `read_line` takes each slice that is long enough, and a reference to an array there would ask more of its callers;
-// for the two functions below it a slice would have to become an array, which can fail.
+// for the two functions above it, which it calls, a slice would have to become an array, which can fail.
 #![tactic(auto)]
 
 ghost use Rattle.std.specs.Prelude.{◌≡◌, ◌≤◌, length};

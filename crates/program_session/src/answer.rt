@@ -47,7 +47,7 @@ impl<'a> Tables<'a> {
     }
 
     fn report(self, rows: &mut Rows, out: &mut Output) -> Result<(), Refusal> {
-        let mut words = [0u64; 2048];
+        let mut words = [0u64; place_report::REPORT_TABLE];
         let totals = place_report::report(
             self.types,
             self.members,
@@ -56,7 +56,7 @@ impl<'a> Tables<'a> {
             rows,
             &mut words,
         )?;
-        let own = ir_records::type_count(self.types) * 2;
+        let own = ir_records::type_count(self.types) * place_report::REPORT_WIDTH;
         put_report(totals, words.get(..own).unwrap_or(&[]), out);
         Ok(())
     }

@@ -25,7 +25,7 @@ impl Program {
                 self.session.held = 0;
                 return;
             }
-            self.session.line = std::num::wrapping_add_u64(self.session.line, 1);
+            self.session.line = self.session.line.wrapping_add(1);
             at = end + 1;
             end = program_words::run_end(input, at, |b| b != b'\n');
         }

@@ -7,9 +7,6 @@ use sheet_names::{Sheet, Type};
 use sheet_output::Writer;
 use valid_type_info::UniformRule;
 
-// Words of the report of all types.
-const REPORT: usize = ir_records::MOST_TYPES * 2;
-
 // Bytes that the slots of immediates have.
 const MOST_IMMEDIATE: u32 = immediates_ranges::SLOT_BYTES as u32;
 
@@ -19,7 +16,7 @@ const MOST_IMMEDIATE: u32 = immediates_ranges::SLOT_BYTES as u32;
 #[derive(Drop)]
 pub struct Counts {
     rows: [u32; ir_records::ROW_TABLE],
-    report: [u64; REPORT],
+    report: [u64; place_report::REPORT_TABLE],
     slots: [Option<Slots>; ir_records::MOST_TYPES],
 }
 
@@ -33,7 +30,7 @@ impl Counts {
     pub fn new() -> Counts {
         Counts {
             rows: [0; ir_records::ROW_TABLE],
-            report: [0; REPORT],
+            report: [0; place_report::REPORT_TABLE],
             slots: [None; ir_records::MOST_TYPES],
         }
     }

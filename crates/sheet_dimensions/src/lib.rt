@@ -206,5 +206,5 @@ pub fn of_type<'a>(t: Type<'a>) -> Option<Dimensions<'a>> {
     (0..sheet_types::MOST_DEPTH)
         .try_fold(Within::new(t), |within, _| within.step())
         .break_value()
-        .unwrap_or(None)
+        .flatten()
 }

@@ -2,15 +2,13 @@
 #![tactic(auto)]
 
 use program_files::Messages;
+use program_input::STDOUT;
 use program_words::NumberError;
 use sheet_answers::Asked;
 use sheet_structs::Form;
 use std::io::Read;
 use std::rt::{Env, Files};
 use valid_type_info::UniformRule;
-
-// Kept: the system's number of the stream, for the help alone: an `Output` of program_output, which has the number for itself, would be a buffer of 1114112 bytes for one text.
-const STDOUT: i32 = 1;
 
 // What the arguments say so far: what is asked of a file, the option whose value comes next, whether an option has no file after it yet, and whether a
 // file was named.
@@ -64,9 +62,8 @@ const UNREAD: Messages = Messages {
 };
 
 // Kept: as `program_files::answer_text`, which takes a closure: one that holds the name was tried, and the check takes no closure of two lifetimes beside `'static` messages.
-// Kept: 1048577, one byte more than is read: the constant of this number in program_files is its own, for a text; here it is of modules too.
 fn answer_open<S: Read>(asked: Asked, name: Option<&[u8]>, source: &mut S) {
-    let mut bytes = program_files::filled::<u8, 1048577>(0);
+    let mut bytes = program_files::filled::<u8, { program_files::INPUT_BYTES }>(0);
     match program_files::read_all(source, &mut bytes) {
         Ok(held) => asked.answer(name, &bytes[..held]),
         Err(error) => program_files::tell(UNREAD.of(error)),

@@ -5,7 +5,7 @@ ghost use Rattle.std.specs.Prelude.{◌≡◌, List, ℕ, ◌≤◌};
 ghost use Rattle.ir_records.specs.Record.{member_count, type_count};
 ghost use Rattle.ir_records.specs.declared.Fault.TheVariants as fault;
 ghost use Rattle.spirv_words.specs.Module.{opcode};
-ghost use Rattle.spirv_members.specs.Serving.{FaultTold};
+ghost use Rattle.ir_records.specs.Refusal.{RefusedUnless};
 ghost use Rattle.spirv_types.specs.Types.{State};
 ghost use Rattle.spirv_instruction.specs.Instruction.{least_type, least_constant, least_decorate, least_member_decorate, least_words, told_by, words_ok, row_count, type_read, new_id, instruction, other_read};
 ghost use Rattle.spirv_instruction.specs.Serving.{judged_result, type_result, id_result, TypeTold, Told};
@@ -96,21 +96,18 @@ fn told_by(op: u32) -> usize
 // Number 28 where the word count is too small for the instruction, or more than the words that are left.
 #[tactic(auto, unfolding(crate::specs::Instruction::words_ok))]
 fn check_words(place: Place) -> Result<(), Fault>
-    ensures { FaultTold result fault.ModuleHeader (words_ok place.entry.input.words.now place.entry.at) }
+    ensures { RefusedUnless result fault.ModuleHeader (words_ok place.entry.input.words.now place.entry.at) }
 {
     let words = place.input.words;
     let count = spirv_words::word_count(words, place.at);
     let op = spirv_words::opcode_of(words, place.at);
     let told = told_by(op);
     let least = least_words(place, op);
-    if (1 <= count)
+    let fit = (1 <= count)
         & (place.at.saturating_add(count) <= words.len())
         & (told <= count)
-        & (least <= count)
-    {
-        return Ok(());
-    }
-    Err(Fault::ModuleHeader)
+        & (least <= count);
+    ir_records::require(fit, Fault::ModuleHeader)
 }
 
 // The member rows of the type at a place.

@@ -30,10 +30,6 @@ abbrev pub faulted : {A : Type 0} → std.Result A Fault → Result A
 faulted (std.Ok a) = ok a
 faulted (std.Err fault) = err (number_of fault) 0 0
 
--- a fault just where a test says false
-abbrev pub FaultTold : std.Result (Unit {0}) Fault → Fault → (fit : Bool) → Type 0
-FaultTold told fault fit = std.MatchResult told (λ _. fit ≡ true) (λ f. (f ≡ fault) × (fit ≡ false))
-
 -- 29 before 30
 abbrev pub type_named : Sort → Result ℕ
 type_named s = require (not (is_other s)) 29 0 0 (require (is_type_read s) 30 0 0 (ok (number_in s)))

@@ -5,7 +5,7 @@ ghost use Rattle.std.specs.Prelude.{◌≡◌, true, [], ◌∷◌, ◌+◌, ◌
 ghost use Rattle.ir_rows.specs.Rows.{with_part};
 ghost use Rattle.ir_records.specs.declared.Fault.TheVariants as fault;
 ghost use Rattle.spirv_words.specs.Module.{header_ok, header_words};
-ghost use Rattle.spirv_members.specs.Serving.{FaultTold};
+ghost use Rattle.ir_records.specs.Refusal.{RefusedUnless};
 ghost use Rattle.spirv_members.specs.Members.{member_number, offset_of, member_sound, members_sound, member_rows};
 ghost use Rattle.spirv_instruction.specs.Instruction.{listed};
 ghost use Rattle.spirv_read.specs.Section.{section_answer_of};
@@ -121,10 +121,7 @@ fn read_from(
     ensures { (section_answer_of result ≡ section_of (read_from space.types space.members input.entry.words.now (length input.entry.words.now) header_words none)) × FilledTypes (read_from space.types space.members input.entry.words.now (length input.entry.words.now) header_words none) types.old types.new × FilledMembers (read_from space.types space.members input.entry.words.now (length input.entry.words.now) header_words none) members.old members.new }
 {
     let mut at: usize = spirv_words::HEADER_WORDS;
-    let mut held = Records {
-        types: 0,
-        members: 0,
-    };
+    let mut held = Records::default();
     // Kept: an instruction that has no words is refused here, by its place; `Instructions` ends before it.
     while at < input.words.len() {
         let place = Place { input, at };
@@ -137,22 +134,11 @@ fn read_from(
 
 // Number 28 where the words are no module's: too few for a header, or another first word.
 fn check_header(words: &[u32]) -> Result<(), Fault>
-    ensures { FaultTold result fault.ModuleHeader (header_ok words.now) }
+    ensures { RefusedUnless result fault.ModuleHeader (header_ok words.now) }
 {
     let magic = ir_records::word_at(words, 0);
-    if (spirv_words::HEADER_WORDS <= words.len()) & (magic == MAGIC) {
-        return Ok(());
-    }
-    Err(Fault::ModuleHeader)
-}
-
-// Zeroes both tables.
-// Kept: `wgsl_read::read_at` has these two calls too; a function of both for two lines would be cited by the proofs of both readers.
-fn clear_both(types: &mut [u32], members: &mut [u32])
-    ensures { (types.new ≡ replicate (length types.old) 0) × (members.new ≡ replicate (length members.old) 0) }
-{
-    types.fill(0);
-    members.fill(0);
+    let fit = (spirv_words::HEADER_WORDS <= words.len()) & (magic == MAGIC);
+    ir_records::require(fit, Fault::ModuleHeader)
 }
 
 // The type section of a module. Nothing is asked of the caller.
@@ -162,14 +148,14 @@ pub fn read_words(words: &[u32], types: &mut [u32], members: &mut [u32]) -> Resu
     ensures { (section_answer_of result ≡ section_of (read_into words.now types.old members.old)) × (types.new ≡ types_after (read_into words.now types.old members.old) types.old) × (members.new ≡ members_after (read_into words.now types.old members.old) members.old) }
 {
     if let Err(fault) = check_header(words) {
-        clear_both(types, members);
+        wgsl_tables::clear_both(types, members);
         return Err(fault);
     }
     let mut alignments = [0u32; MOST_TYPES];
     let space = wgsl_tables::room_in(types, members);
     let section = read_from(Module::new(words), types, members, &mut alignments, space);
     if section.is_err() {
-        clear_both(types, members);
+        wgsl_tables::clear_both(types, members);
     }
     section
 }

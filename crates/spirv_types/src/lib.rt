@@ -9,7 +9,8 @@ ghost use Rattle.ir_records.specs.Kinds.{kind_number, scalar_number};
 ghost use Rattle.ir_records.specs.Record.{member_count, scalar_kind};
 ghost use Rattle.spirv_ids.specs.Ids.{integer_before, is_constant, type_number};
 ghost use Rattle.spirv_words.specs.Module.{opcode, word, found};
-ghost use Rattle.spirv_members.specs.Serving.{faulted, FaultTold};
+ghost use Rattle.ir_records.specs.Refusal.{RefusedUnless};
+ghost use Rattle.spirv_members.specs.Serving.{faulted};
 ghost use Rattle.ir_records.specs.Record.{record_of};
 ghost use Rattle.spirv_types.specs.Types.{is_fresh, stride_at, constant_length, type_at};
 ghost use Rattle.spirv_types.specs.Serving.{leaf, width_of, kinded, sign_of, int_made, float_made, parts_made, vector_made, matrix_made, stride_made, length_made, array_typed, array_made, runtime_array_made, spanned, struct_made, type_made};
@@ -57,7 +58,7 @@ fn leaf_type(words: Words, factor: u32, width: u32) -> Typed
 
 // Number 30 where its id is given before, or has a decoration that it cannot have.
 fn check_fresh(place: Place) -> Result<(), Fault>
-    ensures { FaultTold result fault.ModuleOrder (is_fresh place.entry.input.words.now place.entry.at) }
+    ensures { RefusedUnless result fault.ModuleOrder (is_fresh place.entry.input.words.now place.entry.at) }
 {
     let words = place.input.words;
     let op = spirv_words::opcode_of(words, place.at);
@@ -65,10 +66,8 @@ fn check_fresh(place: Place) -> Result<(), Fault>
     let misplaced = spirv_words::first_between(words, spirv_words::HEADER_WORDS, place.at, |p| {
         spirv_words::is_misplaced(words, op, id, p)
     });
-    if spirv_ids::is_new(place, id) & misplaced.is_none() {
-        return Ok(());
-    }
-    Err(Fault::ModuleOrder)
+    let fit = spirv_ids::is_new(place, id) & misplaced.is_none();
+    ir_records::require(fit, Fault::ModuleOrder)
 }
 
 // The width in bytes; number 29 for any other number of bits.
@@ -187,7 +186,7 @@ fn stride_of(place: Place) -> Result<u32, Fault>
 }
 
 // A length by the words of its type and its own.
-// Kept: the sign is tested by 0: `sign_kind` refuses a third word with 29, and here any word but 0 limits the value.
+// Kept: the sign is tested by 0: `sign_kind` refuses a word above 1 with 29, and here any word but 0 limits the value.
 fn length_by(bits: u32, signedness: u32, value: u32) -> Option<u32>
     ensures { result ≡ found (pick (eqb bits 32 && (eqb signedness 0 || ltb value 2147483648)) value 0) }
 {

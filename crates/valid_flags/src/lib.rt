@@ -104,7 +104,8 @@ fn bit(word: u32, k: u32) -> bool
 }
 
 // Bit k of a capability word.
-// Kept: this and the five after it are bit of a word, each by the name of what the bit says; with the bit as a parameter they would be bit itself.
+// Kept: bit of a word under the name of what the word is; the five after it are named by what their bit says, and with the bit as a parameter they would
+// be bit itself.
 pub fn capable(capabilities: u32, k: u32) -> bool
     requires { k < 32 }
     ensures { result ≡ bit capabilities k }

@@ -118,7 +118,8 @@ pub fn ray_query_flags(capabilities: u32, vertex_return: u32) -> Result<u32, Typ
     )
 }
 
-// Kept: `dim`, `arrayed` and `class` are words of any record, here and in the two below: a number of no dimension is none of those asked for, and goes on.
+// Kept: `dim`, `arrayed` and `class` are words of any record, here and in the three below: a number of no dimension or class is none of those asked for,
+// and an enum would ask that number 2 has passed the record.
 // Of an arrayed image: number 22 for one of three dimensions; an array of cubes asks for a capability.
 fn arrayed_image(capabilities: u32, dim: u32) -> Result<(), TypeRefusal>
     ensures { judged result ≡ arrayed_image capabilities dim }

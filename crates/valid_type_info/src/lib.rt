@@ -117,7 +117,8 @@ pub struct StructType<'t, 'r, 'm> {
 
 // The distance from a struct to the member right after it.
 // Kept: three outcomes of one rule: the verdict reads the first two, number 21 the third. As a Result its refusal could not be passed on by `?`, since
-// numbers 17 to 19 come before it; as an Option of an Option each reader would have to know what either none says.
+// numbers 17 to 19 come before it; as an Option of an Option each reader would have to know what either none says;
+// and as an Option of the first two it would have the same three cases, with names for two of them alone.
 #[derive(Clone, Copy, Debug, PartialEq, Eq)]
 pub enum Distance {
     Enough,

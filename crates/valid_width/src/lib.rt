@@ -46,11 +46,11 @@ pub fn require_type_capability(capabilities: u32, b: u32) -> Result<(), TypeRefu
     requires { b < 32 }
     ensures { judged result ≡ allowed_with (bit capabilities b) b }
 {
-    if valid_flags::capable(capabilities, b) {
-        Ok(())
-    } else {
-        Err(TypeRefusal::with_detail(Fault::MissingCapability, b))
-    }
+    let capable = valid_flags::capable(capabilities, b);
+    ir_records::require(
+        capable,
+        TypeRefusal::with_detail(Fault::MissingCapability, b),
+    )
 }
 
 // Of an integer or a float: 4, or 2 and 8 with the capability for it.

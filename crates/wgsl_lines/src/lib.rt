@@ -5,14 +5,14 @@ ghost use Rattle.std.specs.Prelude.{List, ℕ};
 ghost use Rattle.program_output.specs.Bytes.{Adds};
 ghost use Rattle.wgsl_lines.specs.Lines.{Answers};
 
-use ir_records::{MEMBER_WORDS, MOST_MEMBERS, MOST_TYPES, Refusal, TYPE_WORDS};
+use ir_records::{MEMBER_TABLE, Refusal, TYPE_TABLE};
 use program_output::Output;
 
 pub fn put_answer(out: &mut Output, text: &[u8])
     ensures { (bytes : List ℕ) × Answers text.now bytes × Adds out.old bytes out.new }
 {
-    let mut types = [0u32; MOST_TYPES * TYPE_WORDS];
-    let mut members = [0u32; MOST_MEMBERS * MEMBER_WORDS];
+    let mut types = [0u32; TYPE_TABLE];
+    let mut members = [0u32; MEMBER_TABLE];
     match wgsl_read::read_at(text, &mut types, &mut members) {
         Ok(made) => program_record_lines::put_records(out, &types, &members, made),
         Err(refusal) => {

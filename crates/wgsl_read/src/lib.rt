@@ -46,8 +46,7 @@ pub fn read_at(text: &[u8], types: &mut [u32], members: &mut [u32]) -> Result<Re
     match fill(text, types, members) {
         Ok(state) => Ok(state.made),
         Err(refusal) => {
-            types.fill(0);
-            members.fill(0);
+            wgsl_tables::clear_both(types, members);
             Err(refusal)
         }
     }

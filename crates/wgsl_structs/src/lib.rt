@@ -223,10 +223,7 @@ pub fn read_declarations(
 {
     let mut state = State {
         structs: 0,
-        made: Records {
-            types: 0,
-            members: 0,
-        },
+        made: Records::default(),
         at: 0,
     };
     // Kept: the turns are those of the definition. `while let Some(next) = declaration_at(..)?` would have to fall in the tokens that are left, by the same law.

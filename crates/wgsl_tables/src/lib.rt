@@ -1,7 +1,7 @@
 // The tables that the readers of WGSL text and of SPIR-V fill: type and member records, and the names and shapes of structs.
 #![tactic(auto)]
 
-ghost use Rattle.std.specs.Prelude.{◌≡◌, [], ◌∷◌, ◌≤◌, ◌+◌, ◌*◌, length};
+ghost use Rattle.std.specs.Prelude.{◌≡◌, [], ◌∷◌, ◌≤◌, ◌+◌, ◌*◌, length, replicate};
 ghost use Rattle.ir_rows.specs.Rows.{with_part};
 ghost use Rattle.ir_records.specs.Record.{type_words, member_words};
 ghost use Rattle.wgsl_placement.specs.Placement.{words_of};
@@ -51,6 +51,14 @@ pub fn put_member(members: &mut [u32], i: u32, ty: u32, offset: u32)
 {
     let words = [ty, offset, 0, 0];
     put_words(members, (i as usize) * MEMBER_WORDS, &words);
+}
+
+/// Zeroes both tables, as a refusal does.
+pub fn clear_both(types: &mut [u32], members: &mut [u32])
+    ensures { (types.new ≡ replicate (length types.old) 0) × (members.new ≡ replicate (length members.old) 0) }
+{
+    types.fill(0);
+    members.fill(0);
 }
 
 // The bytes of a name; none where its two positions are none in the text, which `Span::bytes` asks of its callers.

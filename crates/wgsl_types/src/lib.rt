@@ -39,7 +39,7 @@ pub struct CountAt {
 }
 
 // A type after its name, and after the `<` of a template.
-// Kept: `read_type` has a step for each. As closures the four would each hold the same `&mut` table, which only one may.
+// Kept: `read_type` has a step for each. As closures three of the four would hold the same `&mut` table, which only one may.
 #[derive(Clone, Copy, Debug, PartialEq, Eq)]
 pub enum Opened {
     Scalar { scalar: Scalar, end: End },

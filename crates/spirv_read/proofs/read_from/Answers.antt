@@ -8,7 +8,9 @@ use Rattle.spirv_read.proofs.read_from.Goals as goal
 pub loop-at-init : goal.loop-at-init
 loop-at-init c =
     let a = c.args in
-    reading_starts a.space.types a.space.members a.input.words.now a.types.now a.members.now a.alignments.now c.requires
+    let none : c.default-held.result ≡ record { types = 0; members = 0 } = search rules in
+    rw none
+    (reading_starts a.space.types a.space.members a.input.words.now a.types.now a.members.now a.alignments.now c.requires)
 
 pub returns-in_err-held : goal.returns-in_err-held
 returns-in_err-held c =

@@ -1,6 +1,6 @@
 -- `spirv_types::check_fresh` meets its contract. Assumes nothing.
 use borrow.Author.Rules.{rules}
-use mathlib.Core.Path.{◌≡◌, sym, ◌∙◌, refl}
+use mathlib.Core.Path.{◌≡◌, refl}
 use mathlib.Core.Bool.{◌&&◌}
 use Prim.Native.Nat.{◌-◌}
 use native.Mathlib.Omega.{arith}
@@ -10,16 +10,6 @@ use Rattle.spirv_words.proofs.SearchLaws.{find_found, found_not}
 use Rattle.spirv_types.specs.Types.{is_fresh}
 use Rattle.spirv_types.proofs.check_fresh.Goals as goal
 
-pub returns-then-is_new-is_none : goal.returns-then-is_new-is_none
-unfolding is_fresh
-returns-then-is_new-is_none c =
-    let a = c.args in
-    let ws = a.place.input.words.now in
-    let test = is_misplaced ws (opcode ws a.place.at) (word ws a.place.at 1) in
-    let e = rw (c.first_between-misplaced.ensures (is_misplaced ws c.opcode_of-op.result c.word_of-id.result) (λ p r h told. search rules), c.word_of-id.ensures, c.opcode_of-op.ensures, find_found ws a.place.at test (a.place.at - 5) 5 (omega arith)) at c.is_none.ensures in
-    let same : (c.is_new.result && c.is_none.result) ≡ is_fresh ws a.place.at = rw (c.is_new.ensures, c.word_of-id.ensures, found_not (first test (before ws a.place.at)) c.is_none.result e) refl in
-    sym same ∙ c.if-is_new-is_none.true
-
 pub returns : goal.returns
 unfolding is_fresh
 returns c =
@@ -28,4 +18,4 @@ returns c =
     let test = is_misplaced ws (opcode ws a.place.at) (word ws a.place.at 1) in
     let e = rw (c.first_between-misplaced.ensures (is_misplaced ws c.opcode_of-op.result c.word_of-id.result) (λ p r h told. search rules), c.word_of-id.ensures, c.opcode_of-op.ensures, find_found ws a.place.at test (a.place.at - 5) 5 (omega arith)) at c.is_none.ensures in
     let same : (c.is_new.result && c.is_none.result) ≡ is_fresh ws a.place.at = rw (c.is_new.ensures, c.word_of-id.ensures, found_not (first test (before ws a.place.at)) c.is_none.result e) refl in
-    (refl, sym same ∙ c.if-is_new-is_none.false)
+    rw same at c.require.ensures
