@@ -1,11 +1,10 @@
 -- Serves the contracts of functions inside the library: it adds nothing to what the other files say, and a reader may skip it.
 -- Assumes nothing.
-use Rattle.std.specs.Prelude.{Bool, true, false, ◌&&◌, ℕ}
+use Rattle.std.specs.Prelude.{Bool, ◌&&◌, ℕ}
 use Rattle.valid_flags.specs.Flags.{bit, data_bit, sized_bit, host_shareable_bit, creation_resolved_bit}
 use Rattle.valid_type_info.specs.declared.Verdict.{Verdict}
 use Rattle.valid_type_info.specs.declared.Row.{Row}
 use Rattle.valid_type_info.specs.declared.Distance.{Distance}
-use Rattle.valid_type_info.specs.declared.Distance.TheVariants.{Enough, Short, Overflow}
 use Rattle.valid_type_info.specs.Verdict.{share_verdict, member_verdict, unsized_verdict}
 use Rattle.valid_type_info.specs.Serving.{after_distance}
 
@@ -18,9 +17,3 @@ uniform_by least d i j t offset r so_far =
 -- the flags of a plain member
 abbrev pub is_plain : (flags : ℕ) → Bool
 is_plain flags = bit flags data_bit && bit flags sized_bit && bit flags host_shareable_bit && bit flags creation_resolved_bit
-
--- a distance that leaves the verdict as it is
-abbrev pub is_enough : Distance → Bool
-is_enough Enough = true
-is_enough (Short expected) = false
-is_enough Overflow = false

@@ -17,14 +17,14 @@ use Rattle.valid_type_info.specs.TypeInfo.{row_sizes, row_flags}
 use Rattle.valid_type_info.specs.declared.Verdict.{Verdict}
 use Rattle.std.specs.Prelude.{Option, Some, None}
 use Rattle.valid_type_info.specs.declared.PreviousStruct.{PreviousStruct}
-use Rattle.valid_type_info.specs.Verdict.{distance_ok, distance_verdict, share_verdict, member_verdict, unsized_verdict}
+use Rattle.valid_type_info.specs.Verdict.{distance_ok}
 use Rattle.valid_member_bounds.specs.declared.Bounds.{Bounds}
 use Rattle.valid_members.specs.declared.State.{State}
 use Rattle.ir_records.proofs.ResultLaws.{true_T, T_true, and_left, and_right}
-use Rattle.valid_flags.specs.Flags.{bit, data_bit, sized_bit, host_shareable_bit, creation_resolved_bit, is_sized_data}
+use Rattle.valid_flags.specs.Flags.{bit, data_bit, sized_bit, creation_resolved_bit, is_sized_data}
 use Rattle.valid_type_info.specs.Verdict.{struct_at, previous_of, is_ok, ok_verdict}
 use Rattle.valid_member_bounds.specs.MemberBounds.{is_array, member_bounds, bounds_after}
-use Rattle.valid_member_rules.specs.MemberRules.{uniform_after, storage_after, immediates_after, member_immediates}
+use Rattle.valid_member_rules.specs.MemberRules.{uniform_after, storage_after, immediates_after, member_uniform, member_storage, member_immediates}
 use Rattle.valid_members_plain.specs.declared.PlainState.{PlainState}
 use Rattle.valid_members_plain.specs.Serving.{least_of, uniform_so_far, HasFailed, plain_bounds, PlainAfter}
 use Rattle.std.specs.Prelude as std
@@ -68,20 +68,19 @@ module _ (least : ℕ) (inner : ℕ → TypeInner) (rows : ℕ → Row) (i count
       go m (err a b c) p q = rw p (rw p at q)
       go m (ok b) p q = let q' = rw p at q in let z : ◌≡◌ {A = ℕ} 0 1 = cc in absurd (omega arith)
 
--- the step of a member in order: all tests hold, and each verdict is that of the offset
+-- the step of a member in order whose distance can be told: all tests hold
 pub ordered-step : (least i count span j t offset : ℕ) (array : Bool) (next : Option PreviousStruct) (r : Row) (s : State)
-    → is_sized_data r.flags ≡ true → s.bounds.end ≤ offset → offset + r.size ≤ span → span ≤ most
-    → distance_ok s.previous offset ≡ true → ((v : Verdict) → distance_verdict least i j offset s.previous v ≡ v)
+    → is_sized_data r.flags ≡ true → s.bounds.end ≤ offset → offset + r.size ≤ span → span ≤ most → distance_ok s.previous offset ≡ true
     → member_step least i count span j t offset array next r s
     ≡ ok (record {
       bounds = record { end = offset + r.size; flags = bit_and s.bounds.flags r.flags };
-      uniform = member_verdict i j offset (share_verdict (bit r.flags host_shareable_bit) t s.uniform) r.uniform;
-      storage = member_verdict i j offset (share_verdict (bit r.flags host_shareable_bit) t s.storage) r.storage;
+      uniform = member_uniform least i j t offset s.previous r s.uniform;
+      storage = member_storage i j t offset r s.storage;
       immediates = member_immediates r.immediates s.immediates;
       previous = next;
     })
-unfolding member_step unsized_verdict
-ordered-step least i count span j t offset array next r s in_order apart within fits distant far =
+unfolding member_step
+ordered-step least i count span j t offset array next r s in_order apart within fits distant =
     let holds = bit r.flags data_bit in
     let sized = bit r.flags sized_bit in
     let resolved = bit r.flags creation_resolved_bit in
@@ -90,7 +89,7 @@ ordered-step least i count span j t offset array next r s in_order apart within 
     let is-data : holds ≡ true = T_true holds (and_left holds sized two) in
     let is-sized : sized ≡ true = T_true sized (and_right holds sized two) in
     let is_resolved : resolved ≡ true = T_true resolved (and_right (holds && sized) resolved all) in
-    rw (is-data, is-sized, is_resolved, le-leb s.bounds.end offset apart, le-leb (offset + r.size) most (omega arith), le-leb (offset + r.size) span within, distant, far) refl
+    rw (is-data, is-sized, is_resolved, le-leb s.bounds.end offset apart, le-leb (offset + r.size) most (omega arith), le-leb (offset + r.size) span within, distant) refl
 
 -- ---- the state part by part
 module _ (least : ℕ) (inner : ℕ → TypeInner) (rows : ℕ → Row) (i count span : ℕ) (part : List ℕ) (j : ℕ) where

@@ -13,8 +13,7 @@ use Rattle.valid_type_info.specs.declared.PreviousStruct.{PreviousStruct}
 use Rattle.valid_type_info.specs.declared.Row.{Row}
 use Rattle.valid_type_info.specs.TypeInfo.{row_sizes, row_flags}
 use Rattle.valid_type_info.specs.declared.Verdict.{Verdict}
-use Rattle.valid_type_info.specs.declared.UniformRule.{UniformRule}
-use Rattle.valid_type_info.specs.Verdict.{least_for, ok_verdict, is_ok, previous_of, distance_verdict, distance_ok}
+use Rattle.valid_type_info.specs.Verdict.{ok_verdict, is_ok, previous_of, distance_ok}
 use Rattle.valid_member_bounds.specs.MemberBounds.{bounds_by, bounds_after}
 use Rattle.valid_member_rules.specs.MemberRules.{member_uniform, member_storage, member_immediates, uniform_after, storage_after, immediates_after}
 use Rattle.valid_members.specs.declared.State.{State}
@@ -45,13 +44,11 @@ member_step least i count span j t offset array next r s =
       previous = next;
     }))
 
--- a member that breaks no rule of bounds and needs no distance: it begins at the running end or past it and ends within the span
-pub record InOrder (flags running offset end span : ℕ) (previous : Option PreviousStruct) : Type 0 where
+-- a member that breaks no rule of bounds but that of the distance: it begins at the running end or past it and ends within the span
+pub record InOrder (flags running offset end span : ℕ) : Type 0 where
   pub sized_data : is_sized_data flags ≡ true
   pub apart : running ≤ offset
   pub inside : end ≤ span
-  pub within : distance_ok previous offset ≡ true
-  pub enough : (rule : UniformRule) (i j : ℕ) (v : Verdict) → distance_verdict (least_for rule) i j offset previous v ≡ v
 
 -- what is taken as a member in order is the member's step; nothing is said of a member that is passed on
 abbrev pub ordered_step : Option State → Result State → Type 0
@@ -79,9 +76,8 @@ UniformFits u = (uniform_so_far (alignment_of u) u ≡ u) × HasFailed (alignmen
 abbrev pub PlainFits : (u s : Verdict) → Type 0
 PlainFits u s = UniformFits u × (s ≡ ok_verdict s.ty)
 
--- what is known of the state after some members, by either rule, is known after those that were taken since
-abbrev pub GoesOn : (inner : ℕ → TypeInner) (rows : ℕ → Row) (i count span : ℕ) (members : List ℕ) → (from to : Reached State) → Type 0
-GoesOn inner rows i count span members from to =
-    (rule : UniformRule)
-    → state_after (least_for rule) inner rows i count span members from.taken ≡ ok from.state
-    → state_after (least_for rule) inner rows i count span members to.taken ≡ ok to.state
+-- what is known of the state after some members is known after those that were taken since
+abbrev pub GoesOn : (least : ℕ) (inner : ℕ → TypeInner) (rows : ℕ → Row) (i count span : ℕ) (members : List ℕ) → (from to : Reached State) → Type 0
+GoesOn least inner rows i count span members from to =
+    state_after least inner rows i count span members from.taken ≡ ok from.state
+    → state_after least inner rows i count span members to.taken ≡ ok to.state

@@ -5,18 +5,19 @@ ghost use Rattle.std.specs.Prelude.{◌≡◌, true, ℕ, ◌+◌, ◌*◌, ◌�
 ghost use Rattle.ir_records.specs.Record.{member_words, member_type, type_inner};
 ghost use Rattle.ir_records.specs.Result.{ok};
 ghost use Rattle.valid_type_info.specs.declared.UniformRule as rule;
-ghost use Rattle.valid_type_info.specs.TypeInfo.{rows_in, verdict_in};
-ghost use Rattle.valid_type_info.specs.Verdict.{least_for, ok_verdict, share_verdict, member_verdict, struct_at, previous_of};
+ghost use Rattle.valid_type_info.specs.TypeInfo.{rows_in};
+ghost use Rattle.valid_type_info.specs.Verdict.{least_for, ok_verdict, struct_at, previous_of};
 ghost use Rattle.valid_members_plain.specs.Serving.{least_of, uniform_so_far};
 ghost use Rattle.valid_member_bounds.specs.MemberBounds.{is_array};
+ghost use Rattle.valid_member_rules.specs.MemberRules.{member_storage, member_immediates};
+ghost use Rattle.valid_member_rules.specs.Serving.{uniform_by};
 ghost use Rattle.ir_records.specs.Refusal.{judged};
 ghost use Rattle.valid_members.specs.Serving.{member_step, state_after, InOrder, ordered_step, alignment_of, UniformFits, PlainFits, GoesOn};
 
 use ir_records::TypeRefusal;
-use ir_rows::Earlier;
 use valid_member_bounds::{BoundMember, Bounds};
 use valid_members_plain::{PlainState, Reached};
-use valid_type_info::{MemberAt, PreviousStruct, Row, StructType, UniformRule, Verdict};
+use valid_type_info::{Distance, MemberAt, PreviousStruct, StructType, UniformRule, Verdict};
 
 // What is known after some members.
 #[derive(Clone, Copy, Debug, PartialEq, Eq)]
@@ -28,17 +29,42 @@ pub struct State {
     pub previous: Option<PreviousStruct>,
 }
 
+// Kept: `m.t < s.now.before.i`, `rule`, `s`, `m`: StructType gives the fact for each member of its part; a member with its struct and the rule beside it
+// would be made in each turn of the loops.
+// The state after member m of struct s, by its distance from the struct before it and the bounds after it.
+// Inlined into both its callers: as a call of its own, through memory, it took a quarter of the time of a small struct.
+#[inline(always)]
+fn after_member(
+    rule: UniformRule,
+    s: &StructType,
+    m: MemberAt,
+    d: Distance,
+    bounds: Bounds,
+    state: State,
+) -> State
+    requires { m.t < s.now.before.i }
+    ensures { result ≡ record { bounds = bounds; uniform = uniform_by (least_for rule) d m.i m.j m.t m.offset (rows_in s.now.before.rows.now m.t) state.uniform; storage = member_storage m.i m.j m.t m.offset (rows_in s.now.before.rows.now m.t) state.storage; immediates = member_immediates (rows_in s.now.before.rows.now m.t).immediates state.immediates; previous = struct_at (type_inner s.now.types.now m.t) m.offset } }
+{
+    let least = valid_type_info::least_for(rule);
+    let own = s.before.word(m.t, ir_rows::IMMEDIATES);
+    State {
+        bounds,
+        uniform: valid_member_rules::uniform_at(least, d, s.before, m, state.uniform),
+        storage: valid_member_rules::storage_at(s.before, m, state.storage),
+        immediates: valid_member_rules::immediates_of(own, state.immediates),
+        previous: valid_member_rules::struct_at(s.types, m.t, m.offset),
+    }
+}
+
 // One member m of struct s, in 01's order.
 fn member(
     rule: UniformRule,
     s: &StructType,
     m: MemberAt,
-    array: bool,
-    next: Option<PreviousStruct>,
-    row: Row,
     state: State,
 ) -> Result<State, TypeRefusal>
-    ensures { judged result ≡ member_step (least_for rule) m.i s.now.part.count s.now.span m.j m.t m.offset array next row state }
+    requires { m.t < s.now.before.i }
+    ensures { judged result ≡ member_step (least_for rule) m.i s.now.part.count s.now.span m.j m.t m.offset (is_array (type_inner s.now.types.now m.t)) (struct_at (type_inner s.now.types.now m.t) m.offset) (rows_in s.now.before.rows.now m.t) state }
 {
     let d = valid_type_info::distance_to(state.previous, m.offset);
     let bounds = valid_member_bounds::member_bounds(
@@ -48,20 +74,13 @@ fn member(
         BoundMember {
             j: m.j,
             offset: m.offset,
-            size: row.size,
-            flags: row.flags,
-            array,
+            size: s.before.word(m.t, ir_rows::SIZE),
+            flags: s.before.word(m.t, ir_rows::FLAGS),
+            array: valid_member_bounds::is_array(s.types, m.t),
         },
         state.bounds,
     )?;
-    let least = valid_type_info::least_for(rule);
-    Ok(State {
-        bounds,
-        uniform: valid_member_rules::uniform_of(least, d, m, row, state.uniform),
-        storage: valid_member_rules::storage_of(m, row, state.storage),
-        immediates: valid_member_rules::immediates_of(row.immediates, state.immediates),
-        previous: next,
-    })
+    Ok(after_member(rule, s, m, d, bounds, state))
 }
 
 // After the members that the loop of valid_members_plain has taken: the storage verdict is Ok.
@@ -101,32 +120,9 @@ fn previous_of(types: &[u32], part: &[u32], j: u32) -> Option<PreviousStruct>
     )
 }
 
-// The verdict after member m, by that of its type in words w to w + 4 of its row.
-fn verdict_after(
-    before: Earlier,
-    m: MemberAt,
-    w: usize,
-    shareable: bool,
-    so_far: Verdict,
-) -> Verdict
-    requires of_these { m.t < before.i }
-    requires in_row { w + 4 < 14 }
-    ensures { result ≡ member_verdict m.i m.j m.offset (share_verdict shareable m.t so_far) (verdict_in before.entry.rows.now m.t w) }
-{
-    let shared = valid_type_info::share_verdict(shareable, m.t, so_far);
-    valid_type_rows::member_verdict_at(before.rows, w, m, shared)
-}
-
-// Whether a member breaks no rule of bounds and needs no distance.
-fn is_in_order(
-    flags: u32,
-    running: u32,
-    offset: u32,
-    end: u64,
-    span: u32,
-    previous: Option<PreviousStruct>,
-) -> bool
-    ensures { result ≡ true → InOrder flags running offset end span previous }
+// Whether a member breaks no rule of bounds, but for its distance from the struct before it.
+fn is_in_order(flags: u32, running: u32, offset: u32, end: u64, span: u32) -> bool
+    ensures { result ≡ true → InOrder flags running offset end span }
 {
     if !valid_flags::is_sized_data(flags) {
         return false;
@@ -134,56 +130,42 @@ fn is_in_order(
     if offset < running {
         return false;
     }
-    if (span as u64) < end {
-        return false;
-    }
-    valid_member_rules::is_enough(valid_type_info::distance_to(previous, offset))
+    end <= u64::from(span)
 }
 
 // The step of a member in order, in fewer tests than `member`.
-fn ordered_member(s: &StructType, m: MemberAt, state: State) -> Option<State>
+fn ordered_member(rule: UniformRule, s: &StructType, m: MemberAt, state: State) -> Option<State>
     requires { m.t < s.now.before.i }
-    ensures { (rule : rule.UniformRule) (count : ℕ) → ordered_step result (member_step (least_for rule) m.i count s.now.span m.j m.t m.offset (is_array (type_inner s.now.types.now m.t)) (struct_at (type_inner s.now.types.now m.t) m.offset) (rows_in s.now.before.rows.now m.t) state) }
+    ensures { (count : ℕ) → ordered_step result (member_step (least_for rule) m.i count s.now.span m.j m.t m.offset (is_array (type_inner s.now.types.now m.t)) (struct_at (type_inner s.now.types.now m.t) m.offset) (rows_in s.now.before.rows.now m.t) state) }
 {
     let flags = s.before.word(m.t, ir_rows::FLAGS);
-    let own = s.before.word(m.t, ir_rows::IMMEDIATES);
-    let sum = valid_member_rules::end_of(m.offset, s.before.word(m.t, ir_rows::SIZE));
-    if !is_in_order(
-        flags,
-        state.bounds.end,
-        m.offset,
-        sum,
-        s.span,
-        state.previous,
-    ) {
+    let end = valid_member_rules::end_of(m.offset, s.before.word(m.t, ir_rows::SIZE));
+    if !is_in_order(flags, state.bounds.end, m.offset, end, s.span) {
+        return None;
+    }
+    let d = valid_type_info::distance_to(state.previous, m.offset);
+    if !valid_member_bounds::is_within(d) {
         return None;
     }
     let bounds = Bounds {
-        end: sum as u32,
+        end: end as u32,
         flags: valid_flags::both(state.bounds.flags, flags),
     };
-    let shareable = valid_flags::is_host_shareable(flags);
-    Some(State {
-        bounds,
-        uniform: verdict_after(s.before, m, ir_rows::UNIFORM, shareable, state.uniform),
-        storage: verdict_after(s.before, m, ir_rows::STORAGE, shareable, state.storage),
-        immediates: valid_member_rules::immediates_of(own, state.immediates),
-        previous: valid_member_rules::struct_at(s.types, m.t, m.offset),
-    })
+    Some(after_member(rule, s, m, d, bounds, state))
 }
 
 // Kept: `from.taken ≤ s.now.part.count`: of how far a loop has come in this struct. A struct of both, as immediates_walk::Walk, would be made of each
 // state that a loop hands on, and Reached is one for every loop.
-// Kept: three functions promise the same of the state: what holds by whichever rule goes on holding by it. A ghost field of the state would fix one rule,
-// which these loops do not read.
+// Kept: `GoesOn`: three functions promise that what is known of a state goes on being known. A ghost field of the state would hold the struct and the rule
+// of which it is known.
 // Kept: beside `valid_members_plain::plain_members`, up to the first member whose step says none as well: one loop for both would take the step as a
 // closure, and the invariant of each, which its contract names, as a parameter.
-// The members of struct s from `taken` on, up to the first for which `member` is needed. They are taken alike by either rule.
-fn ordered_members(s: &StructType, from: Reached<State>) -> Reached<State>
+// The members of struct s from `taken` on, up to the first for which `member` is needed.
+fn ordered_members(rule: UniformRule, s: &StructType, from: Reached<State>) -> Reached<State>
     requires { from.taken ≤ s.now.part.count }
     ensures taken_le_taken { from.taken ≤ result.taken }
     ensures taken_le_count { result.taken ≤ s.now.part.count }
-    ensures taken_value { GoesOn (type_inner s.now.types.now) (rows_in s.now.before.rows.now) s.now.before.i s.now.part.count s.now.span s.now.part.words.now from result }
+    ensures taken_value { GoesOn (least_for rule) (type_inner s.now.types.now) (rows_in s.now.before.rows.now) s.now.before.i s.now.part.count s.now.span s.now.part.words.now from result }
 {
     let mut state = from.state;
     for j in from.taken..s.part.count {
@@ -193,7 +175,7 @@ fn ordered_members(s: &StructType, from: Reached<State>) -> Reached<State>
             t: s.part.type_of(j),
             offset: s.part.offset_of(j),
         };
-        match ordered_member(s, m, state) {
+        match ordered_member(rule, s, m, state) {
             Some(next) => {
                 state = next;
             }
@@ -276,7 +258,7 @@ fn plain_from(s: &StructType, from: Reached<State>) -> Reached<State>
     requires storage_value { from.state.storage ≡ ok_verdict from.state.storage.ty }
     ensures taken_le_taken { from.taken ≤ result.taken }
     ensures taken_le_count { result.taken ≤ s.now.part.count }
-    ensures taken_value { GoesOn (type_inner s.now.types.now) (rows_in s.now.before.rows.now) s.now.before.i s.now.part.count s.now.span s.now.part.words.now from result }
+    ensures taken_value { (rule : rule.UniformRule) → GoesOn (least_for rule) (type_inner s.now.types.now) (rows_in s.now.before.rows.now) s.now.before.i s.now.part.count s.now.span s.now.part.words.now from result }
 {
     let start = Reached {
         taken: from.taken,
@@ -296,36 +278,34 @@ fn plain_from(s: &StructType, from: Reached<State>) -> Reached<State>
     }
 }
 
-// The members of struct s from `taken` on, up to the first that needs every rule or another loop. They are taken alike by either rule.
-fn together(s: &StructType, from: Reached<State>) -> Reached<State>
+// The members of struct s from `taken` on, up to the first that needs every rule or another loop.
+fn together(rule: UniformRule, s: &StructType, from: Reached<State>) -> Reached<State>
     requires { from.taken ≤ s.now.part.count }
     ensures taken_le_taken { from.taken ≤ result.taken }
     ensures taken_le_count { result.taken ≤ s.now.part.count }
-    ensures taken_value { GoesOn (type_inner s.now.types.now) (rows_in s.now.before.rows.now) s.now.before.i s.now.part.count s.now.span s.now.part.words.now from result }
+    ensures taken_value { GoesOn (least_for rule) (type_inner s.now.types.now) (rows_in s.now.before.rows.now) s.now.before.i s.now.part.count s.now.span s.now.part.words.now from result }
 {
     let left = s.part.count - from.taken;
     if are_plain(left, from.state.uniform, from.state.storage) {
         plain_from(s, from)
     } else {
-        ordered_members(s, from)
+        ordered_members(rule, s, from)
     }
 }
 
 // The next member by every rule.
 fn step(rule: UniformRule, s: &StructType, at: Reached<State>) -> Result<State, TypeRefusal>
-    requires { state_after (least_for rule) (type_inner s.now.types.now) (rows_in s.now.before.rows.now) s.now.before.i s.now.part.count s.now.span s.now.part.words.now at.taken ≡ ok at.state }
+    requires in_part { at.taken < s.now.part.count }
+    requires so_far { state_after (least_for rule) (type_inner s.now.types.now) (rows_in s.now.before.rows.now) s.now.before.i s.now.part.count s.now.span s.now.part.words.now at.taken ≡ ok at.state }
     ensures { judged result ≡ state_after (least_for rule) (type_inner s.now.types.now) (rows_in s.now.before.rows.now) s.now.before.i s.now.part.count s.now.span s.now.part.words.now (at.taken + 1) }
 {
     let m = MemberAt {
         i: s.before.i,
         j: at.taken,
-        t: ir_records::member_type(s.part.words, at.taken),
-        offset: ir_records::member_offset(s.part.words, at.taken),
+        t: s.part.type_of(at.taken),
+        offset: s.part.offset_of(at.taken),
     };
-    let array = valid_member_bounds::is_array(s.types, m.t);
-    let next = valid_member_rules::struct_at(s.types, m.t, m.offset);
-    let row = valid_type_rows::row_at(s.before.rows, m.t);
-    member(rule, s, m, array, next, row, at.state)
+    member(rule, s, m, at.state)
 }
 
 // The members of struct s from `taken` on, by every rule where one needs it. After one that does, the next are taken together again.
@@ -341,7 +321,7 @@ pub fn members_of(
     let mut reached = from;
     // Kept: it goes on by as many members as were taken together, which no range does.
     while reached.taken < s.part.count {
-        let there = together(s, reached);
+        let there = together(rule, s, reached);
         if there.taken == s.part.count {
             return Ok(there.state);
         }

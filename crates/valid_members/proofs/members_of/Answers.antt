@@ -20,10 +20,12 @@ together-there-requires c = c.loop-reached.invariant.0
 pub returns-then-there-s : goal.returns-then-there-s
 returns-then-there-s c =
     let a = c.args in
-    rw c.if-there-s.true at (sym (c.together-there.ensures.taken_value a.rule c.loop-reached.invariant.1))
+    rw c.if-there-s.true at (sym (c.together-there.ensures.taken_value c.loop-reached.invariant.1))
 
 pub step-requires : goal.step-requires
-step-requires c = c.together-there.ensures.taken_value c.args.rule c.loop-reached.invariant.1
+step-requires c =
+    let o = c.together-there in
+    record { in_part = omega (arith, o.ensures.taken_le_count, c.if-there-s.false); so_far = o.ensures.taken_value c.loop-reached.invariant.1 }
 
 pub returns-in_err-step : goal.returns-in_err-step
 returns-in_err-step c =

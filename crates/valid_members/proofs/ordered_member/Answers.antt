@@ -1,28 +1,28 @@
-use mathlib.Core.Path.{◌≡◌}
+use mathlib.Core.Path.{◌≡◌, sym, ◌∙◌}
+use mathlib.Core.Bool.{true}
 use Rattle.std.proofs.Common.{rules}
-use Prim.Native.Nat.{◌+◌, ◌<◌}
-use native.Mathlib.Omega.{arith}
+use Prim.Native.Nat.{◌+◌}
 use Rattle.ir_records.specs.Record.{type_inner}
 use Rattle.valid_type_info.specs.TypeInfo.{rows_in}
 use Rattle.valid_type_info.specs.Verdict.{least_for, struct_at}
+use Rattle.valid_type_info.specs.Serving.{is_within}
 use Rattle.valid_member_bounds.specs.MemberBounds.{is_array}
+use Rattle.valid_member_rules.proofs.RuleLaws.{uniform-by}
 use Rattle.valid_members.proofs.StateLaws.{ordered-step}
 use Rattle.valid_members.proofs.ordered_member.Goals as goal
 
--- the end lies within the span, which is a 32-bit number
-pub overflow_cast-bounds : goal.overflow_cast-bounds
-overflow_cast-bounds c =
-    let in_order = c.is_in_order.ensures (c.if-not-is_in_order.false) in
-    let span : c.args.s.now.span < 4294967296 = search rules in omega (arith, in_order.inside, span)
-
 pub returns : goal.returns
 unfolding rows_in
-returns c = λ rule count.
+returns c = λ count.
     let a = c.args in
+    let d = c.distance_to-d in
     let row = rows_in a.s.now.before.rows.now a.m.t in
     let inner = type_inner a.s.now.types.now a.m.t in
     let in_order = c.is_in_order.ensures (c.if-not-is_in_order.false) in
-    let end : c.end_of-sum.result ≡ a.m.offset + row.size = rw c.word.ensures at c.end_of-sum.ensures in
+    let end : c.end_of-end.result ≡ a.m.offset + row.size = rw c.word.ensures at c.end_of-end.ensures in
     let inside = rw end at in_order.inside in
-    let step = ordered-step (least_for rule) a.m.i count a.s.now.span a.m.j a.m.t a.m.offset (is_array inner) (struct_at inner a.m.offset) row a.state (rw c.word-flags.ensures at in_order.sized_data) in_order.apart inside (search rules) in_order.within (in_order.enough rule a.m.i a.m.j) in
-    rw (c.struct_at.ensures, c.immediates_of.ensures, c.word-own.ensures, c.verdict_after-2.ensures, c.verdict_after.ensures, c.is_host_shareable-shareable.ensures, c.both.ensures, c.word-flags.ensures, end) step
+    let told : is_within d.result ≡ true = sym c.is_within.ensures ∙ c.if-not-is_within.false in
+    let within = sym d.ensures.within ∙ told in
+    let step = ordered-step (least_for a.rule) a.m.i count a.s.now.span a.m.j a.m.t a.m.offset (is_array inner) (struct_at inner a.m.offset) row a.state (rw c.word-flags.ensures at in_order.sized_data) in_order.apart inside (search rules) within in
+    let uniform = uniform-by (least_for a.rule) d.result a.state.previous a.m.i a.m.j a.m.t a.m.offset row a.state.uniform (λ v. d.ensures.verdict a.rule a.m.i a.m.j v told) in
+    rw (c.after_member.ensures, c.both.ensures, c.word-flags.ensures, end, uniform) step
