@@ -2,7 +2,10 @@
 // Each word of a lent buffer is 9 before its call, and all of them are printed after it, those past the call's own too.
 #![tactic(auto)]
 
-ghost use Rattle.std.specs.Prelude.{◌≤◌};
+ghost use Rattle.std.specs.Prelude.{◌≡◌, List, ℕ, ◌≤◌, ◌==◌, count_by, min};
+ghost use Rattle.doors_lent.specs.Lent.{nines, first_words, rows_checked, rows_laid_out, rows_reported};
+ghost use Rattle.doors_lent.specs.Lent.{slot_words, place_words, choice, after_step, part_words, range_words, plain_words};
+ghost use Rattle.doors_lent.specs.Calls.{LeavesRows, LeavesFound, ReadLeaves};
 
 // Kept: the system's number of the stream; program_input, which has it, is of programs that read.
 const STDOUT: i32 = 1;
@@ -38,12 +41,15 @@ pub fn refusal(number: u32, answer: &[u32; 5]) {
     words(b"", answer);
 }
 
-/// How many words of a long buffer are n.
-pub fn count(name: &[u8], words: &[u32], n: u32) {
+/// How many words of a long buffer are n; the number that is printed is handed back.
+pub fn count(name: &[u8], words: &[u32], n: u32) -> usize
+    ensures { result ≡ count_by (λ word. word == n) words.now }
+{
     let found = words.iter().filter(|word| **word == n).count();
     put_name(name);
     put_number(found as u64);
     put_end();
+    found
 }
 
 /// M1 of 01: E, V, S{V at 0, E at 12} span 16.
@@ -56,25 +62,34 @@ pub const M6: [u32; 18] = [0, 2, 4, 0, 0, 0, 1, 3, 2, 4, 0, 0, 8, 0, 2, 15, 0, 0
 
 // The first n words; none where there are fewer.
 // Kept: this is the function that cuts a table to a length.
-fn first(words: &[u32], n: usize) -> &[u32] {
+fn first(words: &[u32], n: usize) -> &[u32]
+    ensures { result.now ≡ first_words words.now n }
+{
     words.get(..n).unwrap_or(&[])
 }
 
 // Kept: `F.IsAlwaysCallable call`: each function that takes a closure asks that it may be called.
-/// A call with rows for three types and two words more, and with an answer: both are printed after it.
-pub fn with_rows<F: FnOnce(&mut [u32], &mut [u32])>(name: &[u8], call: F)
+// A call with rows for three types and two words more, and with an answer: both are printed after it, and the rows handed back.
+fn with_rows<F: FnOnce(&mut [u32], &mut [u32])>(name: &[u8], call: F) -> [u32; 44]
     requires { F.IsAlwaysCallable call }
+    ensures { (answer : List ℕ) × LeavesRows F.FnOnce call result answer }
 {
     let mut rows = [9u32; 44];
     let mut answer = [9u32; 5];
     call(&mut rows, &mut answer);
     words(name, &answer);
     words(b"rows", &rows);
+    rows
 }
 
-/// The same with two words more that the call has, and a third behind them.
-pub fn with_two<F: FnOnce(&mut [u32], &mut [u64], &mut [u32])>(name: &[u8], two: &[u8], call: F)
+// The same with two words more that the call has, and a third behind them; these three are handed back.
+fn with_two<F: FnOnce(&mut [u32], &mut [u64], &mut [u32])>(
+    name: &[u8],
+    two: &[u8],
+    call: F,
+) -> [u64; 3]
     requires { F.IsAlwaysCallable call }
+    ensures { (rows answer : List ℕ) × LeavesFound F.FnOnce call rows result answer }
 {
     let mut rows = [9u32; 44];
     let mut found = [9u64; 3];
@@ -83,6 +98,7 @@ pub fn with_two<F: FnOnce(&mut [u32], &mut [u64], &mut [u32])>(name: &[u8], two:
     words(name, &answer);
     words(two, &found);
     words(b"rows", &rows);
+    found
 }
 
 /// What a call is tried on: records, the capability word and the word of the uniform rule.
@@ -96,7 +112,12 @@ pub struct Arena<'a> {
 
 impl<'a> Arena<'a> {
     /// Types with M1's members, by the older rule and with no capability.
-    pub fn of(types: &'a [u32]) -> Arena<'a> {
+    pub fn of(types: &'a [u32]) -> Arena<'a>
+        ensures types { result.types ≡ types.entry }
+        ensures members { result.members.now ≡ MEMBERS }
+        ensures capabilities { result.capabilities ≡ 0 }
+        ensures rule { result.rule ≡ 0 }
+    {
         Arena {
             types,
             members: &MEMBERS,
@@ -105,15 +126,22 @@ impl<'a> Arena<'a> {
         }
     }
 
-    /// The first words of M1's types and members.
-    pub fn m1(types: usize, members: usize) -> Arena<'a> {
+    /// The first words of M1's types and members, none of a table that has fewer; by the older rule and with no capability.
+    pub fn m1(types: usize, members: usize) -> Arena<'a>
+        ensures types { result.types.now ≡ first_words TYPES types }
+        ensures members { result.members.now ≡ first_words MEMBERS members }
+        ensures capabilities { result.capabilities ≡ 0 }
+        ensures rule { result.rule ≡ 0 }
+    {
         Arena {
             members: first(&MEMBERS, members),
             ..Arena::of(first(&TYPES, types))
         }
     }
 
-    pub fn with_capabilities(self, capabilities: u32) -> Arena<'a> {
+    pub fn with_capabilities(self, capabilities: u32) -> Arena<'a>
+        ensures { result ≡ record self.entry { capabilities = capabilities } }
+    {
         Arena {
             capabilities,
             ..self
@@ -121,7 +149,9 @@ impl<'a> Arena<'a> {
     }
 
     /// A check with these rows.
-    pub fn check_rows(self, name: &[u8], rows: &mut [u32]) {
+    pub fn check_rows(self, name: &[u8], rows: &mut [u32])
+        ensures { rows.new ≡ rows_checked self.entry rows.old }
+    {
         let mut answer = [9u32; 5];
         doors::wuldazin_check(
             self.types,
@@ -135,11 +165,18 @@ impl<'a> Arena<'a> {
         words(b"rows", rows);
     }
 
-    pub fn check(self, name: &[u8]) {
-        self.check_rows(name, &mut [9; 44]);
+    /// A check with rows for three types and two words more. As in judge and layout, the rows that are printed are handed back.
+    pub fn check(self, name: &[u8]) -> [u32; 44]
+        ensures { result ≡ rows_checked self.entry (nines 44) }
+    {
+        let mut rows = [9u32; 44];
+        self.check_rows(name, &mut rows);
+        rows
     }
 
-    pub fn judge(self, name: &[u8]) {
+    pub fn judge(self, name: &[u8]) -> [u32; 44]
+        ensures { result ≡ rows_checked self.entry (nines 44) }
+    {
         with_rows(name, |rows, answer| {
             doors::wuldazin_judge(
                 self.types,
@@ -149,17 +186,21 @@ impl<'a> Arena<'a> {
                 rows,
                 answer,
             )
-        });
+        })
     }
 
-    pub fn layout(self, name: &[u8]) {
+    pub fn layout(self, name: &[u8]) -> [u32; 44]
+        ensures { result ≡ rows_laid_out self.entry }
+    {
         with_rows(name, |rows, answer| {
             doors::wuldazin_layout(self.types, self.members, rows, answer)
-        });
+        })
     }
 
-    /// With so many words, at most seven, of a report for three types and a word more; the rows are handed back.
-    pub fn report(self, name: &[u8], lent: usize) -> [u32; 44] {
+    /// With so many words, at most seven, of a report for three types and a word more; the rows, which are not printed, are handed back.
+    pub fn report(self, name: &[u8], lent: usize) -> [u32; 44]
+        ensures { result ≡ rows_reported self.entry (min lent 7) }
+    {
         let mut rows = [9u32; 44];
         let mut report = [9u64; 7];
         let mut totals = [9u64; 3];
@@ -180,8 +221,11 @@ impl<'a> Arena<'a> {
         rows
     }
 
+    /// The slots of a type from an offset on. As in place, the words that are printed beside the rows are handed back.
     // Kept: slots and place each make a call of their own; what they share is with_two.
-    pub fn slots(self, name: &[u8], ty: u32, offset: u32) {
+    pub fn slots(self, name: &[u8], ty: u32, offset: u32) -> [u64; 3]
+        ensures { result ≡ slot_words self.entry ty offset }
+    {
         with_two(name, b"mask", |rows, mask, answer| {
             doors::wuldazin_slots(
                 self.types,
@@ -194,10 +238,12 @@ impl<'a> Arena<'a> {
                 mask,
                 answer,
             )
-        });
+        })
     }
 
-    pub fn place(self, name: &[u8], start: u32, steps: &[u32]) {
+    pub fn place(self, name: &[u8], start: u32, steps: &[u32]) -> [u64; 3]
+        ensures { result ≡ place_words self.entry start steps.now }
+    {
         with_two(name, b"place", |rows, place, answer| {
             doors::wuldazin_place(
                 self.types,
@@ -210,11 +256,13 @@ impl<'a> Arena<'a> {
                 place,
                 answer,
             )
-        });
+        })
     }
 
     /// A choice by a type, with so many words of a pass, at most seven.
-    pub fn choose(self, name: &[u8], ty: u32, pass: &mut [u64; 7], lent: usize) {
+    pub fn choose(self, name: &[u8], ty: u32, pass: &mut [u64; 7], lent: usize)
+        ensures { pass.new ≡ after_step (choice self.entry ty) (min lent 7) pass.old }
+    {
         let mut rows = [9u32; 44];
         let mut answer = [9u32; 5];
         doors::wuldazin_pass_choose(
@@ -232,29 +280,38 @@ impl<'a> Arena<'a> {
         words(b"rows", &rows);
     }
 
-    /// The part of the member table that the rows of a struct are.
-    pub fn part(self, name: &[u8], ty: u32) {
+    /// The part of the member table that the rows of a struct are; the words that are printed are handed back.
+    pub fn part(self, name: &[u8], ty: u32) -> [u64; 3]
+        ensures { result ≡ part_words self.entry ty }
+    {
         let mut part = [9u64; 3];
         doors::wuldazin_members(self.types, self.members, ty, &mut part);
         words(name, &part);
+        part
     }
 }
 
 // Kept: `range` and `plain` lend buffers of two types; one function would take the 9 of the type, the buffer's name and the call as a closure, for two callers.
-pub fn range(name: &[u8], offset: u32, size: u32) {
+pub fn range(name: &[u8], offset: u32, size: u32) -> [u64; 3]
+    ensures { result ≡ range_words offset size }
+{
     let mut mask = [9u64; 3];
     let mut answer = [9u32; 5];
     doors::wuldazin_range(offset, size, &mut mask, &mut answer);
     words(name, &answer);
     words(b"mask", &mask);
+    mask
 }
 
-pub fn plain(name: &[u8], shape: u32, width: u32) {
+pub fn plain(name: &[u8], shape: u32, width: u32) -> [u32; 5]
+    ensures { result ≡ plain_words shape width }
+{
     let mut numbers = [9u32; 5];
     let mut answer = [9u32; 5];
     doors::wuldazin_plain(shape, width, &mut numbers, &mut answer);
     words(name, &answer);
     words(b"numbers", &numbers);
+    numbers
 }
 
 /// How many words of each buffer are lent to a reader.
@@ -266,15 +323,25 @@ pub struct Room {
     pub answer: usize,
 }
 
-/// A call of a reader, with so many words of each buffer; all words of them are printed after it.
+/// The buffers of a reader.
+#[derive(Clone, Copy, Debug, PartialEq, Eq)]
+pub struct Lent<const TYPES: usize> {
+    pub types: [u32; TYPES],
+    pub members: [u32; 10],
+    pub counts: [u32; 3],
+    pub answer: [u32; 5],
+}
+
+/// A call of a reader, with so many words of each buffer; all words of them are printed after it, and handed back.
 pub fn read<const TYPES: usize, F: FnOnce(&mut [u32], &mut [u32], &mut [u32], &mut [u32])>(
     name: &[u8],
     counts_name: &[u8],
     room: Room,
     call: F,
-)
+) -> Lent<TYPES>
     requires within { (TYPES ≤ 26) × (room.types ≤ TYPES) × (room.members ≤ 10) × (room.counts ≤ 3) × (room.answer ≤ 5) }
     requires callable { F.IsAlwaysCallable call }
+    ensures { ReadLeaves F.FnOnce call TYPES room result }
 {
     let mut types = [9u32; TYPES];
     let mut members = [9u32; 10];
@@ -290,4 +357,10 @@ pub fn read<const TYPES: usize, F: FnOnce(&mut [u32], &mut [u32], &mut [u32], &m
     words(counts_name, &counts);
     words(b"types", &types);
     words(b"members", &members);
+    Lent {
+        types,
+        members,
+        counts,
+        answer,
+    }
 }

@@ -10,8 +10,8 @@ ghost use Rattle.from_spirv.specs.Lines.{module_lines};
 
 use ir_records::Refusal;
 use program_input::STDOUT;
-use program_output::Output;
-use std::io::Read;
+use program_output::{Output, Standard};
+use std::io::{Read, Write};
 use std::rt::{Env, Files};
 
 // The most words that are held of a module.
@@ -46,10 +46,10 @@ fn put_answer(out: &mut Output, words: &[u32])
     }
 }
 
-fn answer(words: &[u32]) {
+fn answer<W: Write>(to: &mut W, words: &[u32]) {
     let mut out = Output::new();
     put_answer(&mut out, words);
-    out.write_out();
+    out.write_out(to);
 }
 
 // What is held with the bytes of one read.
@@ -113,10 +113,10 @@ fn read_all<S: Read>(source: &mut S, words: &mut [u32]) -> Result<usize, InputEr
     }
 }
 
-fn read_and_answer<S: Read>(source: &mut S) {
+fn read_and_answer<S: Read, W: Write>(source: &mut S, to: &mut W) {
     let mut words = program_files::filled::<u32, MODULE_WORDS>(0);
     match read_all(source, &mut words) {
-        Ok(held) => answer(&words[..held]),
+        Ok(held) => answer(to, &words[..held]),
         Err(error) => program_files::tell(error.message()),
     }
 }
@@ -136,7 +136,7 @@ fn read_file<R: Env + Files>(rt: &R, i: usize, several: bool) {
         put_name(rt, i);
     }
     if let Some(mut file) = program_files::named(rt, i) {
-        read_and_answer(&mut file);
+        read_and_answer(&mut file, &mut Standard);
     }
 }
 
@@ -149,7 +149,7 @@ fn read_files<R: Env + Files>(rt: &R, n: usize) {
 fn main(rt: HostRuntime) {
     let n = program_files::argument_count(&rt);
     if n < 2 {
-        read_and_answer(&mut rt.reader());
+        read_and_answer(&mut rt.reader(), &mut Standard);
     } else {
         read_files(&rt, n);
     }

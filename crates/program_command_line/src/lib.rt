@@ -5,7 +5,7 @@ ghost use Rattle.std.specs.Prelude.{◌≡◌};
 ghost use Rattle.program_output.specs.Bytes.{Adds};
 ghost use Rattle.program_command_line.specs.Arguments.{help_text, is_help, unknown_bytes, argument_bytes};
 
-use program_output::Output;
+use program_output::{Output, Standard};
 use std::rt::Env;
 
 // Whether an argument is --help.
@@ -72,7 +72,7 @@ fn answer<R: Env>(rt: &R, i: usize) {
     let mut out = Output::new();
     let name = program_files::argument(rt, i, &mut name).unwrap_or(&[]);
     put_argument(name, &mut out);
-    out.write_out();
+    out.write_out(&mut Standard);
 }
 
 pub fn run<R: Env + Input>(rt: &R) {

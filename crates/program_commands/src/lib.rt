@@ -12,6 +12,7 @@ use program_arguments::Reason;
 use program_input::ReadError;
 use program_lines::Change;
 use program_output::{Output, Stop};
+use std::io::Write;
 use valid_type_info::UniformRule;
 
 // The arena is one run of words: the types from its start on, the members from here on.
@@ -181,14 +182,14 @@ impl Session {
     }
 
     /// Writes the answers that wait, and why the session stops if it does. After a write that failed nothing more is answered.
-    pub fn flush(&mut self, out: &mut Output)
+    pub fn flush<W: Write>(&mut self, out: &mut Output, to: &mut W)
         ensures state { (written : Bool) × (self.new ≡ after_write written self.old) }
         ensures none_waits { out.new.end ≡ 0 }
     {
         if let State::Stopped(stop) = self.state {
             out.put_stop(self.line, stop);
         }
-        if out.flush().is_err() {
+        if out.flush(to).is_err() {
             self.state = State::Stopped(Stop::Input(ReadError::Failed));
         }
     }

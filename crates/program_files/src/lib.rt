@@ -4,7 +4,7 @@
 
 mod arguments;
 
-ghost use Rattle.std.specs.Prelude.{◌≡◌, ℕ, ◌≤◌, ◌<◌, length, get_or};
+ghost use Rattle.std.specs.Prelude.{◌≡◌, ℕ, ◌≤◌, ◌<◌, length, get_or, take, IfOk, IfSome};
 ghost use Rattle.program_files.specs.Serving.{HeldWithin, message_of};
 
 pub use arguments::{argument, argument_count};
@@ -63,7 +63,8 @@ pub fn opened<R: Env + Files + Input>(rt: &R) -> Option<Source<R::Reader, R::Fil
 
 /// Reads all bytes of the input, and tells how many there are. They must be fewer than there is room for, since a full buffer does not tell whether there are more.
 pub fn read_all<S: Read>(source: &mut S, bytes: &mut [u8]) -> Result<usize, ReadError>
-    ensures { HeldWithin 0 (length bytes.old) result }
+    ensures held { HeldWithin 0 (length bytes.old) result }
+    ensures bytes { IfOk result (λ n. IfSome (S.remaining source.old) (λ input. take n bytes.new ≡ input)) }
 {
     let mut held: usize = 0;
     // Kept: a read gives as many bytes as it has, and the loop ends with the input, so no range counts it.
@@ -106,13 +107,20 @@ impl Messages {
     }
 }
 
-/// Answers the text that the input holds, of at most 1,048,576 bytes, or tells why there is none.
-pub fn answer_text<S: Read, F: FnOnce(&[u8])>(source: &mut S, messages: Messages, answer: F)
-    requires { F.IsAlwaysCallable answer }
+/// The text that the input holds, of at most so many bytes but one, or tells why there is none.
+pub fn read_text<'a, S: Read>(
+    source: &mut S,
+    bytes: &'a mut [u8],
+    messages: Messages,
+) -> Option<&'a [u8]>
+    ensures within { IfSome result (λ text. length text.now ≤ length bytes.old) }
+    ensures bytes { IfSome result (λ text. IfSome (S.remaining source.old) (λ input. text.now ≡ input)) }
 {
-    let mut bytes = filled::<u8, INPUT_BYTES>(0);
-    match read_all(source, &mut bytes) {
-        Ok(held) => answer(&bytes[..held]),
-        Err(error) => tell(messages.of(error)),
+    match read_all(source, bytes) {
+        Ok(held) => Some(&bytes[..held]),
+        Err(error) => {
+            tell(messages.of(error));
+            None
+        }
     }
 }

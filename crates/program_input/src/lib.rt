@@ -2,7 +2,7 @@
 #![tactic(auto)]
 
 ghost use Rattle.std.specs.Prelude.{◌≤◌, length};
-ghost use Rattle.program_input.specs.Input.{ReadAfter, ReadMore, Kept, end_of, read_of};
+ghost use Rattle.program_input.specs.Input.{ReadAfter, CameAfter, ReadMore, CameMore, Kept, end_of, read_of};
 
 use std::io::Read;
 use std::ops::Range;
@@ -39,7 +39,8 @@ pub fn read_after<R: Read>(
     buffer: &mut [u8],
     held: usize,
 ) -> Result<usize, ReadError>
-    ensures { ReadAfter buffer.old held buffer.new result }
+    ensures buffer { ReadAfter buffer.old held buffer.new result }
+    ensures bytes { CameAfter (R.remaining input.old) (R.remaining input.new) held buffer.new result }
 {
     if buffer.len() <= held {
         return Err(ReadError::Long);
@@ -51,7 +52,8 @@ pub fn read_after<R: Read>(
 
 /// Reads once, after the bytes that are held. At the end of the input a newline ends its last line.
 pub fn read_more<R: Read>(input: &mut R, buffer: &mut [u8], held: usize) -> Result<Input, ReadError>
-    ensures { ReadMore buffer.old held buffer.new (end_of result) (read_of result) }
+    ensures buffer { ReadMore buffer.old held buffer.new (end_of result) (read_of result) }
+    ensures bytes { CameMore (R.remaining input.old) (R.remaining input.new) held buffer.new result }
 {
     let more = read_after(input, buffer, held)?;
     if more == 0 {

@@ -1,3 +1,4 @@
 pub mod PutLaws
 pub mod TextLaws
 pub mod ChunkLaws
+pub mod SendsLaws

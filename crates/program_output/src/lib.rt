@@ -1,18 +1,21 @@
-// The answers wait in a buffer, and only `write_out` writes them.
+// The answers wait in a buffer; `flush`, `write_out` and `make_room` write them to what they are lent for it.
 #![tactic(auto)]
 
-ghost use Rattle.std.specs.Prelude.{false, ◌≡◌, ◌⊎◌, Err, [], ◌∷◌, ◌++◌, ◌≤◌, ◌<◌, ◌+◌, ◌*◌, length};
+ghost use Rattle.std.specs.Prelude.{true, false, ◌≡◌, ◌⊎◌, Err, OnOk, [], ◌∷◌, ◌++◌, ◌≤◌, ◌<◌, ◌+◌, ◌*◌, length, take};
+ghost use Rattle.std.specs.Io.KnownBytes.{Appends};
 ghost use Rattle.ir_records.specs.Outcome.{Accepted, Refused};
 ghost use Rattle.ir_records.specs.Refusal.{number_of};
 ghost use Rattle.immediates_ranges.specs.Answer as answer;
 ghost use Rattle.program_output.specs.declared.WriteError.TheVariants as error;
 ghost use Rattle.program_output.specs.Bytes.{Adds, decimal, number, named, numbers, newline, words_line, row_line, row_lines, report_line, report_lines};
+ghost use Rattle.program_output.specs.Written.{Sends};
 ghost use Rattle.program_output.specs.Answers.{refusal_line, outcome_lines, slots_line, step_line, dispatch_lines, word_of, why_text, usage_text, word_part, stop_line};
 
 use immediates_ranges::Slots;
 use ir_records::Refusal;
 use program_arguments::{Command, Reason};
 use program_input::{ReadError, STDERR, STDOUT};
+use std::io::{ErrorKind, Write};
 
 // There is room for every answer: 1,048,576 bytes of a WGSL text, which may be one token, and what is said of it.
 const ROOM: usize = 1114112;
@@ -42,28 +45,57 @@ pub struct Output {
     pub end: usize,
 }
 
+/// Standard output, as what answers are written to.
+#[derive(Clone, Copy, Debug, PartialEq, Eq)]
+pub struct Standard;
+
+// What is written there is the operating system's, so that nothing is known of its contents.
+impl Write for Standard {
+    fn write(&mut self, bytes: &[u8]) -> std::io::Result<usize> {
+        if io::write_all(STDOUT, bytes) {
+            return Ok(bytes.len());
+        }
+        Err(std::io::Error::from(ErrorKind::Other))
+    }
+
+    fn flush(&mut self) -> std::io::Result<()> {
+        Ok(())
+    }
+}
+
+// Zeros.
+// Kept: for any number of them: the proof of how many there are would count each of a million.
+fn zeros<const N: usize>() -> [u8; N]
+    ensures { length result ≡ N }
+{
+    [0; N]
+}
+
 impl Output {
     /// Nothing waits.
     pub fn new() -> Output
-        ensures { result.end ≡ 0 }
+        ensures none_waits { result.end ≡ 0 }
+        ensures room { length result.bytes ≡ 1114112 }
     {
         Output {
-            bytes: [0; ROOM],
+            bytes: zeros(),
             end: 0,
         }
     }
 
     /// Writes out what waits. A program has no exit status, so a failed write is told where the answers do not go.
-    pub fn flush(&mut self) -> Result<(), WriteError>
+    pub fn flush<W: Write>(&mut self, to: &mut W) -> Result<(), WriteError>
         ensures past { 1114112 < self.old.end → result ≡ Err error.NoRoom }
         ensures none_waits { self.new.end ≡ 0 }
+        ensures bytes { self.new.bytes ≡ self.old.bytes }
+        ensures written { OnOk result (Appends (W.contents to.old) (W.contents to.new) (take self.old.end self.old.bytes)) }
     {
         let end = self.end;
         self.end = 0;
         if end > self.bytes.len() {
             return Err(WriteError::NoRoom);
         }
-        if io::write_all(STDOUT, &self.bytes[..end]) {
+        if to.write_all(&self.bytes[..end]).is_ok() {
             return Ok(());
         }
         io::write_all(STDERR, b"the answers cannot be written\n");
@@ -72,21 +104,23 @@ impl Output {
 
     /// Writes out what waits where nothing comes after it, and answers whether it could be: that it could not has been told.
     // Kept: a bool, which the end of a program may leave; `flush` says why.
-    pub fn write_out(&mut self) -> bool
+    pub fn write_out<W: Write>(&mut self, to: &mut W) -> bool
         ensures past { 1114112 < self.old.end → result ≡ false }
         ensures none_waits { self.new.end ≡ 0 }
+        ensures written { result ≡ true → Appends (W.contents to.old) (W.contents to.new) (take self.old.end self.old.bytes) }
     {
-        self.flush().is_ok()
+        self.flush(to).is_ok()
     }
 
     /// Writes out what waits where there is no room for n more bytes. After a write that failed nothing more waits, and the next one fails too.
-    pub fn make_room(&mut self, n: usize)
-        ensures fits { self.old.end + n ≤ 1114112 → self.new ≡ self.old }
+    pub fn make_room<W: Write>(&mut self, to: &mut W, n: usize)
+        ensures fits { self.old.end + n ≤ 1114112 → (self.new ≡ self.old) × (to.new ≡ to.old) }
         ensures made { 1114112 < self.old.end + n → (self.new.end ≡ 0) ⊎ (self.new.end ≡ 1114113) }
         ensures past { 1114112 < self.old.end → self.new.end ≡ 1114113 }
+        ensures written { Sends (W.contents to.old) self.old [] (W.contents to.new) self.new }
     {
         let fits = self.end.saturating_add(n) <= self.bytes.len();
-        if !fits && self.flush().is_err() {
+        if !fits && self.flush(to).is_err() {
             self.end = FULL;
         }
     }

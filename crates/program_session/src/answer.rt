@@ -9,6 +9,7 @@ use place_report::Totals;
 use program_commands::{Arena, Rows, Session};
 use program_lines::{Line, Query, Step};
 use program_output::Output;
+use std::io::Write;
 use valid_type_info::UniformRule;
 
 /// A session, and the memory that it works in. It is not Copy: a copy of so much memory would be a mistake.
@@ -229,8 +230,8 @@ impl Program {
     }
 
     /// Answers a line.
-    pub fn answer(&mut self, line: &[u8]) {
-        self.out.make_room(LONGEST);
+    pub fn answer<W: Write>(&mut self, to: &mut W, line: &[u8]) {
+        self.out.make_room(to, LONGEST);
         let mut numbers = [0u32; program_lines::MOST_NUMBERS];
         match program_lines::read_line(line, &mut numbers) {
             Ok(Some(read)) => {

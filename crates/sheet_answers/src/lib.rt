@@ -7,6 +7,7 @@ use sheet_counts::Counts;
 use sheet_names::{Module, Sheet};
 use sheet_output::Writer;
 use sheet_structs::Form;
+use std::io::Write;
 use valid_type_info::UniformRule;
 
 /// The form, the rule of uniform verdicts and the capability word.
@@ -34,7 +35,7 @@ fn is_module(bytes: &[u8]) -> bool {
 
 impl Asked {
     // The sheet of records that are accepted.
-    fn put_judged(self, out: &mut Writer, records: Sheet) -> Result<(), Refusal> {
+    fn put_judged<W: Write>(self, out: &mut Writer<W>, records: Sheet) -> Result<(), Refusal> {
         let mut counts = Counts::new();
         counts.judge(records, self.capabilities, self.rule)?;
         self.form.put_all(out, counts.sheet(records));
@@ -42,7 +43,13 @@ impl Asked {
     }
 
     // The records of a text.
-    fn answer_records(self, out: &mut Writer, text: &[u8], types: &[u32], members: &[u32]) {
+    fn answer_records<W: Write>(
+        self,
+        out: &mut Writer<W>,
+        text: &[u8],
+        types: &[u32],
+        members: &[u32],
+    ) {
         let names = sheet_names::from_text(text, types);
         let records = Sheet::of(text, &names, types, members);
         if let Err(refusal) = self.put_judged(out, records) {
@@ -50,7 +57,7 @@ impl Asked {
         }
     }
 
-    fn answer_text(self, out: &mut Writer, text: &[u8]) {
+    fn answer_text<W: Write>(self, out: &mut Writer<W>, text: &[u8]) {
         let mut types = [0; ir_records::TYPE_TABLE];
         let mut members = [0; ir_records::MEMBER_TABLE];
         match wgsl_read::read_at(text, &mut types, &mut members) {
@@ -65,7 +72,7 @@ impl Asked {
     }
 
     // The records of a module.
-    fn answer_section(self, out: &mut Writer, module: Module, members: &[u32]) {
+    fn answer_section<W: Write>(self, out: &mut Writer<W>, module: Module, members: &[u32]) {
         let names = sheet_names::from_module(module);
         let records = Sheet::of(module.bytes, &names, module.types, members);
         if let Err(refusal) = self.put_judged(out, records) {
@@ -74,7 +81,7 @@ impl Asked {
         }
     }
 
-    fn answer_words(self, out: &mut Writer, bytes: &[u8], words: &[u32]) {
+    fn answer_words<W: Write>(self, out: &mut Writer<W>, bytes: &[u8], words: &[u32]) {
         let mut types = [0; ir_records::TYPE_TABLE];
         let mut members = [0; ir_records::MEMBER_TABLE];
         match spirv_reader::read_module(words, &mut types, &mut members) {
@@ -92,7 +99,7 @@ impl Asked {
         }
     }
 
-    fn answer_module(self, out: &mut Writer, bytes: &[u8]) {
+    fn answer_module<W: Write>(self, out: &mut Writer<W>, bytes: &[u8]) {
         let mut words = program_files::filled::<u32, MOST_WORDS>(0);
         if bytes.len() % 4 != 0 {
             program_files::tell(b"sheet: the module is no whole number of words\n");
@@ -105,9 +112,9 @@ impl Asked {
     }
 
     /// What is printed of the bytes of a file; standard input has no name.
-    pub fn answer(self, name: Option<&[u8]>, bytes: &[u8]) {
+    pub fn answer<W: Write>(self, to: &mut W, name: Option<&[u8]>, bytes: &[u8]) {
         let mut output = Output::new();
-        let mut out = Writer::new(&mut output, self.form.markup());
+        let mut out = Writer::new(&mut output, to, self.form.markup());
         self.form.put_start(&mut out, name);
         if is_module(bytes) {
             self.answer_module(&mut out, bytes);

@@ -12,6 +12,7 @@ use sheet_dimensions::{Base, Dimensions};
 use sheet_names::{Member, Type};
 use sheet_output::{Unused, Writer};
 use sheet_types::Scalar;
+use std::io::Write;
 
 /// What stands before the first struct.
 pub const START: &[u8] =
@@ -25,7 +26,7 @@ pub const START: &[u8] =
 pub const CLOSE: &[u8] = b"};\n";
 
 // The type of a scalar. A host has no f16: its bits are an uint16_t.
-fn put_scalar(out: &mut Writer, scalar: Scalar) {
+fn put_scalar<W: Write>(out: &mut Writer<W>, scalar: Scalar) {
     let bits = scalar.bits();
     match scalar {
         Scalar {
@@ -43,26 +44,26 @@ fn put_scalar(out: &mut Writer, scalar: Scalar) {
 }
 
 // The name of a struct, with `struct ` before it.
-fn put_tag(out: &mut Writer, t: Type) {
+fn put_tag<W: Write>(out: &mut Writer<W>, t: Type) {
     out.put_text(b"struct ");
     sheet_identifiers::put_type(out, t);
 }
 
-pub fn put_open(out: &mut Writer, t: Type) {
+pub fn put_open<W: Write>(out: &mut Writer<W>, t: Type) {
     out.put_byte(b'\n');
     put_tag(out, t);
     out.put_text(b" {\n");
 }
 
 // A struct that has no form for a host.
-pub fn put_none(out: &mut Writer, t: Type) {
+pub fn put_none<W: Write>(out: &mut Writer<W>, t: Type) {
     out.put_text(b"\n/* ");
     put_tag(out, t);
     out.put_text(sheet_dimensions::NO_FORM);
     out.put_text(b" */\n");
 }
 
-pub fn put_gap(out: &mut Writer, unused: Unused) {
+pub fn put_gap<W: Write>(out: &mut Writer<W>, unused: Unused) {
     out.put_two(
         b"    uint8_t unused_at_",
         unused.start,
@@ -73,7 +74,7 @@ pub fn put_gap(out: &mut Writer, unused: Unused) {
 }
 
 // The type inside the dimensions.
-fn put_base(out: &mut Writer, base: Base) {
+fn put_base<W: Write>(out: &mut Writer<W>, base: Base) {
     match base {
         Base::Scalar(scalar) => put_scalar(out, scalar),
         Base::Struct(t) => put_tag(out, t),
@@ -81,7 +82,7 @@ fn put_base(out: &mut Writer, base: Base) {
 }
 
 // `[n]`; a runtime-sized array has no number, or 1 where it is the only member.
-fn put_dimension(out: &mut Writer, n: Option<u64>, alone: bool) {
+fn put_dimension<W: Write>(out: &mut Writer<W>, n: Option<u64>, alone: bool) {
     match n {
         Some(n) => out.put_with(b"[", n, b"]"),
         None if alone => out.put_text(b"[1]"),
@@ -89,21 +90,21 @@ fn put_dimension(out: &mut Writer, n: Option<u64>, alone: bool) {
     }
 }
 
-fn put_dimensions(out: &mut Writer, dimensions: Dimensions, alone: bool) {
+fn put_dimensions<W: Write>(out: &mut Writer<W>, dimensions: Dimensions, alone: bool) {
     for n in dimensions.as_slice() {
         put_dimension(out, *n, alone);
     }
 }
 
 // A member whose steps no dimensions keep.
-fn put_as_bytes(out: &mut Writer, member: Member) {
+fn put_as_bytes<W: Write>(out: &mut Writer<W>, member: Member) {
     out.put_text(b"uint8_t ");
     sheet_identifiers::put_member(out, member);
     out.put_with(b"[", u64::from(member.own_type().size()), b"]");
 }
 
 // Type, name and dimensions of a member.
-fn put_declared(out: &mut Writer, member: Member) {
+fn put_declared<W: Write>(out: &mut Writer<W>, member: Member) {
     match sheet_dimensions::of_type(member.own_type()) {
         Some(dimensions) => {
             put_base(out, dimensions.base);
@@ -116,7 +117,7 @@ fn put_declared(out: &mut Writer, member: Member) {
 }
 
 // The line of a member.
-pub fn put_member(out: &mut Writer, member: Member) {
+pub fn put_member<W: Write>(out: &mut Writer<W>, member: Member) {
     out.put_text(b"    ");
     put_declared(out, member);
     out.put_with(b"; /* ", u64::from(member.offset), b": ");
@@ -125,7 +126,7 @@ pub fn put_member(out: &mut Writer, member: Member) {
 }
 
 // The assertion of a member's offset.
-pub fn put_offset(out: &mut Writer, member: Member) {
+pub fn put_offset<W: Write>(out: &mut Writer<W>, member: Member) {
     out.put_text(b"_Static_assert(offsetof(");
     put_tag(out, member.of);
     out.put_text(b", ");
@@ -134,14 +135,14 @@ pub fn put_offset(out: &mut Writer, member: Member) {
 }
 
 // The assertion of the size.
-fn put_size(out: &mut Writer, t: Type) {
+fn put_size<W: Write>(out: &mut Writer<W>, t: Type) {
     out.put_text(b"_Static_assert(sizeof(");
     put_tag(out, t);
     out.put_with(b") == ", u64::from(t.size()), b", \"size\");\n");
 }
 
 // The assertion of the step of a runtime-sized array, which has no part in sizeof.
-fn put_step(out: &mut Writer, member: Member) {
+fn put_step<W: Write>(out: &mut Writer<W>, member: Member) {
     out.put_text(b"_Static_assert(sizeof(((");
     put_tag(out, member.of);
     out.put_text(b" *)0)->");
@@ -169,7 +170,7 @@ pub fn last_byte(t: Type) -> Option<u64>
 }
 
 // After the offsets: the size, or the step of the last member where that is a runtime-sized array after others.
-pub fn put_end(out: &mut Writer, t: Type) {
+pub fn put_end<W: Write>(out: &mut Writer<W>, t: Type) {
     match t.last_member() {
         Some(last) if is_open(last) => put_step(out, last),
         _ => put_size(out, t),

@@ -1,10 +1,17 @@
 // What is counted of accepted records: the rows, the bytes carried and wasted of each type, and the slots of the structs that may be immediates.
 #![tactic(auto)]
 
+ghost use Rattle.std.specs.Prelude.{◌≡◌, replicate, None, MatchResult};
+ghost use Rattle.ir_records.specs.Result.{pick};
+ghost use Rattle.ir_records.specs.Refusal.{outcome_of};
+ghost use Rattle.valid_arena.specs.Arena.{arena_answer};
+ghost use Rattle.sheet_counts.specs.Counts.{is_asked, slots_of, Counted, judged_rows, counted_report};
+
 use immediates_ranges::Slots;
 use ir_records::Refusal;
 use sheet_names::{Sheet, Type};
 use sheet_output::Writer;
+use std::io::Write;
 use valid_type_info::UniformRule;
 
 // Bytes that the slots of immediates have.
@@ -21,13 +28,19 @@ pub struct Counts {
 }
 
 // Whether the slots of a type are asked for: of a struct that may be an immediate and is no longer than these are.
-fn is_asked(t: Type) -> bool {
+fn is_asked(t: Type) -> bool
+    ensures { result ≡ is_asked t.entry.sheet.types.now t.entry.sheet.rows.now t.entry.i }
+{
     t.is_struct() & (t.size() <= MOST_IMMEDIATE) & t.may_be_immediate()
 }
 
 impl Counts {
     /// Nothing is counted.
-    pub fn new() -> Counts {
+    pub fn new() -> Counts
+        ensures rows { result.rows ≡ replicate 14336 0 }
+        ensures report { result.report ≡ replicate 2048 0 }
+        ensures slots { result.slots ≡ replicate 1024 None }
+    {
         Counts {
             rows: [0; ir_records::ROW_TABLE],
             report: [0; place_report::REPORT_TABLE],
@@ -36,7 +49,15 @@ impl Counts {
     }
 
     /// Records with what is counted of them.
-    pub fn sheet<'a>(&'a self, records: Sheet<'a>) -> Sheet<'a> {
+    pub fn sheet<'a>(&'a self, records: Sheet<'a>) -> Sheet<'a>
+        ensures text { result.text ≡ records.entry.text }
+        ensures names { result.names ≡ records.entry.names }
+        ensures types { result.types ≡ records.entry.types }
+        ensures members { result.members ≡ records.entry.members }
+        ensures rows { result.rows.now ≡ self.now.rows }
+        ensures report { result.report.now ≡ self.now.report }
+        ensures slots { result.slots.now ≡ self.now.slots }
+    {
         Sheet {
             rows: &self.rows,
             report: &self.report,
@@ -52,7 +73,12 @@ impl Counts {
         capabilities: u32,
         rule: UniformRule,
         i: u32,
-    ) -> Option<Slots> {
+    ) -> Option<Slots>
+        ensures value { result ≡ slots_of capabilities records.entry self.old.rows i }
+        ensures rows { self.new.rows ≡ pick (is_asked records.entry.types.now self.old.rows i) (judged_rows rule capabilities records.entry self.old.rows) self.old.rows }
+        ensures report { self.new.report ≡ self.old.report }
+        ensures slots { self.new.slots ≡ self.old.slots }
+    {
         if !is_asked(self.sheet(records).type_at(i)) {
             return None;
         }
@@ -74,7 +100,12 @@ impl Counts {
         records: Sheet,
         capabilities: u32,
         rule: UniformRule,
-    ) -> Result<(), Refusal> {
+    ) -> Result<(), Refusal>
+        ensures value { outcome_of result ≡ arena_answer capabilities records.entry.types.now records.entry.members.now self.old.rows }
+        ensures rows { self.new.rows ≡ judged_rows rule capabilities records.entry self.old.rows }
+        ensures report { MatchResult result (λ _. self.new.report ≡ counted_report capabilities records.entry self.new.rows self.old.report) (λ _. self.new.report ≡ self.old.report) }
+        ensures slots { MatchResult result (λ _. Counted (slots_of capabilities records.entry self.new.rows) 1024 self.old.slots self.new.slots) (λ _. self.new.slots ≡ self.old.slots) }
+    {
         let types = records.types;
         let members = records.members;
         valid_arena::judge(types, members, capabilities, rule, &mut self.rows)?;
@@ -96,7 +127,7 @@ impl Counts {
 }
 
 // Why a struct has no slots: it is not host-shareable, has no fixed size or has 16-bit scalars.
-fn put_no_slots(out: &mut Writer, t: Type) {
+fn put_no_slots<W: Write>(out: &mut Writer<W>, t: Type) {
     if !t.is_shareable() {
         out.put_text(b"no, the struct is not host-shareable");
     } else if !t.is_sized() {
@@ -107,7 +138,7 @@ fn put_no_slots(out: &mut Writer, t: Type) {
 }
 
 /// The slots of a struct in words, or why there are none.
-pub fn put_slots(out: &mut Writer, t: Type) {
+pub fn put_slots<W: Write>(out: &mut Writer<W>, t: Type) {
     if !t.may_be_immediate() {
         put_no_slots(out, t);
         return;

@@ -1,6 +1,7 @@
 // The dimensions of a member as C and Rust have them, outermost first.
 #![tactic(auto)]
 
+ghost use Rattle.std.specs.Prelude.{◌≡◌, take};
 ghost use Rattle.sheet_dimensions.specs.Scalars.{LeafScalar};
 
 use ir_records::{Leaf, TypeInner};
@@ -40,7 +41,10 @@ impl Extents {
         Some(self)
     }
 
-    fn in_use(&self) -> &[Option<u64>] {
+    // The dimensions that there are.
+    fn in_use(&self) -> &[Option<u64>]
+        ensures { result.now ≡ take self.now.count self.now.list }
+    {
         self.list.get(..self.count).unwrap_or(&self.list)
     }
 }
@@ -53,7 +57,10 @@ pub struct Dimensions<'a> {
 }
 
 impl<'a> Dimensions<'a> {
-    pub fn as_slice(&self) -> &[Option<u64>] {
+    /// The dimensions that there are, outermost first.
+    pub fn as_slice(&self) -> &[Option<u64>]
+        ensures { result.now ≡ take self.now.extents.count self.now.extents.list }
+    {
         self.extents.in_use()
     }
 }

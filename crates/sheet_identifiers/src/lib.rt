@@ -3,6 +3,7 @@
 
 use sheet_names::{Member, Type};
 use sheet_output::Writer;
+use std::io::Write;
 
 // Kept: the letters of C and Rust; that a word of WGSL starts with the same ones is another language's rule, and says nothing of these.
 fn is_letter(c: u8) -> bool {
@@ -46,7 +47,7 @@ fn is_numbered(word: &[u8], prefix: &[u8]) -> bool {
 }
 
 // A name that a number makes, or that is kept, gets an underscore, and so does one that is made so: two names stay two.
-fn put_identifier(out: &mut Writer, name: &[u8]) {
+fn put_identifier<W: Write>(out: &mut Writer<W>, name: &[u8]) {
     let stem = stem(name);
     let made = is_numbered(stem, b"unused_at_")
         | is_numbered(stem, b"type_")
@@ -59,7 +60,13 @@ fn put_identifier(out: &mut Writer, name: &[u8]) {
 
 // A name as an identifier, unless it stands there already; or else a number after a text.
 // Kept: as `put_name` of sheet_types but for the test and the way to write the name, which one function would take as two closures.
-fn put_name(out: &mut Writer, name: Option<&[u8]>, earlier: bool, otherwise: &[u8], number: u32) {
+fn put_name<W: Write>(
+    out: &mut Writer<W>,
+    name: Option<&[u8]>,
+    earlier: bool,
+    otherwise: &[u8],
+    number: u32,
+) {
     match name {
         Some(name) if is_identifier(name) & !earlier => put_identifier(out, name),
         _ => out.put_with(otherwise, u64::from(number), b""),
@@ -68,14 +75,14 @@ fn put_name(out: &mut Writer, name: Option<&[u8]>, earlier: bool, otherwise: &[u
 
 // The identifier of struct i.
 // Kept: this and the next one are alike, for a type and for a member; a trait of both would have two impls in their place.
-pub fn put_type(out: &mut Writer, t: Type) {
+pub fn put_type<W: Write>(out: &mut Writer<W>, t: Type) {
     let name = t.name();
     let earlier = (0..t.i).any(|k| t.other(k).name() == name);
     put_name(out, name, earlier, b"type_", t.i);
 }
 
 // The identifier of a member.
-pub fn put_member(out: &mut Writer, member: Member) {
+pub fn put_member<W: Write>(out: &mut Writer<W>, member: Member) {
     let name = member.name();
     let earlier = (0..member.j).any(|k| member.of.member_name(k) == name);
     put_name(out, name, earlier, b"member_", member.j);

@@ -3,6 +3,7 @@
 
 use sheet_names::{Member, Type};
 use sheet_output::{Unused, Writer};
+use std::io::Write;
 
 // The byte after a member.
 fn end_of(member: Member) -> u64 {
@@ -11,8 +12,8 @@ fn end_of(member: Member) -> u64 {
 
 /// The members of a struct, the gaps between them, and the one from the last of them up to `end`, where the lines have one. All members before one
 /// end where the furthest does.
-pub fn put_lines<G: Fn(&mut Writer, Unused), M: Fn(&mut Writer, Member)>(
-    out: &mut Writer,
+pub fn put_lines<W: Write, G: Fn(&mut Writer<W>, Unused), M: Fn(&mut Writer<W>, Member)>(
+    out: &mut Writer<W>,
     t: Type,
     end: Option<u64>,
     put_gap: G,
@@ -32,14 +33,5 @@ pub fn put_lines<G: Fn(&mut Writer, Unused), M: Fn(&mut Writer, Member)>(
     }
     if let Some(unused) = end.and_then(|end| Unused::between(before, end)) {
         put_gap(out, unused);
-    }
-}
-
-/// A line for each member, as assertions and constants of offsets are.
-pub fn put_each<M: Fn(&mut Writer, Member)>(out: &mut Writer, t: Type, put: M)
-    requires { M.IsAlwaysCallable put }
-{
-    for j in 0..t.count() {
-        put(out, t.member(j));
     }
 }

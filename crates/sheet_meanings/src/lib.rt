@@ -1,11 +1,20 @@
 // Refusals, capabilities and instructions in words.
 #![tactic(auto)]
 
+ghost use Rattle.std.specs.Prelude.{◌≡◌, ◌++◌, slice_get};
+ghost use Rattle.program_output.specs.Bytes.{newline};
+ghost use Rattle.sheet_output.specs.Written.{Writes, lent};
+ghost use Rattle.sheet_meanings.specs.Meanings.{meaning, fault_text, capabilities, capability_text, type_instruction, instruction_text};
+
 use ir_records::Fault;
 use sheet_output::Writer;
+use std::io::Write;
 
 // What a fault means; none for those of orders and passes, of which there are no sheets.
-fn meaning(fault: Fault) -> Option<&'static [u8]> {
+#[tactic(auto, unfolding(crate::specs::Meanings::meaning))]
+fn meaning(fault: Fault) -> Option<&'static [u8]>
+    ensures { lent result ≡ meaning fault }
+{
     let text: &'static [u8] = match fault {
         Fault::TableLength =>
             b"there are more than 1024 types or 4096 members, or the capability word has a bit above 13",
@@ -75,6 +84,31 @@ const CAPABILITIES: [&[u8]; 14] = [
     b"DUAL_SOURCE_BLENDING, --capabilities 8192",
 ];
 
+// What a bit of the capability word stands for.
+#[tactic(auto, unfolding(crate::specs::Meanings::capabilities))]
+fn capability(bit: u32) -> Option<&'static [u8]>
+    ensures { lent result ≡ slice_get capabilities bit }
+{
+    CAPABILITIES.get(bit as usize).copied()
+}
+
+// A text and the end of its line.
+fn put_line<W: Write>(out: &mut Writer<W>, text: &[u8])
+    ensures { Writes W.contents out.old (text.now ++ newline) out.new }
+{
+    out.put_text(text);
+    out.put_byte(b'\n');
+}
+
+// The capability of a bit, where it has one.
+pub fn put_capability<W: Write>(out: &mut Writer<W>, bit: u32)
+    ensures { Writes W.contents out.old (capability_text bit) out.new }
+{
+    if let Some(text) = capability(bit) {
+        put_line(out, text);
+    }
+}
+
 // The types among the instructions, from OpTypeVoid on.
 const TYPE_INSTRUCTIONS: [&[u8]; 20] = [
     b"OpTypeVoid",
@@ -99,25 +133,19 @@ const TYPE_INSTRUCTIONS: [&[u8]; 20] = [
     b"OpTypePipe",
 ];
 
-fn put_line(out: &mut Writer, text: &[u8]) {
-    out.put_text(text);
-    out.put_byte(b'\n');
-}
-
-pub fn put_capability(out: &mut Writer, bit: u32) {
-    if let Some(text) = CAPABILITIES.get(bit as usize) {
-        put_line(out, text);
-    }
-}
-
 // A type among the instructions.
-fn type_instruction(op: u32) -> Option<&'static [u8]> {
+#[tactic(auto, unfolding(crate::specs::Meanings::type_instructions))]
+fn type_instruction(op: u32) -> Option<&'static [u8]>
+    ensures { lent result ≡ type_instruction op }
+{
     let i = op.checked_sub(spirv_words::TYPE_VOID)?;
     TYPE_INSTRUCTIONS.get(i as usize).copied()
 }
 
 // An instruction by its opcode.
-pub fn put_instruction(out: &mut Writer, op: u32) {
+pub fn put_instruction<W: Write>(out: &mut Writer<W>, op: u32)
+    ensures { Writes W.contents out.old (instruction_text op) out.new }
+{
     match op {
         spirv_words::CONSTANT => put_line(out, b"OpConstant"),
         spirv_words::DECORATE => put_line(out, b"OpDecorate"),
@@ -130,7 +158,9 @@ pub fn put_instruction(out: &mut Writer, op: u32) {
 }
 
 // The number of a fault and its meaning.
-pub fn put_fault(out: &mut Writer, fault: Fault) {
+pub fn put_fault<W: Write>(out: &mut Writer<W>, fault: Fault)
+    ensures { Writes W.contents out.old (fault_text fault) out.new }
+{
     out.put_with(b"refused ", u64::from(u32::from(fault)), b": ");
     if let Some(text) = meaning(fault) {
         put_line(out, text);

@@ -2,7 +2,7 @@
 // module's bytes.
 #![tactic(auto)]
 
-ghost use Rattle.std.specs.Prelude.{◌≡◌, ◌+◌, ◌<◌, get_or, eqb, length, MatchOption, None, true, false};
+ghost use Rattle.std.specs.Prelude.{◌≡◌, [], ◌+◌, ◌<◌, get_or, eqb, length, MatchOption, None, true, false};
 ghost use Rattle.ir_records.specs.Record.{type_word, type_inner, array_kind, struct_kind, struct_members, member_type, member_offset};
 ghost use Rattle.std.specs.Iterator.{at_most};
 ghost use Rattle.ir_rows.specs.Rows.{row_word};
@@ -12,6 +12,7 @@ ghost use Rattle.sheet_names.specs.Names.{type_place, member_place, name_at, typ
 ghost use Rattle.sheet_names.specs.Counts.{carried_in, wasted_in, is_counted};
 ghost use Rattle.sheet_names.specs.Row.{may_be_immediate, is_usable};
 ghost use Rattle.sheet_names.specs.Runtime.{is_runtime};
+ghost use Rattle.sheet_names.specs.Walk.{TokenSteps};
 
 use immediates_ranges::Slots;
 use ir_records::{Kind, TypeInner};
@@ -82,6 +83,8 @@ struct Tokens<'a> {
 impl<'a> Iterator for Tokens<'a> {
     type Item = Lexed;
 
+    ghost next_gives = { TokenSteps };
+
     ghost remaining = { λ s. at_most (length (from s.text.now s.at)) };
 
     fn next(&mut self) -> Option<Lexed> {
@@ -138,7 +141,15 @@ impl<'a> Sheet<'a> {
         names: &'a NameTable,
         types: &'a [u32],
         members: &'a [u32],
-    ) -> Sheet<'a> {
+    ) -> Sheet<'a>
+        ensures text { result.text ≡ text.entry }
+        ensures names { result.names ≡ names.entry }
+        ensures types { result.types ≡ types.entry }
+        ensures members { result.members ≡ members.entry }
+        ensures rows { result.rows.now ≡ [] }
+        ensures report { result.report.now ≡ [] }
+        ensures slots { result.slots.now ≡ [] }
+    {
         Sheet {
             text,
             names,

@@ -3,6 +3,7 @@
 
 use sheet_names::Member;
 use sheet_output::{Unused, Writer};
+use std::io::Write;
 
 /// What stands before the name of the file.
 pub const START: &[u8] = b"<!DOCTYPE html>
@@ -49,12 +50,12 @@ pub const TABLE_HEAD: &[u8] = b"</p>
 pub const TABLE_END: &[u8] = b"</table>\n";
 
 // A cell with a number.
-fn put_cell(out: &mut Writer, n: u64) {
+fn put_cell<W: Write>(out: &mut Writer<W>, n: u64) {
     out.put_with(b"<td class=\"n\">", n, b"</td>");
 }
 
 // Bytes between two members, or after the last one.
-pub fn put_gap(out: &mut Writer, unused: Unused) {
+pub fn put_gap<W: Write>(out: &mut Writer<W>, unused: Unused) {
     out.put_text(b"<tr>");
     put_cell(out, unused.start);
     put_cell(out, unused.bytes);
@@ -62,7 +63,7 @@ pub fn put_gap(out: &mut Writer, unused: Unused) {
 }
 
 // The line of a member: its offset, size and alignment, its name and its type.
-pub fn put_member(out: &mut Writer, member: Member) {
+pub fn put_member<W: Write>(out: &mut Writer<W>, member: Member) {
     let t = member.own_type();
     out.put_text(b"<tr>");
     put_cell(out, u64::from(member.offset));

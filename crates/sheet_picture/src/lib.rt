@@ -3,6 +3,7 @@
 
 use sheet_names::Type;
 use sheet_output::Writer;
+use std::io::Write;
 
 // Bytes of a struct that are drawn at most.
 const MOST_DRAWN: u64 = 4096;
@@ -20,7 +21,7 @@ fn drawn_as(t: Type, byte: u64) -> Option<u32> {
 }
 
 // A run of so many bytes: a member's name, or nothing where no leaf holds them.
-fn put_run(out: &mut Writer, t: Type, member: Option<u32>, bytes: u64) {
+fn put_run<W: Write>(out: &mut Writer<W>, t: Type, member: Option<u32>, bytes: u64) {
     out.put_with(b"<td colspan=\"", bytes, b"\" class=\"");
     match member {
         Some(j) => {
@@ -33,7 +34,7 @@ fn put_run(out: &mut Writer, t: Type, member: Option<u32>, bytes: u64) {
 }
 
 // The row of the bytes from one up to a limit, in runs of one member's bytes.
-fn put_row(out: &mut Writer, t: Type, from: u64, limit: u64) {
+fn put_row<W: Write>(out: &mut Writer<W>, t: Type, from: u64, limit: u64) {
     out.put_with(b"<tr><th>", from, b"</th>");
     let mut start = from;
     for b in from..limit {
@@ -48,7 +49,7 @@ fn put_row(out: &mut Writer, t: Type, from: u64, limit: u64) {
 }
 
 // The bytes of a struct, as far as they are drawn.
-pub fn put_rows(out: &mut Writer, t: Type) {
+pub fn put_rows<W: Write>(out: &mut Writer<W>, t: Type) {
     let drawn = MOST_DRAWN.min(u64::from(t.size()));
     for row in 0..drawn.div_ceil(ROW_BYTES) {
         let from = row * ROW_BYTES;
@@ -57,7 +58,7 @@ pub fn put_rows(out: &mut Writer, t: Type) {
 }
 
 // Under the picture: what is not drawn.
-pub fn put_rest(out: &mut Writer, t: Type) {
+pub fn put_rest<W: Write>(out: &mut Writer<W>, t: Type) {
     out.put_text(b"</table>\n");
     if MOST_DRAWN < u64::from(t.size()) {
         out.put_with(b"<p>Bytes from ", MOST_DRAWN, b" on are not drawn.</p>\n");

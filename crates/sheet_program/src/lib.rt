@@ -1,12 +1,16 @@
 // The program `sheet`: its arguments, the files that they name, and what is printed of each.
 #![tactic(auto)]
 
+ghost use Rattle.std.specs.Prelude.{◌≡◌};
+ghost use Rattle.sheet_program.specs.Stop.{stop_of};
+
 use program_files::Messages;
 use program_input::STDOUT;
+use program_output::Standard;
 use program_words::NumberError;
 use sheet_answers::Asked;
 use sheet_structs::Form;
-use std::io::Read;
+use std::io::{Read, Write};
 use std::rt::{Env, Files};
 use valid_type_info::UniformRule;
 
@@ -48,6 +52,8 @@ enum Stop {
 }
 
 impl From<NumberError> for Stop {
+    ghost from_gives = { λ error result. result ≡ stop_of error };
+
     fn from(error: NumberError) -> Stop {
         match error {
             NumberError::NotANumber => Stop::NotANumber,
@@ -61,12 +67,10 @@ const UNREAD: Messages = Messages {
     failed: b"sheet: the input cannot be read\n",
 };
 
-// Kept: as `program_files::answer_text`, which takes a closure: one that holds the name was tried, and the check takes no closure of two lifetimes beside `'static` messages.
-fn answer_open<S: Read>(asked: Asked, name: Option<&[u8]>, source: &mut S) {
+fn answer_open<S: Read, W: Write>(asked: Asked, to: &mut W, name: Option<&[u8]>, source: &mut S) {
     let mut bytes = program_files::filled::<u8, { program_files::INPUT_BYTES }>(0);
-    match program_files::read_all(source, &mut bytes) {
-        Ok(held) => asked.answer(name, &bytes[..held]),
-        Err(error) => program_files::tell(UNREAD.of(error)),
+    if let Some(text) = program_files::read_text(source, &mut bytes, UNREAD) {
+        asked.answer(to, name, text);
     }
 }
 
@@ -79,7 +83,7 @@ fn tell_of(argument: &[u8], what: &[u8]) {
 
 fn answer_file<R: Files>(rt: &R, asked: Asked, name: &[u8]) {
     match program_files::open(rt, name) {
-        Some(mut file) => answer_open(asked, Some(name), &mut file),
+        Some(mut file) => answer_open(asked, &mut Standard, Some(name), &mut file),
         None => tell_of(name, b": the file cannot be opened\n"),
     }
 }
@@ -200,7 +204,7 @@ impl Options {
             self.with_value(option, b"")?;
         }
         if !self.files {
-            answer_open(self.asked, None, &mut rt.reader());
+            answer_open(self.asked, &mut Standard, None, &mut rt.reader());
         } else if self.open {
             program_files::tell(
                 b"sheet: an option stands after the last file; options hold for the files after them\n",

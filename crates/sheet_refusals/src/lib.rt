@@ -4,6 +4,7 @@
 use ir_records::{Fault, Refusal};
 use sheet_names::{Member, Sheet, Type};
 use sheet_output::{Markup, Writer};
+use std::io::Write;
 
 const MOST_MEMBERS: u32 = ir_records::MOST_MEMBERS as u32;
 
@@ -11,7 +12,7 @@ const MOST_MEMBERS: u32 = ir_records::MOST_MEMBERS as u32;
 const MESSAGE: usize = 1052672;
 
 // A refusal of a text.
-pub fn put_text(out: &mut Writer, text: &[u8], refusal: wgsl_grammar::Refusal) {
+pub fn put_text<W: Write>(out: &mut Writer<W>, text: &[u8], refusal: wgsl_grammar::Refusal) {
     sheet_meanings::put_fault(out, refusal.fault);
     out.put_text(b"  ");
     out.make_room(MESSAGE);
@@ -19,7 +20,7 @@ pub fn put_text(out: &mut Writer, text: &[u8], refusal: wgsl_grammar::Refusal) {
 }
 
 // The word at which an instruction stands, and the instruction.
-fn put_word(out: &mut Writer, words: &[u32], place: usize) {
+fn put_word<W: Write>(out: &mut Writer<W>, words: &[u32], place: usize) {
     out.put_with(b"word ", place as u64, b", ");
     if place < spirv_words::HEADER_WORDS {
         out.put_text(b"the header\n");
@@ -29,7 +30,7 @@ fn put_word(out: &mut Writer, words: &[u32], place: usize) {
 }
 
 // A refusal of a module.
-pub fn put_module(out: &mut Writer, words: &[u32], fault: Fault) {
+pub fn put_module<W: Write>(out: &mut Writer<W>, words: &[u32], fault: Fault) {
     sheet_meanings::put_fault(out, fault);
     out.put_text(b"  ");
     if sheet_places::is_refused(sheet_places::before(words, 0)) {
@@ -56,13 +57,13 @@ fn member_with<'a>(sheet: Sheet<'a>, ty: u32) -> Option<Member<'a>> {
     Some(t.member(row.saturating_sub(t.word(1))))
 }
 
-fn put_member(out: &mut Writer, member: Member) {
+fn put_member<W: Write>(out: &mut Writer<W>, member: Member) {
     out.put_text(b", ");
     sheet_types::put_numbered_member(out, member);
 }
 
 // The name of a struct, of a member of it where one is meant, and where the last of them stands in the text.
-fn put_place(out: &mut Writer, t: Type, member: Option<Member>) {
+fn put_place<W: Write>(out: &mut Writer<W>, t: Type, member: Option<Member>) {
     out.put_text(b"  struct ");
     sheet_types::put_struct_name(out, t);
     let place = match member {
@@ -78,7 +79,7 @@ fn put_place(out: &mut Writer, t: Type, member: Option<Member>) {
     out.put_byte(b'\n');
 }
 
-fn put_position(out: &mut Writer, text: &[u8], byte: usize) {
+fn put_position<W: Write>(out: &mut Writer<W>, text: &[u8], byte: usize) {
     let p = wgsl_messages::line_and_column(text, byte);
     out.put_two(
         b", line ",
@@ -119,7 +120,7 @@ fn missing_capability(refusal: Refusal) -> Option<u32> {
 }
 
 // The type that is refused, in a text: the struct, or the member in whose type it stands.
-fn put_in_text(out: &mut Writer, t: Type, refusal: Refusal) {
+fn put_in_text<W: Write>(out: &mut Writer<W>, t: Type, refusal: Refusal) {
     if t.is_struct() {
         put_place(out, t, named_member(t, refusal));
     } else if let Some(member) = member_with(t.sheet, t.i) {
@@ -128,7 +129,13 @@ fn put_in_text(out: &mut Writer, t: Type, refusal: Refusal) {
 }
 
 // The type that is refused, in a module: its instruction.
-fn put_in_module(out: &mut Writer, t: Type, words: &[u32], place: Option<usize>, refusal: Refusal) {
+fn put_in_module<W: Write>(
+    out: &mut Writer<W>,
+    t: Type,
+    words: &[u32],
+    place: Option<usize>,
+    refusal: Refusal,
+) {
     out.put_text(b"  ");
     sheet_types::put_type(out, t);
     if let Some(member) = named_member(t, refusal) {
@@ -142,7 +149,7 @@ fn put_in_module(out: &mut Writer, t: Type, words: &[u32], place: Option<usize>,
 }
 
 // The number, its meaning, and the capability that is missing. A refusal is no part of a page, so what comes after it is plain text.
-fn put_arena_number(out: &mut Writer, refusal: Refusal) {
+fn put_arena_number<W: Write>(out: &mut Writer<W>, refusal: Refusal) {
     out.markup = Markup::Plain;
     sheet_meanings::put_fault(out, refusal.fault);
     if let Some(bit) = missing_capability(refusal) {
@@ -152,7 +159,7 @@ fn put_arena_number(out: &mut Writer, refusal: Refusal) {
 }
 
 /// A refusal of the records of a text.
-pub fn put_text_arena(out: &mut Writer, sheet: Sheet, refusal: Refusal) {
+pub fn put_text_arena<W: Write>(out: &mut Writer<W>, sheet: Sheet, refusal: Refusal) {
     put_arena_number(out, refusal);
     if let Some(t) = named_type(sheet, refusal) {
         put_in_text(out, t, refusal);
@@ -160,8 +167,8 @@ pub fn put_text_arena(out: &mut Writer, sheet: Sheet, refusal: Refusal) {
 }
 
 /// A refusal of the records of a module; the instruction of the refused type stands at `place`.
-pub fn put_module_arena(
-    out: &mut Writer,
+pub fn put_module_arena<W: Write>(
+    out: &mut Writer<W>,
     sheet: Sheet,
     words: &[u32],
     place: Option<usize>,

@@ -1,9 +1,13 @@
 // The structs of a sheet in the order of their records, in one of four forms.
 #![tactic(auto)]
 
+ghost use Rattle.std.specs.Prelude.{◌≡◌};
+ghost use Rattle.sheet_structs.specs.Forms.{markup_of};
+
 use sheet_names::{Member, Sheet, Type};
 use sheet_output::{Markup, Writer};
 use sheet_verdicts::Space;
+use std::io::Write;
 
 /// What a sheet is written as.
 #[derive(Clone, Copy, Debug, PartialEq, Eq)]
@@ -15,7 +19,7 @@ pub enum Form {
 }
 
 // What a struct measures, its verdicts, its bytes where they were counted, and its slots; a line begins with `line`.
-fn put_facts(out: &mut Writer, t: Type, line: &[u8]) {
+fn put_facts<W: Write>(out: &mut Writer<W>, t: Type, line: &[u8]) {
     sheet_verdicts::put_measures(out, t);
     out.put_text(line);
     out.put_text(b"storage: ");
@@ -38,7 +42,7 @@ fn put_facts(out: &mut Writer, t: Type, line: &[u8]) {
     sheet_counts::put_slots(out, t);
 }
 
-fn put_text(out: &mut Writer, t: Type) {
+fn put_text<W: Write>(out: &mut Writer<W>, t: Type) {
     out.put_text(b"struct ");
     sheet_types::put_struct_name(out, t);
     out.put_text(b"\n  ");
@@ -51,12 +55,21 @@ fn put_text(out: &mut Writer, t: Type) {
         t,
         Some(u64::from(t.size())),
         sheet_table::put_gap,
-        |out: &mut Writer, member: Member| sheet_table::put_member(out, member, width),
+        |out: &mut Writer<W>, member: Member| sheet_table::put_member(out, member, width),
     );
     out.put_byte(b'\n');
 }
 
-fn put_c(out: &mut Writer, t: Type) {
+// A line for each member, as assertions and constants of offsets are.
+fn put_each<W: Write, M: Fn(&mut Writer<W>, Member)>(out: &mut Writer<W>, t: Type, put: M)
+    requires { M.IsAlwaysCallable put }
+{
+    for j in 0..t.count() {
+        put(out, t.member(j));
+    }
+}
+
+fn put_c<W: Write>(out: &mut Writer<W>, t: Type) {
     if !t.is_usable() {
         sheet_c::put_none(out, t);
         return;
@@ -70,11 +83,11 @@ fn put_c(out: &mut Writer, t: Type) {
         sheet_c::put_member,
     );
     out.put_text(sheet_c::CLOSE);
-    sheet_lines::put_each(out, t, sheet_c::put_offset);
+    put_each(out, t, sheet_c::put_offset);
     sheet_c::put_end(out, t);
 }
 
-fn put_rust(out: &mut Writer, t: Type) {
+fn put_rust<W: Write>(out: &mut Writer<W>, t: Type) {
     if !t.is_usable() {
         sheet_rust::put_none(out, t);
         return;
@@ -88,12 +101,12 @@ fn put_rust(out: &mut Writer, t: Type) {
         sheet_rust::put_member,
     );
     sheet_rust::put_numbers(out, t);
-    sheet_lines::put_each(out, t, sheet_rust::put_offset);
+    put_each(out, t, sheet_rust::put_offset);
     sheet_rust::put_size(out, t);
-    sheet_lines::put_each(out, t, sheet_rust::put_assertion);
+    put_each(out, t, sheet_rust::put_assertion);
 }
 
-fn put_page(out: &mut Writer, t: Type) {
+fn put_page<W: Write>(out: &mut Writer<W>, t: Type) {
     out.put_text(b"<h2>struct ");
     sheet_types::put_struct_name(out, t);
     out.put_text(b"</h2>\n<p>");
@@ -115,7 +128,7 @@ fn put_page(out: &mut Writer, t: Type) {
 }
 
 // What was read, and the limits.
-fn put_counts(out: &mut Writer, types: u64, structs: u64, last: &[u8]) {
+fn put_counts<W: Write>(out: &mut Writer<W>, types: u64, structs: u64, last: &[u8]) {
     out.put_two(
         b"types: ",
         types,
@@ -129,7 +142,9 @@ fn put_counts(out: &mut Writer, types: u64, structs: u64, last: &[u8]) {
 // Kept: four choices by the form. A trait of forms would have these functions four times, and still a choice before the input and one after it, since the form is an argument.
 impl Form {
     /// A page has marks of its own.
-    pub fn markup(self) -> Markup {
+    pub fn markup(self) -> Markup
+        ensures { result ≡ markup_of self }
+    {
         if self == Form::Page {
             Markup::Page
         } else {
@@ -138,7 +153,7 @@ impl Form {
     }
 
     /// What stands before the first struct. A name is that of the file; where there is none, or it cannot be printed, it is left out.
-    pub fn put_start(self, out: &mut Writer, name: Option<&[u8]>) {
+    pub fn put_start<W: Write>(self, out: &mut Writer<W>, name: Option<&[u8]>) {
         match self {
             Form::Text => {
                 out.put_text(b"Layout sheet");
@@ -155,7 +170,7 @@ impl Form {
         }
     }
 
-    fn put_struct(self, out: &mut Writer, t: Type) {
+    fn put_struct<W: Write>(self, out: &mut Writer<W>, t: Type) {
         match self {
             Form::Text => put_text(out, t),
             Form::C => put_c(out, t),
@@ -165,7 +180,7 @@ impl Form {
     }
 
     // What stands after the last struct, in the forms that people read: how much was read, and the limits.
-    fn put_end(self, out: &mut Writer, types: u64, structs: u64) {
+    fn put_end<W: Write>(self, out: &mut Writer<W>, types: u64, structs: u64) {
         match self {
             Form::Text => put_counts(out, types, structs, b"\n"),
             Form::C | Form::Rust => {}
@@ -178,7 +193,7 @@ impl Form {
     }
 
     /// All structs of an accepted arena.
-    pub fn put_all(self, out: &mut Writer, sheet: Sheet) {
+    pub fn put_all<W: Write>(self, out: &mut Writer<W>, sheet: Sheet) {
         for i in 0..sheet_names::MOST_TYPES {
             let t = sheet.type_at(i);
             if t.is_struct() {

@@ -6,6 +6,7 @@ ghost use Rattle.sheet_table.specs.Width.{name_width};
 
 use sheet_names::{Member, Type};
 use sheet_output::{Unused, Writer};
+use std::io::Write;
 
 const WIDE: u64 = 8;
 
@@ -31,18 +32,18 @@ pub fn name_width(t: Type, count: u32) -> usize
 }
 
 // Blanks after so many columns of a name, up to the width of its column.
-fn put_rest(out: &mut Writer, used: usize, width: usize) {
+fn put_rest<W: Write>(out: &mut Writer<W>, used: usize, width: usize) {
     out.put_blanks(sheet_output::gap(used as u64, width as u64));
 }
 
-pub fn put_table_head(out: &mut Writer, width: usize) {
+pub fn put_table_head<W: Write>(out: &mut Writer<W>, width: usize) {
     out.put_text(b"    offset    size  align  member");
     put_rest(out, HEAD, width);
     out.put_text(b"  type\n");
 }
 
 // Bytes between two members, or after the last one.
-pub fn put_gap(out: &mut Writer, unused: Unused) {
+pub fn put_gap<W: Write>(out: &mut Writer<W>, unused: Unused) {
     out.put_right(WIDE + 2, unused.start);
     out.put_with(b"  ", unused.bytes, b" ");
     if unused.bytes == 1 {
@@ -53,7 +54,7 @@ pub fn put_gap(out: &mut Writer, unused: Unused) {
 }
 
 // Steps of arrays and matrices, after the type.
-pub fn put_steps(out: &mut Writer, t: Type) {
+pub fn put_steps<W: Write>(out: &mut Writer<W>, t: Type) {
     if t.is_array() {
         out.put_with(b", elements ", u64::from(t.stride()), b" apart");
     }
@@ -63,7 +64,7 @@ pub fn put_steps(out: &mut Writer, t: Type) {
 }
 
 // The name of a member, and blanks up to the width of the column.
-fn put_named(out: &mut Writer, member: Member, width: usize) {
+fn put_named<W: Write>(out: &mut Writer<W>, member: Member, width: usize) {
     out.put_text(b"  ");
     sheet_types::put_member_name(out, member);
     put_rest(out, sheet_types::name_length(member), width);
@@ -71,7 +72,7 @@ fn put_named(out: &mut Writer, member: Member, width: usize) {
 }
 
 // The line of a member: its offset, size and alignment, its name and its type.
-pub fn put_member(out: &mut Writer, member: Member, width: usize) {
+pub fn put_member<W: Write>(out: &mut Writer<W>, member: Member, width: usize) {
     let t = member.own_type();
     out.put_right(WIDE + 2, u64::from(member.offset));
     out.put_right(WIDE, u64::from(t.size()));

@@ -1,1 +1,2 @@
 pub mod Types
+pub mod Text

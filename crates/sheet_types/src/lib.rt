@@ -5,11 +5,16 @@ ghost use Rattle.std.specs.Prelude.{◌≡◌, ◌*◌};
 ghost use Rattle.std.specs.List.{list_all};
 ghost use Rattle.ir_records.specs.Record.{type_inner};
 ghost use Rattle.sheet_names.specs.Names.{member_name};
+ghost use Rattle.ir_records.specs.Kinds.{scalar_number};
+ghost use Rattle.sheet_output.specs.Written.{Writes, lent};
 ghost use Rattle.sheet_types.specs.Types.{is_visible, is_printable, name_length, inside_arrays, most_depth, inner_step, ScalarIs};
+ghost use Rattle.sheet_types.specs.Text.{name_text, file_text, struct_name, member_text, numbered_member};
+ghost use Rattle.sheet_types.specs.Text.{scalar_text, argument_text, plain_text, count_text, base_text, text_within, type_text};
 
 use ir_records::{Leaf, ScalarKind, TypeInner};
 use sheet_names::{Member, Type};
 use sheet_output::Writer;
+use std::io::Write;
 
 /// Types that stand in one another deeper than this are not written out.
 // Kept: as deep as the reader of texts goes by its own constant; a module may go deeper, and this is where its sheet stops.
@@ -39,7 +44,9 @@ impl Scalar {
 }
 
 // i32, u32, f32 and the like.
-pub fn put_scalar(out: &mut Writer, scalar: Scalar) {
+pub fn put_scalar<W: Write>(out: &mut Writer<W>, scalar: Scalar)
+    ensures { Writes W.contents out.old (scalar_text (scalar_number scalar.kind) scalar.width) out.new }
+{
     let bits = scalar.bits();
     match scalar.kind {
         ScalarKind::Sint => out.put_with(b"i", bits, b""),
@@ -52,7 +59,9 @@ pub fn put_scalar(out: &mut Writer, scalar: Scalar) {
 }
 
 // The scalar that a record has by the number of its kind. The record of a refused type may have the number of none.
-fn put_numbered(out: &mut Writer, kind: u32, width: u32) {
+fn put_numbered<W: Write>(out: &mut Writer<W>, kind: u32, width: u32)
+    ensures { Writes W.contents out.old (scalar_text kind width) out.new }
+{
     match Scalar::of(kind, width) {
         Some(scalar) => put_scalar(out, scalar),
         None => out.put_text(b"bool"),
@@ -60,14 +69,18 @@ fn put_numbered(out: &mut Writer, kind: u32, width: u32) {
 }
 
 // `<`, the scalar and `>`.
-fn put_argument(out: &mut Writer, kind: u32, width: u32) {
+fn put_argument<W: Write>(out: &mut Writer<W>, kind: u32, width: u32)
+    ensures { Writes W.contents out.old (argument_text out.old.markup kind width) out.new }
+{
     out.put_mark(b'<');
     put_numbered(out, kind, width);
     out.put_mark(b'>');
 }
 
 // A type that is no struct, inside all arrays that are written out.
-fn put_leaf(out: &mut Writer, t: Type) {
+fn put_leaf<W: Write>(out: &mut Writer<W>, t: Type)
+    ensures { Writes W.contents out.old (plain_text out.old.markup t.entry.sheet t.entry.i) out.new }
+{
     match t.inner() {
         TypeInner::Plain(Leaf::Scalar(kind, width)) => put_numbered(out, kind, width),
         TypeInner::Plain(Leaf::Vector(size, kind, width)) => {
@@ -109,7 +122,9 @@ fn is_printable(name: &[u8]) -> bool
 
 // A name where it can be printed, or else a number after a text.
 // Kept: `put_name` of sheet_identifiers differs in the test and in the way to write the name, which one function would take as two closures.
-fn put_name(out: &mut Writer, name: Option<&[u8]>, otherwise: &[u8], number: u32) {
+fn put_name<W: Write>(out: &mut Writer<W>, name: Option<&[u8]>, otherwise: &[u8], number: u32)
+    ensures { Writes W.contents out.old (name_text out.old.markup (lent name.entry) otherwise.now number) out.new }
+{
     match name {
         Some(name) if is_printable(name) => out.put_name(name),
         _ => out.put_with(otherwise, u64::from(number), b""),
@@ -117,7 +132,9 @@ fn put_name(out: &mut Writer, name: Option<&[u8]>, otherwise: &[u8], number: u32
 }
 
 // ` of ` and the name of a file, where it can be printed.
-pub fn put_file(out: &mut Writer, name: Option<&[u8]>) {
+pub fn put_file<W: Write>(out: &mut Writer<W>, name: Option<&[u8]>)
+    ensures { Writes W.contents out.old (file_text out.old.markup (lent name.entry)) out.new }
+{
     if let Some(name) = name.filter(|name| is_printable(name)) {
         out.put_text(b" of ");
         out.put_name(name);
@@ -126,17 +143,23 @@ pub fn put_file(out: &mut Writer, name: Option<&[u8]>) {
 
 // The name of a struct, or its number as a type.
 // Kept: this and the next one are one call each, for a type and for a member; a trait of both would have two impls in their place.
-pub fn put_struct_name(out: &mut Writer, t: Type) {
+pub fn put_struct_name<W: Write>(out: &mut Writer<W>, t: Type)
+    ensures { Writes W.contents out.old (struct_name out.old.markup t.entry.sheet t.entry.i) out.new }
+{
     put_name(out, t.name(), b"type ", t.i);
 }
 
 // The name of a member, or its number.
-pub fn put_member_name(out: &mut Writer, member: Member) {
+pub fn put_member_name<W: Write>(out: &mut Writer<W>, member: Member)
+    ensures { Writes W.contents out.old (member_text out.old.markup member.entry.of.sheet member.entry.of.i member.entry.j) out.new }
+{
     put_name(out, member.name(), b"", member.j);
 }
 
 // `member `, its number, and its name where it has one.
-pub fn put_numbered_member(out: &mut Writer, member: Member) {
+pub fn put_numbered_member<W: Write>(out: &mut Writer<W>, member: Member)
+    ensures { Writes W.contents out.old (numbered_member out.old.markup member.entry.of.sheet member.entry.of.i member.entry.j) out.new }
+{
     out.put_with(b"member ", u64::from(member.j), b" (");
     put_member_name(out, member);
     out.put_byte(b')');
@@ -177,14 +200,18 @@ pub fn innermost<'a>(t: Type<'a>) -> Type<'a>
 }
 
 // The count of an array, where it has one.
-fn put_count(out: &mut Writer, t: Type) {
+fn put_count<W: Write>(out: &mut Writer<W>, t: Type)
+    ensures { Writes W.contents out.old (count_text (type_inner t.entry.sheet.types.now t.entry.i)) out.new }
+{
     if let TypeInner::Array { count, .. } = t.inner() {
         out.put_with(b", ", u64::from(count), b"");
     }
 }
 
 // A type inside all arrays that are written out.
-fn put_base(out: &mut Writer, t: Type) {
+fn put_base<W: Write>(out: &mut Writer<W>, t: Type)
+    ensures { Writes W.contents out.old (base_text out.old.markup t.entry.sheet t.entry.i) out.new }
+{
     if t.is_struct() {
         put_struct_name(out, t);
     } else {
@@ -193,7 +220,9 @@ fn put_base(out: &mut Writer, t: Type) {
 }
 
 // A type, with at most so many arrays in one another.
-fn put_within(out: &mut Writer, t: Type, depth: u32) {
+fn put_within<W: Write>(out: &mut Writer<W>, t: Type, depth: u32)
+    ensures { Writes W.contents out.old (text_within out.old.markup t.entry.sheet depth t.entry.i) out.new }
+{
     match t.element() {
         Some(element) if 0 < depth => {
             out.put_text(b"array");
@@ -207,7 +236,9 @@ fn put_within(out: &mut Writer, t: Type, depth: u32) {
 }
 
 // A type as WGSL writes it.
-pub fn put_type(out: &mut Writer, t: Type) {
+pub fn put_type<W: Write>(out: &mut Writer<W>, t: Type)
+    ensures { Writes W.contents out.old (type_text out.old.markup t.entry.sheet t.entry.i) out.new }
+{
     put_within(out, t, MOST_DEPTH);
 }
 

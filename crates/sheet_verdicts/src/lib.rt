@@ -1,11 +1,14 @@
 // Verdicts, slots and bytes of a struct in words.
 #![tactic(auto)]
 
-ghost use Rattle.std.specs.Prelude.{◌≤◌};
+ghost use Rattle.std.specs.Prelude.{◌≡◌, ◌≤◌, ◌+◌, ◌++◌};
+ghost use Rattle.sheet_output.specs.Written.{Writes};
+ghost use Rattle.sheet_verdicts.specs.Text.{measures_text, first_word, verdict_at, member_text, uneven_text, wrong_text, verdict_text};
 
 use immediates_ranges::Slots;
 use sheet_names::Type;
 use sheet_output::Writer;
+use std::io::Write;
 use valid_type_info::{Disalignment, Verdict};
 
 /// The address spaces of which a row has a verdict.
@@ -18,7 +21,7 @@ pub enum Space {
 impl Space {
     // Where the five words of its verdict begin in a row.
     fn first_word(self) -> usize
-        ensures { result ≤ 8 }
+        ensures { result ≡ first_word self }
     {
         match self {
             Space::Uniform => ir_rows::UNIFORM,
@@ -28,7 +31,9 @@ impl Space {
 
     // The verdict of a type for this space.
     // Kept: `valid_type_rows::row_at`, which makes a verdict of its five words too, asks for whole rows, and no clause of `Type` says that its rows are.
-    fn verdict_of(self, t: Type) -> Verdict {
+    fn verdict_of(self, t: Type) -> Verdict
+        ensures { result ≡ verdict_at t.entry.sheet.rows.now t.entry.i (first_word self) }
+    {
         let first = self.first_word();
         Verdict {
             code: t.row_word(first),
@@ -41,7 +46,9 @@ impl Space {
 }
 
 // Size and alignment. A runtime-sized array counts as one element.
-pub fn put_measures(out: &mut Writer, t: Type) {
+pub fn put_measures<W: Write>(out: &mut Writer<W>, t: Type)
+    ensures { Writes W.contents out.old (measures_text t.entry.sheet.rows.now t.entry.i) out.new }
+{
     out.put_with(b"size ", u64::from(t.size()), b"");
     if !t.is_sized() {
         out.put_text(b" with one element");
@@ -50,7 +57,9 @@ pub fn put_measures(out: &mut Writer, t: Type) {
 }
 
 // The member that a verdict names; and its struct, where that is another one than the type that is judged.
-fn put_member(out: &mut Writer, judged: Type, of: Type, verdict: Verdict) {
+fn put_member<W: Write>(out: &mut Writer<W>, judged: Type, of: Type, verdict: Verdict)
+    ensures { Writes W.contents out.old (member_text out.old.markup of.entry.sheet judged.entry.i of.entry.i verdict.index) out.new }
+{
     sheet_types::put_numbered_member(out, of.member(verdict.index));
     if of.i != judged.i {
         out.put_text(b" of ");
@@ -59,13 +68,17 @@ fn put_member(out: &mut Writer, judged: Type, of: Type, verdict: Verdict) {
 }
 
 // The number that is wrong after a text, and of what it must be a multiple.
-fn put_uneven(out: &mut Writer, before: &[u8], verdict: Verdict, after: &[u8]) {
+fn put_uneven<W: Write>(out: &mut Writer<W>, before: &[u8], verdict: Verdict, after: &[u8])
+    ensures { Writes W.contents out.old (uneven_text before.now verdict after.now) out.new }
+{
     out.put_with(before, u64::from(verdict.value), after);
     out.put_with(b" must be a multiple of ", u64::from(verdict.bound), b"");
 }
 
 // What is wrong with the type that a verdict names, or with a member of it, where another type is judged by it.
-fn put_wrong(out: &mut Writer, judged: Type, verdict: Verdict, wrong: Disalignment) {
+fn put_wrong<W: Write>(out: &mut Writer<W>, judged: Type, verdict: Verdict, wrong: Disalignment)
+    ensures { Writes W.contents out.old (wrong_text out.old.markup judged.entry.sheet judged.entry.i verdict wrong) out.new }
+{
     let of = judged.other(verdict.ty);
     match wrong {
         Disalignment::ArrayStride => {
@@ -101,7 +114,9 @@ fn put_wrong(out: &mut Writer, judged: Type, verdict: Verdict, wrong: Disalignme
 }
 
 // The verdict of a type for a space: its alignment, or what is wrong.
-pub fn put_verdict(out: &mut Writer, t: Type, space: Space) {
+pub fn put_verdict<W: Write>(out: &mut Writer<W>, t: Type, space: Space)
+    ensures { Writes W.contents out.old (verdict_text out.old.markup t.entry.sheet t.entry.i space) out.new }
+{
     let verdict = space.verdict_of(t);
     if let Ok(wrong) = Disalignment::try_from(verdict.code) {
         put_wrong(out, t, verdict, wrong);
@@ -118,7 +133,7 @@ fn has_slot(mask: u64, k: u32) -> bool {
 }
 
 // The slots of a run from k on.
-fn put_run(out: &mut Writer, mask: u64, k: u32) {
+fn put_run<W: Write>(out: &mut Writer<W>, mask: u64, k: u32) {
     let last = (k..63).find(|s| !has_slot(mask, *s + 1)).unwrap_or(63);
     out.put_with(b" ", u64::from(k), b"");
     if k != last {
@@ -127,7 +142,7 @@ fn put_run(out: &mut Writer, mask: u64, k: u32) {
 }
 
 // The slots of a mask, in runs.
-fn put_mask(out: &mut Writer, mask: u64) {
+fn put_mask<W: Write>(out: &mut Writer<W>, mask: u64) {
     let starts = mask & !(mask << 1);
     for k in 0..64 {
         if has_slot(starts, k) {
@@ -137,7 +152,7 @@ fn put_mask(out: &mut Writer, mask: u64) {
 }
 
 // Slots that are touched, and those of them that are covered only in part.
-pub fn put_slots(out: &mut Writer, slots: Slots) {
+pub fn put_slots<W: Write>(out: &mut Writer<W>, slots: Slots) {
     put_mask(out, slots.touched);
     if slots.partly != 0 {
         out.put_text(b"; only a part of");

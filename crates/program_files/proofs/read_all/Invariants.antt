@@ -1,12 +1,13 @@
--- `program_files::read_all` meets its contract. Assumes nothing.
+-- `program_files::read_all` meets its contract. The invariant: the bytes that are held came first. Assumes nothing.
 use mathlib.Core.Path.{◌≡◌}
 use Prim.Native.Nat.{◌-◌, ◌≤◌}
-use lib.ListN.{length}
+use lib.ListN.{length, take}
+use Rattle.std.specs.Io.KnownBytes.{Consumes}
 use Rattle.program_files.proofs.read_all.Given as goal
 
 abbrev pub invariant-loop-more : goal.invariant-loop-more
 invariant-loop-more g l =
-    (l.held ≤ length l.bytes) × (length l.bytes ≡ length l.initial.bytes)
+    (l.held ≤ length l.bytes) × (length l.bytes ≡ length l.initial.bytes) × Consumes (g.S.Read.remaining l.initial.source) (g.S.Read.remaining l.source) (take l.held l.bytes)
 
 abbrev pub decreases-loop-more : goal.decreases-loop-more
 decreases-loop-more g l = length l.initial.bytes - l.held

@@ -3,7 +3,7 @@ use Rattle.std.proofs.Common.{◌-◌, ◌≤◌, length}
 use Rattle.program_session.proofs.answer.Program.answer_lines.Given as goal
 
 abbrev pub invariant-loop-end : goal.invariant-loop-end
-invariant-loop-end l = (l.at ≤ l.end) × (l.end ≤ length l.input)
+invariant-loop-end g l = (l.at ≤ l.end) × (l.end ≤ length l.input)
 
 abbrev pub decreases-loop-end : goal.decreases-loop-end
-decreases-loop-end l = length l.input - l.at
+decreases-loop-end g l = length l.input - l.at
