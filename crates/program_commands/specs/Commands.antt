@@ -12,12 +12,14 @@ use Rattle.program_lines.specs.declared.Change.{Change}
 use Rattle.program_lines.specs.declared.Change.TheVariants as change
 use Rattle.program_output.specs.declared.Stop.{Stop}
 use Rattle.program_output.specs.declared.Stop.TheVariants as stop
+use Rattle.program_output.specs.Answers.{stop_line}
+use Rattle.program_commands.specs.declared.State.{State}
 use Rattle.program_commands.specs.declared.State.TheVariants as state
 use Rattle.program_commands.specs.declared.Session.{Session}
 
 -- nothing is set, the arena is empty, line 1
 abbrev pub started : Session
-started = record { capabilities = 0; rule = Ok Older; types = 0; members = 6144; pass = begin; line = 1; held = 0; state = state.Reading }
+started = record { capabilities = 0; rule = Ok Older; types = 0; members = 6144; pass = begin; line = 1; state = state.Reading }
 
 -- the words from start up to end; none where they are not all there
 unfoldable pub part_of : List ℕ → (start end : ℕ) → List ℕ
@@ -87,6 +89,15 @@ arena_after (change.TypeRecord w) s arena = appended 6144 (w.kind ∷ w.a ∷ w.
 arena_after (change.MemberRecord m) s arena = appended 22528 (m.ty ∷ m.offset ∷ m.location ∷ m.source ∷ []) s.members arena
 arena_after change.Pass s arena = arena
 arena_after change.Clear s arena = arena
+
+-- ---- the line that says why a session stops, where it does
+abbrev pub bytes_at : (line : ℕ) → State → List ℕ
+bytes_at line state.Reading = []
+bytes_at line state.Ended = []
+bytes_at line (state.Stopped why) = stop_line line why
+
+abbrev pub stop_bytes : Session → List ℕ
+stop_bytes s = bytes_at s.line s.state
 
 -- ---- after a write of the answers that wait: where it failed the session stops
 abbrev pub after_write : Bool → Session → Session

@@ -1,9 +1,11 @@
 // The state of a session, and what the lines that ask for no answer do to it.
 #![tactic(auto)]
 
-ghost use Rattle.std.specs.Prelude.{◌≡◌, Bool, ◌≤◌, ◌<◌, length};
+ghost use Rattle.std.specs.Prelude.{◌≡◌, Bool, true, ◌≤◌, ◌<◌, ◌++◌, length, take};
+ghost use Rattle.std.specs.Io.KnownBytes.{Appends};
 ghost use Rattle.program_output.specs.declared.Stop.TheVariants as why;
-ghost use Rattle.program_commands.specs.Commands.{started, stopped, part_of, types_held, rows_held, held_after, end_after, appended, cleared, changed, arena_after, after_write};
+ghost use Rattle.program_output.specs.Bytes.{Adds};
+ghost use Rattle.program_commands.specs.Commands.{started, stopped, part_of, types_held, rows_held, held_after, end_after, appended, cleared, changed, arena_after, after_write, stop_bytes};
 ghost use Rattle.program_commands.specs.Serving.{after_change};
 
 use immediates_pass::Pass;
@@ -48,8 +50,6 @@ pub struct Session {
     pub pass: Pass,
     // The number of the line.
     pub line: u64,
-    // How many bytes of the input wait for the end of their line.
-    pub held: usize,
     pub state: State,
 }
 
@@ -80,7 +80,6 @@ impl Session {
             members: MEMBERS_AT,
             pass: immediates_pass::start(),
             line: 1,
-            held: 0,
             state: State::Reading,
         }
     }
@@ -181,14 +180,25 @@ impl Session {
         }
     }
 
+    // Why the session stops, where it does.
+    fn put_stop(self, out: &mut Output)
+        ensures { Adds out.old (stop_bytes self) out.new }
+    {
+        match self.state {
+            State::Reading | State::Ended => {}
+            State::Stopped(stop) => out.put_stop(self.line, stop),
+        }
+    }
+
     /// Writes the answers that wait, and why the session stops if it does. After a write that failed nothing more is answered.
     pub fn flush<W: Write>(&mut self, out: &mut Output, to: &mut W)
-        ensures state { (written : Bool) × (self.new ≡ after_write written self.old) }
+        ensures state { (written : Bool) × (self.new ≡ after_write written self.old)
+            × (written ≡ true → length out.old.bytes ≡ 1114112 → (out.old.end ≤ 1114112)
+            × Appends (W.contents to.old) (W.contents to.new) (take out.old.end out.old.bytes ++ stop_bytes self.old)) }
         ensures none_waits { out.new.end ≡ 0 }
+        ensures room { length out.new.bytes ≡ length out.old.bytes }
     {
-        if let State::Stopped(stop) = self.state {
-            out.put_stop(self.line, stop);
-        }
+        self.put_stop(out);
         if out.flush(to).is_err() {
             self.state = State::Stopped(Stop::Input(ReadError::Failed));
         }

@@ -1,0 +1,2 @@
+pub mod Transcript
+pub mod Serving
