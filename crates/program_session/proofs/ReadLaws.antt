@@ -12,8 +12,8 @@ use Rattle.program_output.proofs.SendsLaws.{sends_none}
 use Rattle.program_commands.specs.declared.State.{State}
 use Rattle.program_commands.specs.declared.State.TheVariants as state
 use Rattle.program_commands.specs.Commands.{stopped, bytes_at, stop_bytes}
-use Rattle.program_answers.specs.Answered.{Held}
-use Rattle.program_session.specs.Transcript.{lines, rest, with_session, stops, has_stopped, after_lines, said, transcript_from, at_end, end_from}
+use Rattle.program_answers.specs.Answered.{Held, with_session}
+use Rattle.program_session.specs.Transcript.{lines, rest, stops, has_stopped, after_lines, said, transcript_from, at_end, end_from}
 use Rattle.program_session.specs.Serving.{Unended, ended_if, kept, Says, Heard}
 use Rattle.program_session.proofs.LineLaws.{nl, unended, unended_nil, rest_short, rest_stands}
 use Rattle.program_session.proofs.TranscriptLaws.{stays, reads_on, stops_within, at_the_end, too_long_there}

@@ -13,8 +13,8 @@ use Rattle.program_commands.specs.declared.State.{State}
 use Rattle.program_commands.specs.declared.State.TheVariants as state
 use Rattle.program_commands.specs.Commands.{started, after_write, stop_bytes}
 use Rattle.std.specs.Prelude.{replicate}
-use Rattle.program_answers.specs.Answered.{Held, begun}
-use Rattle.program_session.specs.Transcript.{with_session, stops, has_stopped, transcript_from, transcript, end_from, ending, Tells, Answers}
+use Rattle.program_answers.specs.Answered.{Held, begun, with_session}
+use Rattle.program_session.specs.Transcript.{stops, has_stopped, transcript_from, transcript, end_from, ending, Tells, Answers}
 use Rattle.program_session.specs.Serving.{failed_at, has_failed, Onward, Heard, Turned}
 
 -- ---- all that was sent is written

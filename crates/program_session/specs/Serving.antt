@@ -9,8 +9,8 @@ use Rattle.program_output.specs.Written.{Sends}
 use Rattle.program_commands.specs.declared.State.{State}
 use Rattle.program_commands.specs.declared.State.TheVariants as state
 use Rattle.program_commands.specs.Commands.{stop_bytes}
-use Rattle.program_answers.specs.Answered.{Held}
-use Rattle.program_session.specs.Transcript.{lines, rest, with_session, has_stopped, transcript_from, end_from}
+use Rattle.program_answers.specs.Answered.{Held, with_session}
+use Rattle.program_session.specs.Transcript.{lines, rest, has_stopped, transcript_from, end_from}
 
 -- no newline stands in them
 abbrev pub Unended : List ℕ → Type 0

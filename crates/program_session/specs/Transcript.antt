@@ -4,11 +4,10 @@ use Rattle.std.specs.Prelude.{◌≡◌, Bool, true, false, cond, List, [], ◌�
 use Rattle.std.specs.Io.KnownBytes.{Appends}
 use Rattle.program_input.specs.declared.ReadError.TheVariants as error
 use Rattle.program_output.specs.declared.Stop.TheVariants as stop
-use Rattle.program_commands.specs.declared.Session.{Session}
 use Rattle.program_commands.specs.declared.State.{State}
 use Rattle.program_commands.specs.declared.State.TheVariants as state
 use Rattle.program_commands.specs.Commands.{stopped, stop_bytes}
-use Rattle.program_answers.specs.Answered.{Held, Answered, begun, answered}
+use Rattle.program_answers.specs.Answered.{Held, Answered, begun, with_session, answered}
 
 -- ---- the lines of the input, each up to a newline, 10; `front` is what stands of the first line already
 unfoldable pub lines_after : (front : List ℕ) → List ℕ → List (List ℕ)
@@ -27,9 +26,6 @@ abbrev pub rest : List ℕ → List ℕ
 rest bytes = rest_after [] bytes
 
 -- ---- a line of more than 65,535 bytes stops the session; any other is answered
-abbrev pub with_session : Session → Held → Held
-with_session s h = record h { session = s }
-
 abbrev pub too_long : Held → Answered
 too_long h = record { held = with_session (stopped (stop.Input error.Long) h.session) h; bytes = [] }
 
