@@ -35,7 +35,7 @@ pub struct Program {
 const LONGEST: usize = 262144;
 
 /// So many zeros, as a program's memory begins.
-// Kept: for any number of them: the proof of what a program holds at first would count each of so many.
+// Kept: beside `program_files::filled`, whose contract says each item and no list, so that no proof writes out a million of them.
 pub fn zeros<const N: usize>() -> [u32; N]
     ensures { result ≡ replicate N 0 }
 {

@@ -1,17 +1,17 @@
 -- What is sent one after the other.
 -- Assumes nothing.
 use mathlib.Core.Path.{◌≡◌, refl, sym, ◌∙◌, ap}
-use mathlib.Core.List.{List, [], ◌∷◌, ◌++◌, append_assoc}
+use mathlib.Core.List.{List, [], ◌∷◌, ◌++◌}
 use mathlib.Core.Logic.{◌⊎◌, inl, inr}
 use Prim.Native.Nat.{ℕ, ◌+◌, ◌≤◌, ◌<◌}
 use native.Mathlib.Decide.{dec_le}
 use native.Mathlib.Omega.{arith}
 use lib.ListN.{length, take, length-append, length-take}
 use lib.Seq.{take_all, length-take-le}
-use Rattle.std.specs.Prelude.{Bool, true, false, Option, None, Some}
+use Rattle.std.specs.Prelude.{Bool, true, false, Option, Some}
 use Rattle.std.proofs.lemmas.Bool.{false≢true}
-use Rattle.std.specs.Io.KnownBytes.{Appends, append_known, Keeps}
-use Rattle.std.proofs.KnownBytes.{Appends-nil, Appends-trans}
+use Rattle.std.specs.Io.KnownBytes.{Appends}
+use Rattle.std.proofs.KnownBytes.{Appends-nil, Appends-trans, Keeps-refl, append_known-grown}
 use Rattle.program_output.specs.declared.Output.{Output}
 use Rattle.program_output.specs.Bytes.{room, Adds}
 use Rattle.program_output.specs.Written.{total, Sends}
@@ -33,10 +33,6 @@ sends_both {w} {v} {u} {a} {b} {c} {x} {y} p q =
       ];
     }
 
-known : (w : Option (List ℕ)) (was is x : List ℕ) → is ≡ was ++ x → Appends (append_known w was) (append_known w is) x
-known None was is x e = tt
-known (Some xs) was is x e = ap (λ (l : List ℕ). xs ++ l) e ∙ sym (append_assoc xs was x)
-
 whole : (a b : Output) (x : List ℕ) → Adds a x b → length a.bytes ≡ room → b.end ≤ room → take (b.end) (b.bytes) ≡ take (a.end) (a.bytes) ++ x
 whole a b x p full fits =
     let less : a.end ≤ length a.bytes = omega (arith, p.ends, full, fits) in
@@ -48,7 +44,7 @@ sends_adds w {a} {b} {x} p =
       past = λ h. omega (arith, p.ends, h);
       keeps = p.keeps;
       sends = λ full. elim (dec_le (b.end) room) [
-        | yes fits ↦ inr (known w _ _ _ (whole a b x p full fits))
+        | yes fits ↦ inr (append_known-grown _ w _ _ _ (Keeps-refl _) (whole a b x p full fits))
         | no lost ↦ inl (omega (arith, lost))
       ];
     }

@@ -63,14 +63,6 @@ impl Write for Standard {
     }
 }
 
-// Zeros.
-// Kept: for any number of them: the proof of how many there are would count each of a million.
-fn zeros<const N: usize>() -> [u8; N]
-    ensures { length result ≡ N }
-{
-    [0; N]
-}
-
 impl Output {
     /// Nothing waits.
     pub fn new() -> Output
@@ -78,7 +70,7 @@ impl Output {
         ensures room { length result.bytes ≡ 1114112 }
     {
         Output {
-            bytes: zeros(),
+            bytes: program_files::filled(0),
             end: 0,
         }
     }

@@ -1,5 +1,5 @@
 -- `program_files::read_all` meets its contract: what came is after what is held. Assumes nothing.
-use Rattle.std.proofs.Common.{take, drop, take-add, sym, ap, arith, ◌∙◌, ◌++◌}
+use Rattle.std.proofs.Common.{take-add, arith, ◌∙◌}
 use Rattle.std.proofs.KnownBytes.{Consumes-trans}
 use Rattle.program_files.proofs.read_all.Goals as goal
 
@@ -9,5 +9,5 @@ loop-more-preserved g c =
     let came = c.in_ok-more.ensures in
     let more = c.in_ok-more.more in
     let is = c.read_after.new.buffer in
-    let front = ap (λ x. x ++ take more (drop l.held is)) came.buffer.3 in
-    rw (take-add l.held more is, came.buffer.3) (omega (arith, came.buffer.0, came.buffer.1, l.invariant.1), came.buffer.2 ∙ l.invariant.1, Consumes-trans _ _ _ _ _ l.invariant.2 came.bytes.0)
+    rw (take-add l.held more is, came.buffer.3)
+    (omega (arith, came.buffer.0, came.buffer.1, l.invariant.1), came.buffer.2 ∙ l.invariant.1, Consumes-trans _ _ _ _ _ l.invariant.2 came.bytes.0)
