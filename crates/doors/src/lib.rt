@@ -22,7 +22,9 @@ ghost use Rattle.spirv_read.specs.Read.{read_into, section_of, types_after, memb
 ghost use Rattle.wgsl_read.specs.Text.{text_of, answer_of, types_left, members_left};
 ghost use Rattle.order_call.specs.Call.{ordered};
 ghost use Rattle.order_words.specs.Words.{order_outcome, with_found};
-ghost use Rattle.doors_words.specs.Words.{slots_outcome, place_outcome, totals_outcome, plain_outcome, byte_of, leaf_of, carried_of, wasted_of, part_start, part_length, with_answer, with_two, with_numbers, with_masks, with_pass, with_tried, tried_in, pass_rows, with_one, section_outcome, types_read, members_read, text_outcome, text_types, text_members};
+ghost use Rattle.doors_words.specs.Words.{slots_outcome, place_outcome, totals_outcome, plain_outcome, byte_of, leaf_of, carried_of, wasted_of, part_start};
+ghost use Rattle.doors_words.specs.Words.{part_length, with_answer, with_two, with_numbers, with_masks, with_pass, with_tried, tried_in, pass_rows};
+ghost use Rattle.doors_words.specs.Words.{with_one, section_outcome, types_read, members_read, text_outcome, text_types, text_members};
 
 use immediates_ranges::Slots;
 use ir_records::Refusal;
@@ -226,7 +228,8 @@ pub fn wuldazin_slots(
 )
     ensures rows_after { rows.new ≡ arena_words (rule_of rule) (capabilities_by rule capabilities) types.now members.now rows.old }
     ensures mask_after { mask.new ≡ with_masks mask.old (slots_answer (capabilities_by rule capabilities) types.now members.now rows.old ty offset) }
-    ensures answer_after { answer.new ≡ with_answer answer.old (slots_outcome (slots_answer (capabilities_by rule capabilities) types.now members.now rows.old ty offset)) }
+    ensures answer_after { answer.new ≡
+        with_answer answer.old (slots_outcome (slots_answer (capabilities_by rule capabilities) types.now members.now rows.old ty offset)) }
 {
     let found = slots_by(types, members, capabilities, rule, rows, ty, offset);
     doors_words::put_masks(mask, found);
@@ -267,8 +270,11 @@ pub fn wuldazin_place(
     answer: &mut [u32],
 )
     ensures rows_after { rows.new ≡ arena_words (rule_of rule) (capabilities_by rule capabilities) types.now members.now rows.old }
-    ensures place_after { place.new ≡ with_two place.old (byte_of (lookup_answer (capabilities_by rule capabilities) types.now members.now rows.old start steps.now)) (leaf_of (lookup_answer (capabilities_by rule capabilities) types.now members.now rows.old start steps.now)) }
-    ensures answer_after { answer.new ≡ with_answer answer.old (place_outcome (lookup_answer (capabilities_by rule capabilities) types.now members.now rows.old start steps.now)) }
+    ensures place_after { place.new ≡
+        with_two place.old (byte_of (lookup_answer (capabilities_by rule capabilities) types.now members.now rows.old start steps.now))
+        (leaf_of (lookup_answer (capabilities_by rule capabilities) types.now members.now rows.old start steps.now)) }
+    ensures answer_after { answer.new ≡
+        with_answer answer.old (place_outcome (lookup_answer (capabilities_by rule capabilities) types.now members.now rows.old start steps.now)) }
 {
     let found = place_by(types, members, capabilities, rule, rows, start, steps);
     doors_words::put_place(place, found);
@@ -288,7 +294,9 @@ pub fn wuldazin_place_short(
     answer: &mut [u32],
 )
     ensures scratch_after { scratch.new ≡ short_words capabilities types.now members.now scratch.old }
-    ensures place_after { place.new ≡ with_two place.old (byte_of (short_lookup capabilities types.now members.now scratch.old start steps.now)) (leaf_of (short_lookup capabilities types.now members.now scratch.old start steps.now)) }
+    ensures place_after { place.new ≡
+        with_two place.old (byte_of (short_lookup capabilities types.now members.now scratch.old start steps.now))
+        (leaf_of (short_lookup capabilities types.now members.now scratch.old start steps.now)) }
     ensures answer_after { answer.new ≡ with_answer answer.old (place_outcome (short_lookup capabilities types.now members.now scratch.old start steps.now)) }
 {
     let found = place_short::lookup(types, members, capabilities, scratch, start, steps);
@@ -327,8 +335,11 @@ pub fn wuldazin_report(
 )
     ensures rows_after { rows.new ≡ report_rows (rule_of rule) (capabilities_by rule capabilities) types.now members.now rows.old report.old }
     ensures report_after { report.new ≡ report_words (capabilities_by rule capabilities) types.now members.now rows.old report.old }
-    ensures totals_after { totals.new ≡ with_two totals.old (carried_of (report_answer (capabilities_by rule capabilities) types.now members.now rows.old report.old)) (wasted_of (report_answer (capabilities_by rule capabilities) types.now members.now rows.old report.old)) }
-    ensures answer_after { answer.new ≡ with_answer answer.old (totals_outcome (report_answer (capabilities_by rule capabilities) types.now members.now rows.old report.old)) }
+    ensures totals_after { totals.new ≡
+        with_two totals.old (carried_of (report_answer (capabilities_by rule capabilities) types.now members.now rows.old report.old))
+        (wasted_of (report_answer (capabilities_by rule capabilities) types.now members.now rows.old report.old)) }
+    ensures answer_after { answer.new ≡
+        with_answer answer.old (totals_outcome (report_answer (capabilities_by rule capabilities) types.now members.now rows.old report.old)) }
 {
     let found = report_by(types, members, capabilities, rule, rows, report);
     doors_words::put_totals(totals, found);
@@ -364,7 +375,8 @@ pub fn wuldazin_pass_choose(
 )
     ensures rows_after { rows.new ≡ pass_rows pass.old (rule_of rule) (capabilities_by rule capabilities) types.now members.now rows.old }
     ensures pass_after { pass.new ≡ with_tried pass.old (tried_in pass.old (Choose (capabilities_by rule capabilities) types.now members.now rows.old ty)) }
-    ensures answer_after { answer.new ≡ with_answer answer.old (tried_in pass.old (Choose (capabilities_by rule capabilities) types.now members.now rows.old ty)).outcome }
+    ensures answer_after { answer.new ≡
+        with_answer answer.old (tried_in pass.old (Choose (capabilities_by rule capabilities) types.now members.now rows.old ty)).outcome }
 {
     let outcome = choose(types, members, capabilities, rule, rows, ty, pass);
     doors_words::put_answer(answer, &outcome);
@@ -418,7 +430,9 @@ pub fn wuldazin_read_spirv(
 )
     ensures types_after { types.new ≡ types_after (read_into words.now types.old members.old) types.old }
     ensures members_after { members.new ≡ members_after (read_into words.now types.old members.old) members.old }
-    ensures counts_after { counts.new ≡ with_two counts.old (types_read (section_of (read_into words.now types.old members.old))) (members_read (section_of (read_into words.now types.old members.old))) }
+    ensures counts_after { counts.new ≡
+        with_two counts.old (types_read (section_of (read_into words.now types.old members.old)))
+        (members_read (section_of (read_into words.now types.old members.old))) }
     ensures answer_after { answer.new ≡ with_answer answer.old (section_outcome (section_of (read_into words.now types.old members.old))) }
 {
     let section = spirv_reader::read_module(words, types, members);
@@ -437,7 +451,9 @@ pub fn wuldazin_read_wgsl(
 )
     ensures types_after { types.new ≡ types_left (text_of (length types.old) (length members.old) text.now) types.old }
     ensures members_after { members.new ≡ members_left (text_of (length types.old) (length members.old) text.now) members.old }
-    ensures counts_after { counts.new ≡ with_two counts.old (text_types (answer_of (text_of (length types.old) (length members.old) text.now))) (text_members (answer_of (text_of (length types.old) (length members.old) text.now))) }
+    ensures counts_after { counts.new ≡
+        with_two counts.old (text_types (answer_of (text_of (length types.old) (length members.old) text.now)))
+        (text_members (answer_of (text_of (length types.old) (length members.old) text.now))) }
     ensures answer_after { answer.new ≡ with_answer answer.old (text_outcome (answer_of (text_of (length types.old) (length members.old) text.now))) }
 {
     let found = wgsl_read::read(text, types, members);
@@ -461,10 +477,15 @@ pub fn wuldazin_order(
     answer: &mut [u32],
 )
     ensures types_after { types.new ≡ (ordered (rule_of rule) (capabilities_by rule capabilities) types.old n members.old m rows.old wanted.now span).types }
-    ensures members_after { members.new ≡ (ordered (rule_of rule) (capabilities_by rule capabilities) types.old n members.old m rows.old wanted.now span).members }
+    ensures members_after { members.new ≡
+        (ordered (rule_of rule) (capabilities_by rule capabilities) types.old n members.old m rows.old wanted.now span).members }
     ensures rows_after { rows.new ≡ (ordered (rule_of rule) (capabilities_by rule capabilities) types.old n members.old m rows.old wanted.now span).rows }
-    ensures found_after { found.new ≡ with_found found.old (length wanted.now) (ordered (rule_of rule) (capabilities_by rule capabilities) types.old n members.old m rows.old wanted.now span).answer }
-    ensures answer_after { answer.new ≡ with_answer answer.old (order_outcome (ordered (rule_of rule) (capabilities_by rule capabilities) types.old n members.old m rows.old wanted.now span).answer) }
+    ensures found_after { found.new ≡
+        with_found found.old (length wanted.now)
+        (ordered (rule_of rule) (capabilities_by rule capabilities) types.old n members.old m rows.old wanted.now span).answer }
+    ensures answer_after { answer.new ≡
+        with_answer answer.old (order_outcome
+        (ordered (rule_of rule) (capabilities_by rule capabilities) types.old n members.old m rows.old wanted.now span).answer) }
 {
     doors_order::order_into(
         types,

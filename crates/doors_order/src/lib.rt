@@ -27,9 +27,11 @@ fn order(
     span: u32,
 ) -> Result<OrderedStruct, Refusal>
     ensures places { IfOk result (λ o. o.order.n ≡ length wanted.now) }
-    ensures value { order_answer_of result ≡ (ordered (rule_of rule) (capabilities_by rule capabilities) types.old n members.old m rows.old wanted.now span).answer }
+    ensures value { order_answer_of result ≡
+        (ordered (rule_of rule) (capabilities_by rule capabilities) types.old n members.old m rows.old wanted.now span).answer }
     ensures types_after { types.new ≡ (ordered (rule_of rule) (capabilities_by rule capabilities) types.old n members.old m rows.old wanted.now span).types }
-    ensures members_after { members.new ≡ (ordered (rule_of rule) (capabilities_by rule capabilities) types.old n members.old m rows.old wanted.now span).members }
+    ensures members_after { members.new ≡
+        (ordered (rule_of rule) (capabilities_by rule capabilities) types.old n members.old m rows.old wanted.now span).members }
     ensures rows_after { rows.new ≡ (ordered (rule_of rule) (capabilities_by rule capabilities) types.old n members.old m rows.old wanted.now span).rows }
 {
     let by = UniformRule::try_from(rule)?;
@@ -59,10 +61,15 @@ pub fn order_into(
     answer: &mut [u32],
 )
     ensures types_after { types.new ≡ (ordered (rule_of rule) (capabilities_by rule capabilities) types.old n members.old m rows.old wanted.now span).types }
-    ensures members_after { members.new ≡ (ordered (rule_of rule) (capabilities_by rule capabilities) types.old n members.old m rows.old wanted.now span).members }
+    ensures members_after { members.new ≡
+        (ordered (rule_of rule) (capabilities_by rule capabilities) types.old n members.old m rows.old wanted.now span).members }
     ensures rows_after { rows.new ≡ (ordered (rule_of rule) (capabilities_by rule capabilities) types.old n members.old m rows.old wanted.now span).rows }
-    ensures found_after { found.new ≡ with_found found.old (length wanted.now) (ordered (rule_of rule) (capabilities_by rule capabilities) types.old n members.old m rows.old wanted.now span).answer }
-    ensures answer_after { answer.new ≡ with_answer answer.old (order_outcome (ordered (rule_of rule) (capabilities_by rule capabilities) types.old n members.old m rows.old wanted.now span).answer) }
+    ensures found_after { found.new ≡
+        with_found found.old (length wanted.now)
+        (ordered (rule_of rule) (capabilities_by rule capabilities) types.old n members.old m rows.old wanted.now span).answer }
+    ensures answer_after { answer.new ≡
+        with_answer answer.old (order_outcome
+        (ordered (rule_of rule) (capabilities_by rule capabilities) types.old n members.old m rows.old wanted.now span).answer) }
 {
     let made = order(types, n, members, m, capabilities, rule, rows, wanted, span);
     put_found(found, made);

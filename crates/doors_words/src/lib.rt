@@ -7,7 +7,8 @@ ghost use Rattle.immediates_ranges.specs.Slots.{slots_answer_of};
 ghost use Rattle.place_lookup.specs.Answer.{place_answer_of};
 ghost use Rattle.place_report.specs.Answer.{report_answer_of};
 ghost use Rattle.proc_plain_types.specs.PlainTypes.{plain_answer_of};
-ghost use Rattle.doors_words.specs.Words.{byte_of, leaf_of, carried_of, wasted_of, with_front, with_answer, with_two, with_numbers, with_masks, with_pass, with_one};
+ghost use Rattle.doors_words.specs.Words.{byte_of, leaf_of, carried_of, wasted_of, with_front, with_answer};
+ghost use Rattle.doors_words.specs.Words.{with_two, with_numbers, with_masks, with_pass, with_one};
 ghost use Rattle.doors_words.specs.Read.{read_outcome, records_of};
 ghost use Rattle.doors_words.specs.Serving.{PassIn};
 
@@ -34,15 +35,7 @@ pub fn put_answer<T>(answer: &mut [u32], outcome: &Result<T, Refusal>)
 {
     match outcome {
         Ok(_) => put_front(answer, [0; 4]),
-        Err(refusal) => put_front(
-            answer,
-            [
-                u32::from(refusal.fault),
-                refusal.ty,
-                refusal.member,
-                refusal.detail,
-            ],
-        ),
+        Err(refusal) => put_front(answer, refusal.words()),
     }
 }
 

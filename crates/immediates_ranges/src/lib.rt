@@ -2,7 +2,8 @@
 #![tactic(auto)]
 
 ghost use Rattle.std.specs.Prelude.{◌≡◌, ◌≤◌};
-ghost use Rattle.immediates_ranges.specs.Slots.{slot_count, slot_bytes, mask_of, range_slots, contains, difference, union, join, part_answer, mask_in, slots_found, slots_answer_of};
+ghost use Rattle.immediates_ranges.specs.Slots.{slot_count, slot_bytes, mask_of, range_slots, contains, difference};
+ghost use Rattle.immediates_ranges.specs.Slots.{union, join, part_answer, mask_in, slots_found, slots_answer_of};
 ghost use Rattle.immediates_ranges.specs.Serving.{cuts};
 
 use ir_records::{Fault, Refusal};

@@ -32,7 +32,7 @@ use Rattle.immediates_ranges.specs.Slots.{Slots}
 use Rattle.immediates_ranges.specs.Slots.{Mask, Past}
 use Rattle.immediates_ranges.specs.Answer as answer
 use Rattle.immediates_ranges.specs.Slots.{slot_count, mask_by, part_answer}
-use Rattle.immediates_walk.specs.Walk.{CoveredBy, slots_at}
+use Rattle.immediates_walk.specs.Walk.{SetWhereCovered, slots_at}
 use Rattle.immediates_walk.proofs.MeasuredLaws.{accepted_parts, layout_measured, layout_size}
 use Rattle.immediates_walk.proofs.SlotLaws.{walk_slot}
 use Rattle.immediates_slots.specs.Immediates.{type_answer, slots_answer}
@@ -144,6 +144,6 @@ unfolding slots_answer
 answer_mask c ts ms rows ty offset m p e = type_mask ts ms ty offset (arena_answer c ts ms rows) m p e
 
 -- slot k of a mask that the call answers is set exactly where a non-struct part of the type covers it, by the mask's own test
-pub call_slot : (partly : Bool) (c : ℕ) (ts ms rows : List ℕ) (ty offset m p : ℕ) → slots_answer c ts ms rows ty offset ≡ answer.Slots m p → (k : ℕ) → k < slot_count
-    → (T (bit (mask_by partly m p) k) → CoveredBy partly (decoded ts ms) ty offset k) × (CoveredBy partly (decoded ts ms) ty offset k → T (bit (mask_by partly m p) k))
+pub call_slot : (partly : Bool) (c : ℕ) (ts ms rows : List ℕ) (ty offset m p : ℕ) → slots_answer c ts ms rows ty offset ≡ answer.Slots m p
+    → SetWhereCovered partly (decoded ts ms) ty offset (mask_by partly m p)
 call_slot partly c ts ms rows ty offset m p e k h = walk_slot (decoded ts ms) partly k h ty offset m p (answer_mask c ts ms rows ty offset m p e)

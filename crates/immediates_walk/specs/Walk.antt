@@ -8,11 +8,26 @@ use Rattle.ir_records.specs.declared.TypeInner.{TypeInner}
 use Rattle.ir_records.specs.declared.TypeInner.TheVariants.{Plain, Array, RuntimeArray, Struct, Other}
 use Rattle.proc_alignment.specs.Alignment.{most}
 use Rattle.proc_type_methods.specs.TypeMethods.{size_of}
+use Rattle.valid_flags.specs.Flags.{bit}
 use Rattle.valid_type_flags.specs.TypeFlags.{is_struct}
 use Rattle.immediates_ranges.specs.Slots.{Slots}
 use Rattle.immediates_ranges.specs.Slots.{Mask, Past}
-use Rattle.immediates_ranges.specs.Slots.{covers_by, range_slots, join}
+use Rattle.immediates_ranges.specs.Slots.{slot_count, covers_by, range_slots, join}
 
+-- a non-struct part of type ty, which stands at `offset`, covers slot k, by the test of one of the two masks: the type itself where it is no
+-- struct, or a part of a member
+pub data CoveredBy (partly : Bool) (types : ℕ → Decoded) : (ty offset k : ℕ) → Type 0 where
+  by_whole : {ty offset k : ℕ} → is_struct (types ty).inner ≡ false → T (covers_by partly offset (size_of (types ty).inner) k) → CoveredBy partly types ty offset k
+  by_member : {ty offset k : ℕ} (count span j : ℕ) → (types ty).inner ≡ Struct count span → j < count
+      → CoveredBy partly types (member_type (types ty).members j) (offset + member_offset (types ty).members j) k
+      → CoveredBy partly types ty offset k
+
+-- what is said of either mask: a slot is set exactly where a non-struct part covers it, by the mask's own test
+abbrev pub SetWhereCovered : (partly : Bool) (types : ℕ → Decoded) (ty offset mask : ℕ) → Type 0
+SetWhereCovered partly types ty offset mask =
+    (k : ℕ) → k < slot_count → (T (bit mask k) → CoveredBy partly types ty offset k) × (CoveredBy partly types ty offset k → T (bit mask k))
+
+-- ---- the walk
 -- the first j members of a struct that stands at `offset`; number 25 where an offset sum leaves 32 bits.
 -- earlier: the slots of the types before it, each at an offset
 unfoldable pub members_slots : (earlier : ℕ → ℕ → Slots) (members : List ℕ) (offset : ℕ) → ℕ → Slots
@@ -40,11 +55,3 @@ slots_step types earlier i = ok (slots_of earlier (types i).inner (types i).memb
 -- of type ty of an arena at an offset, types in ascending order
 abbrev pub slots_at : (types : ℕ → Decoded) → (ty offset : ℕ) → Slots
 slots_at types = value_at no_slots (slots_step types)
-
--- a non-struct part of type ty, which stands at `offset`, covers slot k, by the test of one of the two masks: the type itself where it is no
--- struct, or a part of a member
-pub data CoveredBy (partly : Bool) (types : ℕ → Decoded) : (ty offset k : ℕ) → Type 0 where
-  by_whole : {ty offset k : ℕ} → is_struct (types ty).inner ≡ false → T (covers_by partly offset (size_of (types ty).inner) k) → CoveredBy partly types ty offset k
-  by_member : {ty offset k : ℕ} (count span j : ℕ) → (types ty).inner ≡ Struct count span → j < count
-      → CoveredBy partly types (member_type (types ty).members j) (offset + member_offset (types ty).members j) k
-      → CoveredBy partly types ty offset k

@@ -14,7 +14,7 @@ ghost use Rattle.immediates_part.specs.Part.{Past, part_in, part_found};
 ghost use Rattle.immediates_kept.specs.Kept.{Keeps};
 ghost use Rattle.immediates_walk.specs.Walk.{slots_at};
 ghost use Rattle.immediates_walk.specs.Parts.{Sizes, part_at};
-ghost use Rattle.immediates_walk.specs.Serving.{members_at};
+ghost use Rattle.immediates_walk.specs.Serving.{members_at, StopsAt};
 
 use immediates_kept::OfType;
 use immediates_part::Part;
@@ -74,8 +74,11 @@ impl<'a> Walk<'a> {
 // The members from where a walk stands, up to the first that is a struct; None where one before it is refused.
 fn plain_from(walk: Walk) -> Option<Taken>
     ensures from_le_taken { IfSome result (λ t. (walk.entry.from.taken ≤ t.taken) × (t.taken ≤ walk.entry.count)) }
-    ensures taken_bound { IfSome result (λ t. t.taken < walk.entry.count → (member_type (struct_members walk.entry.of.types.now walk.entry.of.members.now walk.entry.of.ty) t.taken < walk.entry.of.ty) × (walk.entry.offset + member_offset (struct_members walk.entry.of.types.now walk.entry.of.members.now walk.entry.of.ty) t.taken ≤ most) × (type_word walk.entry.of.types.now (member_type (struct_members walk.entry.of.types.now walk.entry.of.members.now walk.entry.of.ty) t.taken) 0 ≡ struct_kind)) }
-    ensures value { MatchOption result (Past ≡ members_at walk.entry.of.types.now walk.entry.of.members.now walk.entry.of.ty walk.entry.offset walk.entry.count) (λ t. part_in t.part ≡ members_at walk.entry.of.types.now walk.entry.of.members.now walk.entry.of.ty walk.entry.offset t.taken) }
+    ensures taken_bound { IfSome result
+        (λ t. t.taken < walk.entry.count → StopsAt walk.entry.of.types.now walk.entry.of.members.now walk.entry.of.ty walk.entry.offset t.taken) }
+    ensures value { MatchOption result
+        (Past ≡ members_at walk.entry.of.types.now walk.entry.of.members.now walk.entry.of.ty walk.entry.offset walk.entry.count)
+        (λ t. part_in t.part ≡ members_at walk.entry.of.types.now walk.entry.of.members.now walk.entry.of.ty walk.entry.offset t.taken) }
 {
     let own = ir_records::struct_members(walk.of.types, walk.of.members, walk.of.ty);
     let mut part = walk.from.part;

@@ -3,7 +3,8 @@
 #![tactic(auto, unfolding(ir_records::specs::Fields::fields_ok))]
 
 ghost use Rattle.std.specs.Prelude.{◌≡◌, ◌&&◌, ℕ, ◌+◌, ◌*◌, ◌/◌, ◌≤◌, ◌<◌, ltb};
-ghost use Rattle.ir_records.specs.Record.{type_count, scalar_kind, vector_kind, matrix_kind, cooperative_matrix_kind, pointer_kind, value_pointer_kind, array_kind, struct_kind, image_kind, sampler_kind, acceleration_structure_kind, binding_array_kind};
+ghost use Rattle.ir_records.specs.Record.{type_count, scalar_kind, vector_kind, matrix_kind, cooperative_matrix_kind, pointer_kind, value_pointer_kind};
+ghost use Rattle.ir_records.specs.Record.{array_kind, struct_kind, image_kind, sampler_kind, acceleration_structure_kind, binding_array_kind};
 ghost use Rattle.ir_records.specs.Fields.{vector_size_ok, cooperative_size_ok, array_size_ok, fields_ok, fields_at, record_at};
 ghost use Rattle.ir_records.specs.Table.{first_refusal};
 ghost use Rattle.ir_records.specs.Result.{ok, require};

@@ -5,7 +5,8 @@
 #![tactic(auto)]
 
 ghost use Rattle.std.specs.Prelude.{◌≡◌, ◌&&◌, ℕ, ◌+◌, ◌*◌, ◌/◌, ◌≤◌, ◌<◌, eqb, length, get_or, take, drop, [], ◌∷◌};
-ghost use Rattle.ir_records.specs.Record.{type_word, type_count, member_words, member_count, member_type, member_offset, member_location, member_source, array_kind, inner_in, type_inner, struct_members, record_of, array_words};
+ghost use Rattle.ir_records.specs.Record.{type_word, type_count, member_words, member_count, member_type, member_offset, member_location};
+ghost use Rattle.ir_records.specs.Record.{member_source, array_kind, inner_in, type_inner, struct_members, record_of, array_words};
 ghost use Rattle.ir_records.specs.Serving.{record_words, size_of};
 ghost use Rattle.ir_records.specs.Kinds.{kind_number, NamesKind, NamesScalarKind};
 ghost use Rattle.ir_records.specs.Refusal.{number_of, type_refusal, refusal, at_type, RefusedUnless, LengthsTold};
@@ -217,6 +218,13 @@ impl Refusal {
             member: 0,
             detail: 0,
         }
+    }
+
+    /// The answer's four words: number, type, member, detail.
+    pub fn words(self) -> [u32; 4]
+        ensures { result ≡ number_of self.fault ∷ self.ty ∷ self.member ∷ self.detail ∷ [] }
+    {
+        [u32::from(self.fault), self.ty, self.member, self.detail]
     }
 }
 

@@ -38,10 +38,16 @@ pub fn tried(
     requires rows_bound { m + order.n ≤ 4096 }
     requires rows_in_bounds { (m + order.n) * 4 ≤ length members.old }
     requires by_index { (j : ℕ) → j < order.n → offset_of rows.old wanted.now (member_at order.n order.number) j ≤ most }
-    ensures value { outcome_of result ≡ arena_answer capabilities (types_with types.old n (struct_record m order.n span)) (members_with members.old m (member_rows rows.old wanted.now order.n (member_at order.n order.number))) rows.old }
+    ensures value { outcome_of result ≡
+        arena_answer capabilities (types_with types.old n (struct_record m order.n span))
+        (members_with members.old m (member_rows rows.old wanted.now order.n (member_at order.n order.number))) rows.old }
     ensures types_after { types.new ≡ if_accepted (outcome_of result) (with_part 6 types.old (n * 6) (struct_record m order.n span)) types.old }
-    ensures members_after { members.new ≡ if_accepted (outcome_of result) (with_part (order.n * 4) members.old (m * 4) (member_rows rows.old wanted.now order.n (member_at order.n order.number))) members.old }
-    ensures rows_after { rows.new ≡ arena_words rule capabilities (types_with types.old n (struct_record m order.n span)) (members_with members.old m (member_rows rows.old wanted.now order.n (member_at order.n order.number))) rows.old }
+    ensures members_after { members.new ≡
+        if_accepted (outcome_of result)
+        (with_part (order.n * 4) members.old (m * 4) (member_rows rows.old wanted.now order.n (member_at order.n order.number))) members.old }
+    ensures rows_after { rows.new ≡
+        arena_words rule capabilities (types_with types.old n (struct_record m order.n span))
+        (members_with members.old m (member_rows rows.old wanted.now order.n (member_at order.n order.number))) rows.old }
 {
     let t = (n as usize) * ir_records::TYPE_WORDS;
     let u = (m as usize) * ir_records::MEMBER_WORDS;

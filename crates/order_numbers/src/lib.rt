@@ -65,7 +65,8 @@ impl Order {
     /// The next number to try from this one on: itself where it is an order, else the least that holds other members up to its first bad place.
     pub fn next_try(self) -> u32
         requires { self.number < 823543 }
-        ensures { (result ≡ next_try self.n self.number (first_from (bad_place self.n (member_at self.n self.number)) self.n 0)) × (result ≤ self.number + 823543) }
+        ensures { (result ≡ next_try self.n self.number (first_from (bad_place self.n (member_at self.n self.number)) self.n 0))
+            × (result ≤ self.number + 823543) }
     {
         match self.first_bad() {
             Some(j) => self.after_place(j),

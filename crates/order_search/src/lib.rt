@@ -12,7 +12,8 @@ use order_placement::Given;
 // Whether a number is an order that is allowed and has at most the span; `next` is the number itself where it is an order.
 fn order_fits(given: Given, order: Order, last: Option<u32>, span: u32, next: u32) -> bool
     requires { 1 ≤ order.n }
-    ensures { result ≡ (eqb next order.number && stays_last order.n last (member_at order.n order.number) && leb (span_of given.entry.rows.now given.entry.wanted.now order.n (member_at order.n order.number)) span) }
+    ensures { result ≡ (eqb next order.number && stays_last order.n last (member_at order.n order.number) && leb
+        (span_of given.entry.rows.now given.entry.wanted.now order.n (member_at order.n order.number)) span) }
 {
     next == order.number && order.stays_last(last) && given.span_of(order) <= u64::from(span)
 }

@@ -26,7 +26,8 @@ pub struct Placed<'a> {
 fn put_row(members: &mut [u32], placed: Placed, j: u32)
     requires j_in_order { j < placed.order.n }
     requires rows_in_bounds { (placed.m + placed.order.n) * 4 ≤ length members.old }
-    ensures { members.new ≡ with_part 4 members.old ((placed.entry.m + j) * 4) (member_row placed.entry.given.rows.now placed.entry.given.wanted.now (member_at placed.entry.order.n placed.entry.order.number) j) }
+    ensures { members.new ≡ with_part 4 members.old ((placed.entry.m + j) * 4)
+        (member_row placed.entry.given.rows.now placed.entry.given.wanted.now (member_at placed.entry.order.n placed.entry.order.number) j) }
 {
     let member = placed.order.member_at(j);
     let ty = placed.given.type_of(member);
@@ -37,7 +38,9 @@ fn put_row(members: &mut [u32], placed: Placed, j: u32)
 // Those of all places.
 fn put_rows(members: &mut [u32], placed: Placed)
     requires { (placed.m + placed.order.n) * 4 ≤ length members.old }
-    ensures { members.new ≡ with_part (placed.entry.order.n * 4) members.old (placed.entry.m * 4) (member_rows placed.entry.given.rows.now placed.entry.given.wanted.now placed.entry.order.n (member_at placed.entry.order.n placed.entry.order.number)) }
+    ensures { members.new ≡ with_part (placed.entry.order.n * 4) members.old (placed.entry.m * 4)
+        (member_rows placed.entry.given.rows.now placed.entry.given.wanted.now placed.entry.order.n
+        (member_at placed.entry.order.n placed.entry.order.number)) }
 {
     for j in 0..placed.order.n {
         put_row(members, placed, j);
@@ -50,7 +53,10 @@ pub fn put_struct(types: &mut [u32], n: u32, members: &mut [u32], placed: Placed
     requires type_in_bounds { n * 6 + 6 ≤ length types.old }
     requires rows_in_bounds { (placed.m + placed.order.n) * 4 ≤ length members.old }
     ensures types_after { types.new ≡ with_part 6 types.old (n * 6) (struct_record placed.entry.m placed.entry.order.n span) }
-    ensures members_after { members.new ≡ with_part (placed.entry.order.n * 4) members.old (placed.entry.m * 4) (member_rows placed.entry.given.rows.now placed.entry.given.wanted.now placed.entry.order.n (member_at placed.entry.order.n placed.entry.order.number)) }
+    ensures members_after { members.new ≡
+        with_part (placed.entry.order.n * 4) members.old (placed.entry.m * 4)
+        (member_rows placed.entry.given.rows.now placed.entry.given.wanted.now placed.entry.order.n
+        (member_at placed.entry.order.n placed.entry.order.number)) }
 {
     let words = Words::of(Kind::Struct as u32, placed.m, placed.order.n, span, 0);
     wgsl_tables::put_type(types, n, words);

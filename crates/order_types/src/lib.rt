@@ -68,7 +68,8 @@ impl<'a> GivenTypes<'a> {
 
     // Another runtime array after the first.
     fn is_second(self) -> bool
-        ensures { result ≡ is_second self.entry.types.now self.entry.given.rows.now self.entry.n self.entry.given.wanted.now (first_of self.entry.types.now self.entry.given.rows.now self.entry.n self.entry.given.wanted.now 1 0) }
+        ensures { result ≡ is_second self.entry.types.now self.entry.given.rows.now self.entry.n self.entry.given.wanted.now
+            (first_of self.entry.types.now self.entry.given.rows.now self.entry.n self.entry.given.wanted.now 1 0) }
     {
         let Some(first) = self.first_of(Sort::RuntimeArray, 0) else {
             return false;

@@ -28,20 +28,17 @@ carried_and_wasted =
           record {
             in_leaf =
                 record {
-                  steps = h.steps;
-                  byte = h.byte;
-                  leaf = h.leaf;
-                  place = place_of_way ts ms t l h.way;
-                  from = omega (arith, h.from);
-                  below = omega (arith, h.below);
+                  leaf = record { steps = h.steps; byte = h.byte; ty = h.leaf; place = place_of_way ts ms t l h.way };
+                  has = (omega (arith, h.from), omega (arith, h.below));
                 };
             firsts = h.firsts;
           };
       every_leaf = λ rule c ts ms a t k i.
-          let p = i.in_leaf in
-          let w = way (step_in (decoded ts ms)) (leaf_in (decoded ts ms)) p.steps t 0 p.byte p.leaf (place_found ts ms t p.steps p.byte p.leaf p.place) in
+          let p = i.in_leaf.leaf in
+          let in_it = i.in_leaf.has in
+          let w = way (step_in (decoded ts ms)) (leaf_in (decoded ts ms)) p.steps t 0 p.byte p.ty (place_found ts ms t p.steps p.byte p.ty p.place) in
           rw sub-zero at
-          (has rule c (decoded ts ms) (type_count ts) (accepted_types c ts ms a) w (place_started ts ms t p.steps p.byte p.leaf p.place) i.firsts k p.from p.below);
+          (has rule c (decoded ts ms) (type_count ts) (accepted_types c ts ms a) w (place_started ts ms t p.steps p.byte p.ty p.place) i.firsts k in_it.0 in_it.1);
       wide = λ rule c ts ms a t l e. strides_wide rule c (decoded ts ms) (type_count ts) (accepted_types c ts ms a) t l e;
       not_wide = λ rule c ts ms a t l e. strides_narrow rule c (decoded ts ms) (type_count ts) (accepted_types c ts ms a) t l e;
     }

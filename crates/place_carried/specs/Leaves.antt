@@ -13,7 +13,7 @@ use Rattle.place_carried.specs.Carried.{in_leaf, carried, wasted, narrow}
 -- byte k of type t lies in a leaf, one of first elements: a runtime array counts as one element
 pub record InFirstLeaf (rule : UniformRule) (c : ℕ) (ts ms : List ℕ) (t k : ℕ) : Type 0 where
   pub in_leaf : InLeaf rule c ts ms t k
-  pub firsts : FirstElements (decoded ts ms) t in_leaf.steps
+  pub firsts : FirstElements (decoded ts ms) t in_leaf.leaf.steps
 
 pub record CarriedAndWasted : Type 0 where
   -- their sum equals the span

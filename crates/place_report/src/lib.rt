@@ -12,7 +12,8 @@ ghost use Rattle.ir_rows.specs.Rows.{row_word, with_part, cleared};
 ghost use Rattle.place_carried.specs.Serving.{leaf_carried};
 ghost use Rattle.place_report.specs.Report.{report_width};
 ghost use Rattle.place_report.specs.Serving.{entry_in, entry_words, array_bytes, members_bytes, leaf_bytes_of, leaf_bytes_at};
-ghost use Rattle.place_report.specs.Serving.{RowsOf, narrow_struct, first_pass_words, Carries, counts_of, counts_pair, AllCarry, totals_in, second_pass_words, fill_answer, fill_words};
+ghost use Rattle.place_report.specs.Serving.{RowsOf, narrow_struct, first_pass_words, Carries, counts_of, counts_pair};
+ghost use Rattle.place_report.specs.Serving.{AllCarry, totals_in, second_pass_words, fill_answer, fill_words};
 ghost use Rattle.place_report.specs.Answer.{report_answer_of};
 ghost use Rattle.place_report.specs.Report.{lengths_fit, report_answer, report_rows, report_words};
 

@@ -19,7 +19,7 @@ use Rattle.ir_records.proofs.ResultLaws.{true_T, T_true, and_right}
 use Rattle.ir_records.proofs.RecordLaws.{tables_fitting}
 use Rattle.ir_records.proofs.TableLaws.{flat_length, flat_word}
 use Rattle.ir_rows.specs.Rows.{row_word, cleared}
-use Rattle.proc_layouter.specs.Layouter.{rows_after}
+use Rattle.proc_layouter.specs.LentRows.{rows_after}
 use Rattle.valid_type_info.specs.declared.Row.{Row}
 use Rattle.valid_type_info.specs.declared.UniformRule.{UniformRule}
 use Rattle.valid_type_info.specs.TypeInfo.{words_of}

@@ -72,8 +72,10 @@ fn layout_all(arena: Recorded, words: &mut [u32]) -> Result<(), Refusal>
 fn judge_at(arena: Recorded, words: &mut [u32], i: u32) -> Result<(), Refusal>
     requires of_these { i < arena.n }
     requires i_in_bounds { i * 3 + 3 ≤ length words.old }
-    ensures value { outcome_of result ≡ outcome_at i (three_from arena.entry.capabilities arena.entry.types.now arena.entry.members.now (take (i * 3) words.old) i) }
-    ensures words_after { words.new ≡ written_after (three_from arena.entry.capabilities arena.entry.types.now arena.entry.members.now (take (i * 3) words.old) i) (i * 3) words.old }
+    ensures value { outcome_of result ≡
+        outcome_at i (three_from arena.entry.capabilities arena.entry.types.now arena.entry.members.now (take (i * 3) words.old) i) }
+    ensures words_after { words.new ≡
+        written_after (three_from arena.entry.capabilities arena.entry.types.now arena.entry.members.now (take (i * 3) words.old) i) (i * 3) words.old }
 {
     let at = (i as usize) * SHORT_WORDS;
     let inner = ir_records::type_inner(arena.types, i);
@@ -99,7 +101,8 @@ fn judge_at(arena: Recorded, words: &mut [u32], i: u32) -> Result<(), Refusal>
 fn judge_all(arena: Recorded, words: &mut [u32]) -> Result<(), Refusal>
     requires { arena.n * 3 ≤ length words.old }
     ensures value { outcome_of result ≡ first_refusal (three_result arena.entry.capabilities arena.entry.types.now arena.entry.members.now) arena.entry.n }
-    ensures words_after { outcome_of result ≡ Accepted → take (arena.entry.n * 3) words.new ≡ flat (three_at arena.entry.capabilities arena.entry.types.now arena.entry.members.now) arena.entry.n }
+    ensures words_after { outcome_of result ≡ Accepted
+        → take (arena.entry.n * 3) words.new ≡ flat (three_at arena.entry.capabilities arena.entry.types.now arena.entry.members.now) arena.entry.n }
     ensures words_unchanged { drop (arena.entry.n * 3) words.new ≡ drop (arena.entry.n * 3) words.old }
 {
     for i in 0..arena.n {
@@ -111,7 +114,8 @@ fn judge_all(arena: Recorded, words: &mut [u32]) -> Result<(), Refusal>
 // The refusal where one was found type by type: 4 to 7 of any type come before it. The words are zeroed.
 fn refused(arena: Recorded, words: &mut [u32], found: Refusal) -> Refusal
     requires { arena.n * 3 ≤ length words.old }
-    ensures value { refused_by result ≡ also (first_refusal (layout_at (decoded arena.entry.types.now arena.entry.members.now)) arena.entry.n) (refused_by found) }
+    ensures value { refused_by result ≡
+        also (first_refusal (layout_at (decoded arena.entry.types.now arena.entry.members.now)) arena.entry.n) (refused_by found) }
     ensures words_after { words.new ≡ cleared words.old (arena.entry.n * 3) }
 {
     let before = layout_all(arena, words);
@@ -125,7 +129,8 @@ fn judge_records(arena: Recorded, words: &mut [u32]) -> Result<(), Refusal>
     requires n_value { arena.n ≡ type_count arena.types.now }
     requires n_in_bounds { arena.n * 3 ≤ length words.old }
     ensures value { outcome_of result ≡ arena_outcome arena.entry.capabilities arena.entry.types.now arena.entry.members.now }
-    ensures words_after { words.new ≡ scratch_after (outcome_of result) arena.entry.capabilities arena.entry.types.now arena.entry.members.now arena.entry.n words.old }
+    ensures words_after { words.new ≡
+        scratch_after (outcome_of result) arena.entry.capabilities arena.entry.types.now arena.entry.members.now arena.entry.n words.old }
 {
     // Kept: no `map_err`, whose contract says what its closure answers and not what it writes; this one writes the words.
     if let Err(found) = judge_all(arena, words) {

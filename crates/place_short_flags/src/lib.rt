@@ -116,7 +116,9 @@ impl<'a> Judging<'a> {
         so_far: Bounds,
     ) -> Result<Bounds, TypeRefusal>
         requires { j < part.count }
-        ensures { judged result ≡ member_bounds part.entry.count span previous (type_inner self.entry.types.now (member_type part.entry.words.now j)) (member_offset part.entry.words.now j) j (short_sizes self.entry.words.now (member_type part.entry.words.now j)) (short_flags self.entry.words.now (member_type part.entry.words.now j)) so_far }
+        ensures { judged result ≡ member_bounds part.entry.count span previous (type_inner self.entry.types.now (member_type part.entry.words.now j))
+            (member_offset part.entry.words.now j) j (short_sizes self.entry.words.now (member_type part.entry.words.now j))
+            (short_flags self.entry.words.now (member_type part.entry.words.now j)) so_far }
     {
         let t = part.type_of(j);
         let offset = part.offset_of(j);
@@ -133,7 +135,9 @@ impl<'a> Judging<'a> {
 
     // The members of a struct, one after the other, by the rules that do not read blend sources.
     fn members_of(self, part: Members, span: u32) -> Result<Taken, TypeRefusal>
-        ensures result_value { taken_result result ≡ bounds_after (type_inner self.entry.types.now) (short_sizes self.entry.words.now) (short_flags self.entry.words.now) part.entry.count span part.entry.words.now part.entry.count }
+        ensures result_value { taken_result result ≡
+            bounds_after (type_inner self.entry.types.now) (short_sizes self.entry.words.now) (short_flags self.entry.words.now) part.entry.count span
+            part.entry.words.now part.entry.count }
         ensures sources_known { SourcesKnown part.entry.words.now result }
     {
         let mut bounds = Bounds {
@@ -160,7 +164,8 @@ impl<'a> Judging<'a> {
     // The flags of a struct: number 16, then its members, then its blend sources; those of members before a refused one come first.
     // Kept: beside `valid_structs::members_row`, which carries verdicts between the same steps and writes a row; see there.
     fn struct_flags(self, part: Members, span: u32) -> Result<u32, TypeRefusal>
-        ensures { judged result ≡ flags_of self.entry.capabilities (type_inner self.entry.types.now) (short_sizes self.entry.words.now) (short_flags self.entry.words.now) (Struct part.entry.count span) part.entry.words.now }
+        ensures { judged result ≡ flags_of self.entry.capabilities (type_inner self.entry.types.now) (short_sizes self.entry.words.now)
+            (short_flags self.entry.words.now) (Struct part.entry.count span) part.entry.words.now }
     {
         if part.count == 0 {
             return Err(TypeRefusal::of(Fault::EmptyStruct));
@@ -185,7 +190,8 @@ impl<'a> Judging<'a> {
     #[tactic(auto, unfolding(valid_types::specs::ValidateType::flags_of))]
     pub fn flags_of(self, inner: TypeInner, part: &[u32]) -> Result<u32, TypeRefusal>
         requires { (count span : ℕ) → inner ≡ Struct count span → length part.now ≡ count * member_words }
-        ensures { judged result ≡ flags_of self.entry.capabilities (type_inner self.entry.types.now) (short_sizes self.entry.words.now) (short_flags self.entry.words.now) inner part.now }
+        ensures { judged result ≡ flags_of self.entry.capabilities (type_inner self.entry.types.now) (short_sizes self.entry.words.now)
+            (short_flags self.entry.words.now) inner part.now }
     {
         match inner {
             TypeInner::Plain(leaf) => leaf_flags(self.capabilities, leaf),

@@ -23,7 +23,7 @@ use Rattle.place_descent.specs.Place.{place_of}
 use Rattle.place_lookup.specs.Answer.{Found}
 use Rattle.place_lookup.specs.Place.{place_answer, start_answer, lookup_answer}
 use Rattle.place_lookup.proofs.LookupLaws.{answer_accepted}
-use Rattle.place_term3.specs.Term3.{row_in, length_in, leaf_measure, HostShareableData, stride_covers, StridesCover}
+use Rattle.place_term3.specs.Term3.{row_in, length_in, leaf_measure, LeafAt, Has, HostShareableData, stride_covers, StridesCover}
 use Rattle.place_term3.specs.Calls.{leaf_left, CallsSpare}
 use Rattle.place_term3.proofs.StepLaws.{leaf_within}
 use Rattle.place_term3.proofs.ReachedLaws.{reached_within}
@@ -96,6 +96,7 @@ calls_spare rule c ts ms rows t s covers lent lent' steps steps' byte leaf byte'
       is_data = rw flags at s.is_data;
       host_shareable = rw flags at s.host_shareable;
     } in
-    rw (← m)
-    (term3.others rule c ts ms t shareable (covers_left rule c ts ms rows left t h covers) steps steps' byte leaf byte' leaf' p p' ne buffer bytes k lo
-    (subst (λ (x : ℕ). k < byte' + x) (sym m') hi))
+    let one : LeafAt (place_of ts ms t) = record { steps = steps; byte = byte; ty = leaf; place = p } in
+    let other : LeafAt (place_of ts ms t) = record { steps = steps'; byte = byte'; ty = leaf'; place = p' } in
+    let has : Has (leaf_measure rule c ts ms) other k = (lo, subst (λ (x : ℕ). k < byte' + x) (sym m') hi) in
+    rw (← m) (term3.others rule c ts ms t shareable (covers_left rule c ts ms rows left t h covers) one other ne k has buffer bytes)

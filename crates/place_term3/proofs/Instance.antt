@@ -30,7 +30,7 @@ use Rattle.valid_arena.proofs.ArenaLaws.{accepted_types}
 use Rattle.place_descent.specs.Place.{At, NoPlace}
 use Rattle.place_steps.specs.Steps.{step_of}
 use Rattle.place_descent.specs.Place.{place_of}
-use Rattle.place_term3.specs.Term3.{row_in, InLeaf, HostShareableData, stride_covers, StridesCover, rewrite}
+use Rattle.place_term3.specs.Term3.{row_in, LeafAt, InLeaf, HostShareableData, stride_covers, StridesCover, rewrite}
 use Rattle.place_term3.proofs.ReachedLaws.{strides_cover}
 use Rattle.place_term3.proofs.Term3Proof.{term3}
 
@@ -138,6 +138,19 @@ pub third_column : place_of types members 7 (1 ∷ 2 ∷ []) ≡ At 48 6
 unfolding place_of step_of type_inner inner_of struct_members
 third_column = refl
 
+-- the same as leaves
+abbrev the_f32 : LeafAt (place_of types members 5)
+the_f32 = record { steps = 0 ∷ 1 ∷ 1 ∷ []; byte = 28; ty = 0; place = in_array }
+
+abbrev the_vec3 : LeafAt (place_of types members 5)
+the_vec3 = record { steps = 1 ∷ 0 ∷ []; byte = 32; ty = 1; place = in_struct }
+
+abbrev the_second : LeafAt (place_of types members 7)
+the_second = record { steps = 1 ∷ 1 ∷ []; byte = 32; ty = 6; place = second_column }
+
+abbrev the_third : LeafAt (place_of types members 7)
+the_third = record { steps = 1 ∷ 2 ∷ []; byte = 48; ty = 6; place = third_column }
+
 -- the matrix without a column, a fourth column and a step after a column are no places
 pub no_places : (place_of types members 7 (1 ∷ []) ≡ NoPlace) × (place_of types members 7 (1 ∷ 3 ∷ []) ≡ NoPlace) × (place_of types members 7 (1 ∷ 1 ∷ 0 ∷ []) ≡ NoPlace)
 unfolding place_of step_of type_inner inner_of struct_members
@@ -156,30 +169,30 @@ pub stays : (rule : UniformRule) (buffer bytes : List ℕ) (k : ℕ) → 32 ≤ 
 unfolding type_inner inner_of
 stays rule buffer bytes k low high =
     rw (sizes rule).0 at
-    (term3.others rule 0 types members 5 (shareable rule) (covers rule) (0 ∷ 1 ∷ 1 ∷ []) (1 ∷ 0 ∷ []) 28 0 32 1 in_array in_struct different buffer bytes k low (rw (sizes rule).1 high))
+    (term3.others rule 0 types members 5 (shareable rule) (covers rule) the_f32 the_vec3 different k (low, rw (sizes rule).1 high) buffer bytes)
 
 -- the vec3<f32> lies within the struct's size, and at a multiple of its own storage alignment
 pub inside : (rule : UniformRule) → 32 + (row_in rule 0 types members 1).size ≤ (row_in rule 0 types members 5).size
 unfolding step_of type_inner inner_of struct_members
-inside rule = term3.within rule 0 types members 5 (shareable rule) (covers rule) (1 ∷ 0 ∷ []) 32 1 in_struct (tt, (tt, tt))
+inside rule = term3.within rule 0 types members 5 (shareable rule) (covers rule) the_vec3 (tt, (tt, tt))
 
 pub multiple : (rule : UniformRule) → alignment_in (row_in rule 0 types members 1).storage ∣ 32
-multiple rule = (term3.aligned rule 0 types members 5 (shareable rule) (rw (storage rule).0 tt) (1 ∷ 0 ∷ []) 32 1 in_struct).1
+multiple rule = (term3.aligned rule 0 types members 5 (shareable rule) (rw (storage rule).0 tt) the_vec3).1
 
 -- a column has 12 bytes: whatever is written to those of the second, those of the third stay
 pub column_stays : (rule : UniformRule) (buffer bytes : List ℕ) (k : ℕ) → 48 ≤ k → k < 60 → get_elem? (rewrite buffer 32 12 bytes) k ≡ get_elem? buffer k
 unfolding type_inner inner_of
 column_stays rule buffer bytes k low high =
-    term3.others rule 0 types members 7 (shareable_7 rule) (covers_7 rule) (1 ∷ 1 ∷ []) (1 ∷ 2 ∷ []) 32 6 48 6 second_column third_column different_columns buffer bytes k low high
+    term3.others rule 0 types members 7 (shareable_7 rule) (covers_7 rule) the_second the_third different_columns k (low, high) buffer bytes
 
 -- the four bytes between the two are in no leaf of the struct
 pub gap : (rule : UniformRule) (k : ℕ) → 44 ≤ k → k < 48 → ¬ InLeaf rule 0 types members 7 k
 unfolding type_inner inner_of
 gap rule k low high =
     (term3.gaps rule 0 types members 7 k).1 (shareable_7 rule) (covers_7 rule)
-    (record { steps = 1 ∷ 1 ∷ []; byte = 32; leaf = 6; place = second_column; columns = 3; rows = 3; kind = 2; width = 4; matrix = refl; past = low; below = high })
+    (record { leaf = the_second; columns = 3; rows = 3; kind = 2; width = 4; matrix = refl; past = low; below = high })
 
 -- so they stay too
 pub gap_stays : (rule : UniformRule) (buffer bytes : List ℕ) (k : ℕ) → 44 ≤ k → k < 48 → get_elem? (rewrite buffer 32 12 bytes) k ≡ get_elem? buffer k
 unfolding type_inner inner_of
-gap_stays rule buffer bytes k low high = (term3.gaps rule 0 types members 7 k).0 (gap rule k low high) (1 ∷ 1 ∷ []) 32 6 second_column buffer bytes
+gap_stays rule buffer bytes k low high = (term3.gaps rule 0 types members 7 k).0 (gap rule k low high) the_second buffer bytes

@@ -29,7 +29,7 @@ use Rattle.valid_arena.specs.Arena.{judge_outcome, arena_outcome, arena}
 use Rattle.place_descent.specs.Place.{At}
 use Rattle.place_steps.specs.Steps.{step_of}
 use Rattle.place_descent.specs.Place.{place_of}
-use Rattle.place_term3.specs.Term3.{row_in, HostShareableData, rewrite, leaf_measure}
+use Rattle.place_term3.specs.Term3.{row_in, LeafAt, Has, HostShareableData, Spares, leaf_measure}
 
 abbrev types : List ℕ
 types = 1 ∷ 3 ∷ 2 ∷ 4 ∷ 0 ∷ 0 ∷ 7 ∷ 0 ∷ 0 ∷ 2 ∷ 4 ∷ 0 ∷ []
@@ -62,14 +62,14 @@ different e = let z : ◌≡◌ {A = ℕ} 0 1 = cc in omega arith
 
 Others : Type 0
 Others = (rule : UniformRule) (c : ℕ) (ts ms : List ℕ) (t : ℕ) → HostShareableData rule c ts ms t
-    → (steps steps' : List ℕ) (byte leaf byte' leaf' : ℕ)
-    → place_of ts ms t steps ≡ At byte leaf → place_of ts ms t steps' ≡ At byte' leaf' → steps ≢ steps'
-    → (buffer bytes : List ℕ) (k : ℕ) → byte' ≤ k → k < byte' + leaf_measure rule c ts ms leaf'
-    → get_elem? (rewrite buffer byte (leaf_measure rule c ts ms leaf) bytes) k ≡ get_elem? buffer k
+    → (one other : LeafAt (place_of ts ms t)) → one.steps ≢ other.steps
+    → (k : ℕ) → Has (leaf_measure rule c ts ms) other k → Spares (leaf_measure rule c ts ms) one k
 
 false_without : Others → ⊥
 unfolding Others type_inner inner_of
 false_without f =
-    let h = f Older 0 types [] 1 shareable (0 ∷ []) (1 ∷ []) 0 0 4 0 first second different (7 ∷ 7 ∷ 7 ∷ 7 ∷ 7 ∷ []) (8 ∷ 8 ∷ 8 ∷ 8 ∷ 8 ∷ []) 4 (omega arith) (rw size (omega arith)) in
+    let one : LeafAt (place_of types [] 1) = record { steps = 0 ∷ []; byte = 0; ty = 0; place = first } in
+    let other : LeafAt (place_of types [] 1) = record { steps = 1 ∷ []; byte = 4; ty = 0; place = second } in
+    let h = f Older 0 types [] 1 shareable one other different 4 (omega arith, rw size (omega arith)) (7 ∷ 7 ∷ 7 ∷ 7 ∷ 7 ∷ []) (8 ∷ 8 ∷ 8 ∷ 8 ∷ 8 ∷ []) in
     let g = rw size at h in
     let z : ◌≡◌ {A = ℕ} 8 7 = cc in omega arith

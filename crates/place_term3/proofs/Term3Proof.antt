@@ -59,47 +59,49 @@ not_in_leaf : (rule : UniformRule) (c : ℕ) (ts ms : List ℕ) (t k : ℕ) → 
     → BetweenColumns ts ms t k → ¬ InLeaf rule c ts ms t k
 not_in_leaf rule c ts ms t k s v b f =
     let acc = accepted_types c ts ms s.accepted in
-    let w = way_to ts ms t b.steps b.byte b.leaf b.place in
-    let w' = way_to ts ms t f.steps f.byte f.leaf f.place in
+    let w = way_to ts ms t b.leaf.steps b.leaf.byte b.leaf.ty b.leaf.place in
+    let w' = way_to ts ms t f.leaf.steps f.leaf.byte f.leaf.ty f.leaf.place in
     let m' = leaf_reaches rule c (decoded ts ms) (type_count ts) acc w' s.within in
-    let r = matrix_column (decoded ts ms b.leaf).inner b.columns b.rows b.kind b.width b.matrix (row_in rule c ts ms b.leaf).size in
+    let r = matrix_column (decoded ts ms b.leaf.ty).inner b.columns b.rows b.kind b.width b.matrix (row_in rule c ts ms b.leaf.ty).size in
     ⊎_elim
     (λ same.
-    let z = same_place_of ts ms t same b.place f.place in
+    let z = same_place_of ts ms t same b.leaf.place f.leaf.place in
     let m = ap (leaf_measure rule c ts ms) z.1 in
-    omega (arith, z.0, r.0, b.past, f.below))
-    (λ apart. ⊎_elim (λ h. omega (arith, r.1, b.below, f.from)) (λ h. omega (arith, b.past, f.below)) apart)
+    omega (arith, z.0, r.0, b.past, f.has.1))
+    (λ apart. ⊎_elim (λ h. omega (arith, r.1, b.below, f.has.0)) (λ h. omega (arith, b.past, f.has.1)) apart)
     (disjoint rule c (decoded ts ms) (type_count ts) acc w w' s.within s.host_shareable v)
 
 -- term 3
 pub term3 : Term3
 term3 =
     record {
-      others = λ rule c ts ms t s v steps steps' byte leaf byte' leaf' e e' ne buffer bytes k lo hi.
+      others = λ rule c ts ms t s v one other ne k has buffer bytes.
           let acc = accepted_types c ts ms s.accepted in
-          let w = way_to ts ms t steps byte leaf e in
-          let w' = way_to ts ms t steps' byte' leaf' e' in
+          let w = way_to ts ms t one.steps one.byte one.ty one.place in
+          let w' = way_to ts ms t other.steps other.byte other.ty other.place in
           let m = leaf_reaches rule c (decoded ts ms) (type_count ts) acc w s.within in
           let m' = leaf_reaches rule c (decoded ts ms) (type_count ts) acc w' s.within in
-          rewrite_other buffer bytes byte (leaf_measure rule c ts ms leaf) k
+          rewrite_other buffer bytes one.byte (leaf_measure rule c ts ms one.ty) k
           (⊎_elim (λ same. absurd (ne same))
-          (λ apart. outside byte (leaf_measure rule c ts ms leaf) byte' (leaf_measure rule c ts ms leaf') k (closer byte _ _ byte' _ _ m m' apart) lo hi)
+          (λ apart.
+          outside one.byte (leaf_measure rule c ts ms one.ty) other.byte (leaf_measure rule c ts ms other.ty) k
+          (closer one.byte _ _ other.byte _ _ m m' apart) has.0 has.1)
           (disjoint rule c (decoded ts ms) (type_count ts) acc w w' s.within s.host_shareable v));
       gaps = λ rule c ts ms t k. (
-        λ f steps byte leaf e buffer bytes.
-            rewrite_other buffer bytes byte (leaf_measure rule c ts ms leaf) k
-            (none_of byte (leaf_measure rule c ts ms leaf) k
-            (λ h. f (record { steps = steps; byte = byte; leaf = leaf; place = e; from = h.0; below = h.1 }))),
+        λ none leaf buffer bytes.
+            rewrite_other buffer bytes leaf.byte (leaf_measure rule c ts ms leaf.ty) k
+            (none_of leaf.byte (leaf_measure rule c ts ms leaf.ty) k (λ h. none (record { leaf = leaf; has = h }))),
         not_in_leaf rule c ts ms t k,
       );
-      within = λ rule c ts ms t s v steps byte leaf e f.
+      within = λ rule c ts ms t s v leaf f.
           let acc = accepted_types c ts ms s.accepted in
-          let w = way_to ts ms t steps byte leaf e in
+          let w = way_to ts ms t leaf.steps leaf.byte leaf.ty leaf.place in
           let k = contained rule c (decoded ts ms) (type_count ts) acc w s.within v f in
           let m = leaf_reaches rule c (decoded ts ms) (type_count ts) acc w s.within in
           omega arith;
-      aligned = λ rule c ts ms t s k steps byte leaf e.
-          place_aligned rule c (decoded ts ms) (type_count ts) (accepted_types c ts ms s.accepted) s.within k (way_to ts ms t steps byte leaf e);
+      aligned = λ rule c ts ms t s k leaf.
+          place_aligned rule c (decoded ts ms) (type_count ts) (accepted_types c ts ms s.accepted) s.within k
+          (way_to ts ms t leaf.steps leaf.byte leaf.ty leaf.place);
       accepted = arena_more;
       kept = λ rule rule' c d adds ts ms ts' ms' a a' t h.
           let r : without_uniform (row_in rule c ts ms t) ≡ without_uniform (row_in rule' d (ts ++ ts') (ms ++ ms') t) =

@@ -19,7 +19,7 @@ use Rattle.valid_arena.specs.Arena.{arena, row}
 use Rattle.place_steps.specs.Step.{Step}
 use Rattle.place_steps.specs.Step.{To, Column, NoStep}
 use Rattle.place_steps.specs.Columns.{leaf_length}
-use Rattle.place_descent.specs.Place.{At}
+use Rattle.place_descent.specs.Place.{Place, At}
 use Rattle.place_descent.specs.Place.{step_in, place_of}
 
 -- flags, sizes and storage verdicts are what the arena check's definitions make of the records, by either uniform rule
@@ -37,28 +37,32 @@ length_in (Other o) size = size
 abbrev pub leaf_measure : (rule : UniformRule) (c : ℕ) (ts ms : List ℕ) → (leaf : ℕ) → ℕ
 leaf_measure rule c ts ms leaf = length_in (decoded ts ms leaf).inner (row_in rule c ts ms leaf).size
 
--- byte k of type t lies in a leaf
-pub record InLeaf (rule : UniformRule) (c : ℕ) (ts ms : List ℕ) (t k : ℕ) : Type 0 where
+-- a leaf: the steps that lead to it, its byte place and its type. `place_from` is the place's definition, from the type where the steps begin
+pub record LeafAt (place_from : List ℕ → Place) : Type 0 where
   pub steps : List ℕ
   pub byte : ℕ
-  pub leaf : ℕ
-  pub place : place_of ts ms t steps ≡ At byte leaf
-  pub from : byte ≤ k
-  pub below : k < byte + leaf_measure rule c ts ms leaf
+  pub ty : ℕ
+  pub place : place_from steps ≡ At byte ty
+
+-- byte k is one of the leaf's
+abbrev pub Has : {place_from : List ℕ → Place} → (measure : ℕ → ℕ) → LeafAt place_from → (k : ℕ) → Type 0
+Has measure leaf k = (leaf.byte ≤ k) × (k < leaf.byte + measure leaf.ty)
+
+-- byte k of type t lies in a leaf
+pub record InLeaf (rule : UniformRule) (c : ℕ) (ts ms : List ℕ) (t k : ℕ) : Type 0 where
+  pub leaf : LeafAt (place_of ts ms t)
+  pub has : Has (leaf_measure rule c ts ms) leaf k
 
 -- byte k of type t lies between columns: past the end of a column, and within a column step of its start
 pub record BetweenColumns (ts ms : List ℕ) (t k : ℕ) : Type 0 where
-  pub steps : List ℕ
-  pub byte : ℕ
-  pub leaf : ℕ
-  pub place : place_of ts ms t steps ≡ At byte leaf
+  pub leaf : LeafAt (place_of ts ms t)
   pub columns : ℕ
   pub rows : ℕ
   pub kind : ℕ
   pub width : ℕ
-  pub matrix : (decoded ts ms leaf).inner ≡ Plain (Matrix columns rows kind width)
-  pub past : byte + rows * width ≤ k
-  pub below : k < byte + column_step rows width
+  pub matrix : (decoded ts ms leaf.ty).inner ≡ Plain (Matrix columns rows kind width)
+  pub past : leaf.byte + rows * width ≤ k
+  pub below : k < leaf.byte + column_step rows width
 
 -- a host-shareable data type of an accepted arena: flags DATA and HOST_SHAREABLE
 pub record HostShareableData (rule : UniformRule) (c : ℕ) (ts ms : List ℕ) (t : ℕ) : Type 0 where
@@ -107,6 +111,10 @@ FirstElements types t (s ∷ steps) = first_element (types t).inner s × after (
 abbrev pub rewrite : (buffer : List ℕ) (byte size : ℕ) (bytes : List ℕ) → List ℕ
 rewrite buffer byte size bytes = sets buffer byte (take size bytes)
 
+-- with whatever bytes and in whatever buffer the leaf is rewritten, byte k stays
+abbrev pub Spares : {place_from : List ℕ → Place} → (measure : ℕ → ℕ) → LeafAt place_from → (k : ℕ) → Type 0
+Spares measure leaf k = (buffer bytes : List ℕ) → get_elem? (rewrite buffer leaf.byte (measure leaf.ty) bytes) k ≡ get_elem? buffer k
+
 -- every capability of c is one of d
 abbrev pub Adds : (c d : ℕ) → Type 0
 Adds c d = (b : ℕ) → T (bit c b) → T (bit d b)
@@ -114,25 +122,21 @@ Adds c d = (b : ℕ) → T (bit c b) → T (bit d b)
 pub record Term3 : Type 0 where
   -- whichever leaf is rewritten, with whatever bytes and in whatever buffer, no byte of any other leaf changes
   pub others : (rule : UniformRule) (c : ℕ) (ts ms : List ℕ) (t : ℕ) → HostShareableData rule c ts ms t → StridesCover (row_in rule c ts ms) (decoded ts ms) t
-      → (steps steps' : List ℕ) (byte leaf byte' leaf' : ℕ)
-      → place_of ts ms t steps ≡ At byte leaf → place_of ts ms t steps' ≡ At byte' leaf' → steps ≢ steps'
-      → (buffer bytes : List ℕ) (k : ℕ) → byte' ≤ k → k < byte' + leaf_measure rule c ts ms leaf'
-      → get_elem? (rewrite buffer byte (leaf_measure rule c ts ms leaf) bytes) k ≡ get_elem? buffer k
+      → (one other : LeafAt (place_of ts ms t)) → one.steps ≢ other.steps
+      → (k : ℕ) → Has (leaf_measure rule c ts ms) other k → Spares (leaf_measure rule c ts ms) one k
   -- E6 of 02: a write to one column spares the others and the gaps. A byte in no leaf is changed by no rewriting, whatever the flags and
   -- strides, and a byte between columns is in no leaf
   pub gaps : (rule : UniformRule) (c : ℕ) (ts ms : List ℕ) (t k : ℕ)
-      → (¬ InLeaf rule c ts ms t k
-      → (steps : List ℕ) (byte leaf : ℕ) → place_of ts ms t steps ≡ At byte leaf
-      → (buffer bytes : List ℕ) → get_elem? (rewrite buffer byte (leaf_measure rule c ts ms leaf) bytes) k ≡ get_elem? buffer k)
+      → (¬ InLeaf rule c ts ms t k → (leaf : LeafAt (place_of ts ms t)) → Spares (leaf_measure rule c ts ms) leaf k)
       × (HostShareableData rule c ts ms t → StridesCover (row_in rule c ts ms) (decoded ts ms) t → BetweenColumns ts ms t k → ¬ InLeaf rule c ts ms t k)
   -- every leaf lies within the type's size, those in runtime elements past the first aside
   pub within : (rule : UniformRule) (c : ℕ) (ts ms : List ℕ) (t : ℕ) → HostShareableData rule c ts ms t → StridesCover (row_in rule c ts ms) (decoded ts ms) t
-      → (steps : List ℕ) (byte leaf : ℕ) → place_of ts ms t steps ≡ At byte leaf → FirstElements (decoded ts ms) t steps
-      → byte + leaf_measure rule c ts ms leaf ≤ (row_in rule c ts ms t).size
+      → (leaf : LeafAt (place_of ts ms t)) → FirstElements (decoded ts ms) t leaf.steps
+      → leaf.byte + leaf_measure rule c ts ms leaf.ty ≤ (row_in rule c ts ms t).size
   -- whatever the strides, if the storage verdict is Ok, every leaf stands at a multiple of the leaf's own storage alignment
   pub aligned : (rule : UniformRule) (c : ℕ) (ts ms : List ℕ) (t : ℕ) → HostShareableData rule c ts ms t → T (is_ok (row_in rule c ts ms t).storage)
-      → (steps : List ℕ) (byte leaf : ℕ) → place_of ts ms t steps ≡ At byte leaf
-      → T (is_ok (row_in rule c ts ms leaf).storage) × (alignment_in (row_in rule c ts ms leaf).storage ∣ byte)
+      → (leaf : LeafAt (place_of ts ms t))
+      → T (is_ok (row_in rule c ts ms leaf.ty).storage) × (alignment_in (row_in rule c ts ms leaf.ty).storage ∣ leaf.byte)
   -- an accepted arena stays accepted whichever of 01's capabilities are added
   pub accepted : (c d : ℕ) → Adds c d → T (capabilities_known d) → (ts ms : List ℕ) → arena c ts ms ≡ Accepted → arena d ts ms ≡ Accepted
   -- capabilities added, types appended with further member records or both, accepted before and after: each type it had keeps its

@@ -22,7 +22,8 @@ use Rattle.ir_rows.proofs.RowLaws.{flat_more, drop_part}
 use Rattle.proc_type_alignment.specs.declared.TypeLayout.{TypeLayout}
 use Rattle.proc_type_alignment.specs.Serving.{layouts_in}
 use Rattle.proc_type_layout.specs.Serving.{record_layout}
-use Rattle.proc_layouter.specs.Layouter.{no_layout, layout_step, layout_at, layout, layout_outcome, layout_row_at, rows_after}
+use Rattle.proc_layouter.specs.LentRows.{rows_after}
+use Rattle.proc_layouter.specs.Layouter.{no_layout, layout_step, layout_at, layout, layout_outcome, layout_row_at}
 use Rattle.proc_layouter.specs.Serving.{record_then_layout, words_after}
 
 -- the tests of numbers 2 and 3 and then the rest, apart or in one

@@ -1,16 +1,17 @@
 -- 01, 'The layout': size and alignment of each type of an arena, by the layout of one (proc_type_layout: TypeLayout),
 -- and what a call that lays out an arena answers and leaves in the lent rows.
 -- Assumes nothing.
-use Rattle.std.specs.Prelude.{List, ◌++◌, ℕ, ◌*◌, length, drop}
+use Rattle.std.specs.Prelude.{List, ℕ, length}
 use Rattle.ir_records.specs.Result.{Result, pick}
 use Rattle.ir_records.specs.Record.{Decoded, decoded, type_count}
-use Rattle.ir_records.specs.Fields.{row_words, tables_fit, record_at}
+use Rattle.ir_records.specs.Fields.{tables_fit, record_at}
 use Rattle.ir_records.specs.Table.{result_at, value_at, also, first_refusal, flat}
 use Rattle.ir_records.specs.Outcome.{Outcome}
-use Rattle.ir_records.specs.Outcome.{Accepted, Refused}
-use Rattle.ir_rows.specs.Rows.{layout_row, cleared}
+use Rattle.ir_records.specs.Outcome.{Refused}
+use Rattle.ir_rows.specs.Rows.{layout_row}
 use Rattle.proc_type_alignment.specs.declared.TypeLayout.{TypeLayout}
 use Rattle.proc_type_layout.specs.TypeLayout.{layout_of}
+use Rattle.proc_layouter.specs.LentRows.{lent_after}
 
 -- in the place of a layout that is not made yet
 abbrev pub no_layout : TypeLayout
@@ -40,14 +41,7 @@ layout_row_at ts ms i = layout_row (layout (decoded ts ms) i).size (layout (deco
 unfoldable pub layout_rows : (ts ms : List ℕ) → ℕ → List ℕ
 layout_rows ts ms n = flat (layout_row_at ts ms) n
 
--- what the lent words hold at the end: on acceptance the rows, and every word past them as it was; on a refusal zeros for the rows
-abbrev pub rows_after : Outcome → (rows : List ℕ) (n : ℕ) → List ℕ → List ℕ
-rows_after Accepted rows n words = rows ++ drop (n * row_words) words
-rows_after (Refused number ty member detail) rows n words = cleared words (n * row_words)
-
--- number 1 touches nothing
+-- the lent rows, by the rule of LentRows
 unfoldable pub layout_words : (ts ms rows : List ℕ) → List ℕ
 layout_words ts ms rows =
-    pick (tables_fit (length ts) (length ms) (length rows))
-    (rows_after (layout_outcome ts ms) (layout_rows ts ms (type_count ts)) (type_count ts) rows)
-    rows
+    lent_after (tables_fit (length ts) (length ms) (length rows)) (layout_outcome ts ms) (layout_rows ts ms (type_count ts)) (type_count ts) rows

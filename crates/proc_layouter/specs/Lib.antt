@@ -1,2 +1,3 @@
+pub mod LentRows
 pub mod Layouter
 pub mod Serving

@@ -15,7 +15,8 @@ ghost use Rattle.ir_records.specs.Table.{first_refusal};
 ghost use Rattle.proc_type_alignment.specs.Serving.{layouts_in};
 ghost use Rattle.ir_records.specs.Refusal.{judged, outcome_of};
 ghost use Rattle.proc_type_layout.specs.Serving.{record_layout};
-ghost use Rattle.proc_layouter.specs.Layouter.{layout_rows, rows_after, layout_outcome, layout_answer, layout_words};
+ghost use Rattle.proc_layouter.specs.LentRows.{rows_after};
+ghost use Rattle.proc_layouter.specs.Layouter.{layout_rows, layout_outcome, layout_answer, layout_words};
 ghost use Rattle.proc_layouter.specs.Serving.{words_after, record_then_layout};
 
 use ir_records::{Refusal, TypeRefusal};

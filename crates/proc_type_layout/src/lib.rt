@@ -4,7 +4,9 @@
 ghost use Rattle.std.specs.Prelude.{◌≡◌, List, ℕ, ◌+◌, ◌*◌, ◌≤◌, ◌<◌, ltb, length, take, drop};
 ghost use Rattle.ir_records.specs.Result.{ok, require};
 ghost use Rattle.ir_records.specs.Fields.{sources_located};
-ghost use Rattle.ir_records.specs.Record.{scalar_kind, vector_kind, matrix_kind, cooperative_matrix_kind, pointer_kind, value_pointer_kind, array_kind, struct_kind, image_kind, sampler_kind, acceleration_structure_kind, ray_query_kind, binding_array_kind, type_count, member_words, member_count};
+ghost use Rattle.ir_records.specs.Record.{scalar_kind, vector_kind, matrix_kind, cooperative_matrix_kind, pointer_kind, value_pointer_kind};
+ghost use Rattle.ir_records.specs.Record.{array_kind, struct_kind, image_kind, sampler_kind, acceleration_structure_kind, ray_query_kind};
+ghost use Rattle.ir_records.specs.Record.{binding_array_kind, type_count, member_words, member_count};
 ghost use Rattle.proc_type_methods.specs.Serving.{size_by_count};
 ghost use Rattle.proc_type_alignment.specs.declared.TypeLayout as layout;
 ghost use Rattle.proc_type_alignment.specs.TypeAlignment.{base_alignment};
@@ -18,7 +20,8 @@ use ir_rows::Earlier;
 use proc_type_alignment::TypeLayout;
 
 pub fn scalar_layout(w: Words) -> Result<TypeLayout, TypeRefusal>
-    ensures { (m n i : ℕ) (layouts : ℕ → layout.TypeLayout) (members : List ℕ) → judged result ≡ words_layout m n layouts i scalar_kind w.a w.b w.c w.d w.e members }
+    ensures { (m n i : ℕ) (layouts : ℕ → layout.TypeLayout) (members : List ℕ)
+        → judged result ≡ words_layout m n layouts i scalar_kind w.a w.b w.c w.d w.e members }
 {
     ir_fields::scalar_fields(w)?;
     let alignment = proc_type_alignment::leaf_alignment(1, w.b)?;
@@ -29,7 +32,8 @@ pub fn scalar_layout(w: Words) -> Result<TypeLayout, TypeRefusal>
 }
 
 pub fn vector_layout(w: Words) -> Result<TypeLayout, TypeRefusal>
-    ensures { (m n i : ℕ) (layouts : ℕ → layout.TypeLayout) (members : List ℕ) → judged result ≡ words_layout m n layouts i vector_kind w.a w.b w.c w.d w.e members }
+    ensures { (m n i : ℕ) (layouts : ℕ → layout.TypeLayout) (members : List ℕ)
+        → judged result ≡ words_layout m n layouts i vector_kind w.a w.b w.c w.d w.e members }
 {
     ir_fields::vector_fields(w)?;
     let factor = proc_alignment::vector_alignment(w.a);
@@ -41,7 +45,8 @@ pub fn vector_layout(w: Words) -> Result<TypeLayout, TypeRefusal>
 }
 
 pub fn matrix_layout(w: Words) -> Result<TypeLayout, TypeRefusal>
-    ensures { (m n i : ℕ) (layouts : ℕ → layout.TypeLayout) (members : List ℕ) → judged result ≡ words_layout m n layouts i matrix_kind w.a w.b w.c w.d w.e members }
+    ensures { (m n i : ℕ) (layouts : ℕ → layout.TypeLayout) (members : List ℕ)
+        → judged result ≡ words_layout m n layouts i matrix_kind w.a w.b w.c w.d w.e members }
 {
     ir_fields::matrix_fields(w)?;
     let factor = proc_alignment::vector_alignment(w.b);
@@ -53,7 +58,8 @@ pub fn matrix_layout(w: Words) -> Result<TypeLayout, TypeRefusal>
 }
 
 pub fn cooperative_layout(w: Words) -> Result<TypeLayout, TypeRefusal>
-    ensures { (m n i : ℕ) (layouts : ℕ → layout.TypeLayout) (members : List ℕ) → judged result ≡ words_layout m n layouts i cooperative_matrix_kind w.a w.b w.c w.d w.e members }
+    ensures { (m n i : ℕ) (layouts : ℕ → layout.TypeLayout) (members : List ℕ)
+        → judged result ≡ words_layout m n layouts i cooperative_matrix_kind w.a w.b w.c w.d w.e members }
 {
     ir_fields::cooperative_fields(w)?;
     let alignment = proc_type_alignment::leaf_alignment(w.b, w.d)?;
@@ -73,7 +79,8 @@ fn handle_layout(size: u32) -> TypeLayout
 }
 
 pub fn pointer_layout(types: &[u32], w: Words) -> Result<TypeLayout, TypeRefusal>
-    ensures { (m i : ℕ) (layouts : ℕ → layout.TypeLayout) (members : List ℕ) → judged result ≡ words_layout m (type_count types.now) layouts i pointer_kind w.a w.b w.c w.d w.e members }
+    ensures { (m i : ℕ) (layouts : ℕ → layout.TypeLayout) (members : List ℕ)
+        → judged result ≡ words_layout m (type_count types.now) layouts i pointer_kind w.a w.b w.c w.d w.e members }
 {
     ir_fields::pointer_fields(w)?;
     ir_fields::base_within(types, w.a)?;
@@ -81,28 +88,32 @@ pub fn pointer_layout(types: &[u32], w: Words) -> Result<TypeLayout, TypeRefusal
 }
 
 pub fn value_pointer_layout(w: Words) -> Result<TypeLayout, TypeRefusal>
-    ensures { (m n i : ℕ) (layouts : ℕ → layout.TypeLayout) (members : List ℕ) → judged result ≡ words_layout m n layouts i value_pointer_kind w.a w.b w.c w.d w.e members }
+    ensures { (m n i : ℕ) (layouts : ℕ → layout.TypeLayout) (members : List ℕ)
+        → judged result ≡ words_layout m n layouts i value_pointer_kind w.a w.b w.c w.d w.e members }
 {
     ir_fields::value_pointer_fields(w)?;
     Ok(handle_layout(4))
 }
 
 pub fn image_layout(w: Words) -> Result<TypeLayout, TypeRefusal>
-    ensures { (m n i : ℕ) (layouts : ℕ → layout.TypeLayout) (members : List ℕ) → judged result ≡ words_layout m n layouts i image_kind w.a w.b w.c w.d w.e members }
+    ensures { (m n i : ℕ) (layouts : ℕ → layout.TypeLayout) (members : List ℕ)
+        → judged result ≡ words_layout m n layouts i image_kind w.a w.b w.c w.d w.e members }
 {
     ir_fields::image_fields(w)?;
     Ok(handle_layout(0))
 }
 
 pub fn sampler_layout(w: Words) -> Result<TypeLayout, TypeRefusal>
-    ensures { (m n i : ℕ) (layouts : ℕ → layout.TypeLayout) (members : List ℕ) → judged result ≡ words_layout m n layouts i sampler_kind w.a w.b w.c w.d w.e members }
+    ensures { (m n i : ℕ) (layouts : ℕ → layout.TypeLayout) (members : List ℕ)
+        → judged result ≡ words_layout m n layouts i sampler_kind w.a w.b w.c w.d w.e members }
 {
     ir_fields::sampler_fields(w)?;
     Ok(handle_layout(0))
 }
 
 pub fn acceleration_layout(w: Words) -> Result<TypeLayout, TypeRefusal>
-    ensures { (m n i : ℕ) (layouts : ℕ → layout.TypeLayout) (members : List ℕ) → judged result ≡ words_layout m n layouts i acceleration_structure_kind w.a w.b w.c w.d w.e members }
+    ensures { (m n i : ℕ) (layouts : ℕ → layout.TypeLayout) (members : List ℕ)
+        → judged result ≡ words_layout m n layouts i acceleration_structure_kind w.a w.b w.c w.d w.e members }
 {
     ir_fields::acceleration_fields(w)?;
     Ok(handle_layout(0))
@@ -110,14 +121,16 @@ pub fn acceleration_layout(w: Words) -> Result<TypeLayout, TypeRefusal>
 
 // A ray query has the fields of an acceleration structure.
 pub fn ray_query_layout(w: Words) -> Result<TypeLayout, TypeRefusal>
-    ensures { (m n i : ℕ) (layouts : ℕ → layout.TypeLayout) (members : List ℕ) → judged result ≡ words_layout m n layouts i ray_query_kind w.a w.b w.c w.d w.e members }
+    ensures { (m n i : ℕ) (layouts : ℕ → layout.TypeLayout) (members : List ℕ)
+        → judged result ≡ words_layout m n layouts i ray_query_kind w.a w.b w.c w.d w.e members }
 {
     ir_fields::acceleration_fields(w)?;
     Ok(handle_layout(0))
 }
 
 pub fn binding_array_layout(types: &[u32], w: Words) -> Result<TypeLayout, TypeRefusal>
-    ensures { (m i : ℕ) (layouts : ℕ → layout.TypeLayout) (members : List ℕ) → judged result ≡ words_layout m (type_count types.now) layouts i binding_array_kind w.a w.b w.c w.d w.e members }
+    ensures { (m i : ℕ) (layouts : ℕ → layout.TypeLayout) (members : List ℕ)
+        → judged result ≡ words_layout m (type_count types.now) layouts i binding_array_kind w.a w.b w.c w.d w.e members }
 {
     ir_fields::binding_array_fields(w)?;
     ir_fields::base_within(types, w.a)?;
@@ -138,7 +151,10 @@ pub fn array_record(rows: &[u32], i: u32, w: Words) -> Result<TypeLayout, TypeRe
 }
 
 fn struct_record(members: &[u32], before: Earlier, w: Words) -> Result<TypeLayout, TypeRefusal>
-    ensures { (n : ℕ) → judged result ≡ require (sources_located (take (w.b * member_words) (drop (w.a * member_words) members.now))) 2 0 0 (words_layout (member_count members.now) n (layouts_in before.entry.rows.now) before.entry.i struct_kind w.a w.b w.c w.d w.e (take (w.b * member_words) (drop (w.a * member_words) members.now))) }
+    ensures { (n : ℕ) → judged result ≡
+        require (sources_located (take (w.b * member_words) (drop (w.a * member_words) members.now))) 2 0 0
+        (words_layout (member_count members.now) n (layouts_in before.entry.rows.now) before.entry.i struct_kind w.a w.b w.c w.d w.e
+        (take (w.b * member_words) (drop (w.a * member_words) members.now))) }
 {
     ir_fields::struct_fields(ir_records::member_count(members), w)?;
     let part = ir_records::member_part(members, w.a, w.b);

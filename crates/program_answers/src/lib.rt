@@ -9,7 +9,9 @@ ghost use Rattle.program_output.specs.Bytes.{Adds};
 ghost use Rattle.program_output.specs.Answers.{outcome_lines, place_line, totals_lines};
 ghost use Rattle.program_output.specs.Written.{Sends};
 ghost use Rattle.program_commands.specs.Commands.{part_of};
-ghost use Rattle.program_answers.specs.Answered.{held, own_rows, after_layout, after_check, after_members, after_slots, after_range, after_place, after_short, after_report, after_plain, after_set, after_choose, after_run, arena_left, left_in, after_order, after_line, answered};
+ghost use Rattle.program_answers.specs.Answered.{held, own_rows, after_layout, after_check, after_members, after_slots, after_range};
+ghost use Rattle.program_answers.specs.Answered.{after_place, after_short, after_report, after_plain, after_set, after_choose, after_run};
+ghost use Rattle.program_answers.specs.Answered.{arena_left, left_in, after_order, after_line, answered};
 ghost use Rattle.program_answers.specs.Serving.{Told};
 
 use ir_records::{Records, Refusal};

@@ -5,7 +5,8 @@ ghost use Rattle.std.specs.Prelude.{◌≡◌, Bool, true, ◌≤◌, ◌<◌, �
 ghost use Rattle.std.specs.Io.KnownBytes.{Appends};
 ghost use Rattle.program_output.specs.declared.Stop.TheVariants as why;
 ghost use Rattle.program_output.specs.Bytes.{Adds};
-ghost use Rattle.program_commands.specs.Commands.{started, stopped, part_of, types_held, rows_held, held_after, end_after, appended, cleared, changed, arena_after, after_write, stop_bytes};
+ghost use Rattle.program_commands.specs.Commands.{started, stopped, part_of, types_held, rows_held, held_after, end_after};
+ghost use Rattle.program_commands.specs.Commands.{appended, cleared, changed, arena_after, after_write, stop_bytes};
 ghost use Rattle.program_commands.specs.Serving.{after_change};
 
 use immediates_pass::Pass;

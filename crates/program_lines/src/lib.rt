@@ -5,7 +5,8 @@
 
 ghost use Rattle.std.specs.Prelude.{◌≡◌, ◌≤◌, length};
 ghost use Rattle.program_words.specs.Words.{text_of, words};
-ghost use Rattle.program_lines.specs.Line.{last_command_of, answer_command_of, later_command_of, command_of, least_of, most_of, arguments_of, line_by, line_with, line_of, line_in};
+ghost use Rattle.program_lines.specs.Line.{last_command_of, answer_command_of, later_command_of, command_of, least_of, most_of};
+ghost use Rattle.program_lines.specs.Line.{arguments_of, line_by, line_with, line_of, line_in};
 ghost use Rattle.program_lines.specs.Said.{member_in, said, said_of, said_in};
 
 use ir_member_words::Member;

@@ -9,7 +9,8 @@ ghost use Rattle.immediates_ranges.specs.Answer as answer;
 ghost use Rattle.program_output.specs.declared.WriteError.TheVariants as error;
 ghost use Rattle.program_output.specs.Bytes.{Adds, decimal, number, named, numbers, newline, words_line, row_line, row_lines, report_line, report_lines};
 ghost use Rattle.program_output.specs.Written.{Sends};
-ghost use Rattle.program_output.specs.Answers.{refusal_line, outcome_lines, slots_line, step_line, dispatch_lines, word_of, why_text, usage_text, word_part, stop_line};
+ghost use Rattle.program_output.specs.Answers.{refusal_line, outcome_lines, slots_line, step_line, dispatch_lines};
+ghost use Rattle.program_output.specs.Answers.{word_of, why_text, usage_text, word_part, stop_line};
 
 use immediates_ranges::Slots;
 use ir_records::Refusal;
@@ -203,11 +204,7 @@ impl Output {
     pub fn put_refusal(&mut self, refusal: Refusal)
         ensures { Adds self.old (refusal_line (number_of refusal.fault) refusal.ty refusal.member refusal.detail) self.new }
     {
-        let number = u32::from(refusal.fault);
-        self.put_words(
-            b"refused",
-            &[number, refusal.ty, refusal.member, refusal.detail],
-        );
+        self.put_words(b"refused", &refusal.words());
     }
 
     /// That an arena is accepted, with the rows of its types.

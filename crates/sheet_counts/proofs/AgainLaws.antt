@@ -16,7 +16,7 @@ use Rattle.ir_records.specs.Outcome.{Outcome}
 use Rattle.ir_records.specs.Outcome.{Accepted, Refused}
 use Rattle.ir_records.proofs.TableLaws.{flat_length}
 use Rattle.ir_records.proofs.RecordLaws.{tables_fitting}
-use Rattle.proc_layouter.specs.Layouter.{rows_after}
+use Rattle.proc_layouter.specs.LentRows.{rows_after}
 use Rattle.valid_type_info.specs.declared.UniformRule.{UniformRule}
 use Rattle.valid_type_info.specs.Verdict.{least_for}
 use Rattle.place_report.specs.Report.{report_fits, report_rows}

@@ -18,7 +18,8 @@ pub fn word_of(bytes: &[u8], k: usize) -> u32
 // say in its own clauses where the part begins.
 pub fn append(words: &mut [u32], held: usize, bytes: &[u8]) -> usize
     requires { held + length bytes.now / 4 ≤ length words.old }
-    ensures { (result ≡ held + length bytes.now / 4) × (words.new ≡ take held words.old ++ words_in bytes.now (length bytes.now / 4) ++ drop (held + length bytes.now / 4) words.old) }
+    ensures { (result ≡ held + length bytes.now / 4)
+        × (words.new ≡ take held words.old ++ words_in bytes.now (length bytes.now / 4) ++ drop (held + length bytes.now / 4) words.old) }
 {
     for (k, part) in bytes.chunks_exact(4).enumerate() {
         words[held + k] = word_of(part, 0);

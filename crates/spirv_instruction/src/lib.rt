@@ -7,7 +7,8 @@ ghost use Rattle.ir_records.specs.declared.Fault.TheVariants as fault;
 ghost use Rattle.spirv_words.specs.Module.{opcode};
 ghost use Rattle.ir_records.specs.Refusal.{RefusedUnless};
 ghost use Rattle.spirv_types.specs.Types.{State};
-ghost use Rattle.spirv_instruction.specs.Instruction.{least_type, least_constant, least_decorate, least_member_decorate, least_words, told_by, words_ok, row_count, type_read, new_id, instruction, other_read};
+ghost use Rattle.spirv_instruction.specs.Instruction.{least_type, least_constant, least_decorate, least_member_decorate, least_words, told_by};
+ghost use Rattle.spirv_instruction.specs.Instruction.{words_ok, row_count, type_read, new_id, instruction, other_read};
 ghost use Rattle.spirv_instruction.specs.Serving.{judged_result, type_result, id_result, TypeTold, Told};
 
 use ir_records::{Fault, Records};
@@ -124,7 +125,13 @@ fn row_count(place: Place) -> u32
 // A type that is read: 29, 30, then number 1. `space`: how many types and members there is room for.
 #[tactic(auto, unfolding(crate::specs::Instruction::type_read))]
 fn type_read(known: Known, space: Records) -> Result<Made, Fault>
-    ensures { ((ms : List ℕ) → member_count ms ≡ known.entry.rows → type_result known.entry.place.input.words.now known.entry.place.at (record { types = known.entry.tables.types.now; members = ms; alignments = known.entry.tables.alignments.now }) result ≡ type_read space.types space.members known.entry.place.input.words.now known.entry.place.at (record { types = known.entry.tables.types.now; members = ms; alignments = known.entry.tables.alignments.now })) × TypeTold space.types space.members known.entry.place.input.words.now known.entry.place.at (type_count known.entry.tables.types.now) known.entry.rows result }
+    ensures { ((ms : List ℕ) → member_count ms ≡ known.entry.rows
+        → type_result known.entry.place.input.words.now known.entry.place.at
+        (record { types = known.entry.tables.types.now; members = ms; alignments = known.entry.tables.alignments.now }) result ≡
+        type_read space.types space.members known.entry.place.input.words.now known.entry.place.at
+        (record { types = known.entry.tables.types.now; members = ms; alignments = known.entry.tables.alignments.now }))
+        × TypeTold space.types space.members known.entry.place.input.words.now known.entry.place.at (type_count known.entry.tables.types.now)
+        known.entry.rows result }
 {
     let typed = spirv_types::type_at(known)?;
     let rows = row_count(known.place);
@@ -166,7 +173,13 @@ fn other_read(place: Place, op: u32) -> Result<(), Fault>
 // One instruction, and the type that it makes, if any: 28, 29, 30, then 1.
 #[tactic(auto, unfolding(crate::specs::Instruction::instruction, crate::specs::Instruction::words_ok))]
 pub fn judge(known: Known, space: Records) -> Result<Option<Made>, Fault>
-    ensures { ((ms : List ℕ) → member_count ms ≡ known.entry.rows → judged_result known.entry.place.input.words.now known.entry.place.at (record { types = known.entry.tables.types.now; members = ms; alignments = known.entry.tables.alignments.now }) result ≡ instruction space.types space.members known.entry.place.input.words.now known.entry.place.at (record { types = known.entry.tables.types.now; members = ms; alignments = known.entry.tables.alignments.now })) × Told space.types space.members known.entry.place.input.words.now known.entry.place.at (type_count known.entry.tables.types.now) known.entry.rows result }
+    ensures { ((ms : List ℕ) → member_count ms ≡ known.entry.rows
+        → judged_result known.entry.place.input.words.now known.entry.place.at
+        (record { types = known.entry.tables.types.now; members = ms; alignments = known.entry.tables.alignments.now }) result ≡
+        instruction space.types space.members known.entry.place.input.words.now known.entry.place.at
+        (record { types = known.entry.tables.types.now; members = ms; alignments = known.entry.tables.alignments.now }))
+        × Told space.types space.members known.entry.place.input.words.now known.entry.place.at (type_count known.entry.tables.types.now) known.entry.rows
+        result }
 {
     let place = known.place;
     check_words(place)?;

@@ -37,7 +37,7 @@ use Rattle.spirv_instruction.specs.Instruction.{least_words, words_ok, type_read
 use Rattle.spirv_read.specs.Read.{read_from, read_module}
 use Rattle.spirv_records.specs.TypesRead.{TypeReadAt}
 use Rattle.spirv_place.specs.ModulePlace.{matrix_rows, matrix_width, module_step, module_place, module_bytes, itself}
-use Rattle.spirv_place.specs.SpirvTerm3.{ReadType, InModuleLeaf}
+use Rattle.spirv_place.specs.SpirvTerm3.{ReadType, ModuleLeaf, InModuleLeaf}
 use Rattle.spirv_place.proofs.SpirvTerm3Proof.{spirv_term3}
 
 -- ---- the module
@@ -113,6 +113,13 @@ pub third_column : module_place words 52 (1 ∷ 2 ∷ []) ≡ At 48 36
 unfolding module_place module_step giver gives is_constant integer_before offset_at stride_at length_of sort sort_at type_number starts first only count
 third_column = refl
 
+-- the columns as leaves
+abbrev the_second : ModuleLeaf words 52
+the_second = record { steps = 1 ∷ 1 ∷ []; byte = 32; ty = 36; place = second_column }
+
+abbrev the_third : ModuleLeaf words 52
+the_third = record { steps = 1 ∷ 2 ∷ []; byte = 48; ty = 36; place = third_column }
+
 pub element : module_place words 52 (2 ∷ 1 ∷ []) ≡ At 80 29
 unfolding module_place module_step giver gives is_constant integer_before offset_at stride_at length_of sort sort_at type_number starts first only count
 element = refl
@@ -164,15 +171,14 @@ different e = let z : ◌≡◌ {A = ℕ} 1 2 = cc in omega arith
 pub column_stays : (rule : UniformRule) (buffer bytes : List ℕ) (k : ℕ) → 48 ≤ k → k < 60 → get_elem? (rewrite buffer 32 12 bytes) k ≡ get_elem? buffer k
 column_stays rule buffer bytes k low high =
     rw leaves.0 at
-    (spirv_term3.others rule 0 6 3 words state 52 the_struct (shareable rule) (covers rule) (1 ∷ 1 ∷ []) (1 ∷ 2 ∷ []) 32 36 48 36 second_column third_column different
-    buffer bytes k low (rw leaves.0 high))
+    (spirv_term3.others rule 0 6 3 words state 52 the_struct (shareable rule) (covers rule) the_second the_third different k (low, rw leaves.0 high) buffer bytes)
 
 -- the four bytes between the two are in no leaf
 pub gap : (rule : UniformRule) (k : ℕ) → 44 ≤ k → k < 48 → ¬ InModuleLeaf words 52 k
 unfolding giver gives is_constant integer_before starts first
 gap rule k low high =
     (spirv_term3.gaps rule 0 6 3 words state 52 k the_struct (shareable rule)).1 (covers rule)
-    (record { steps = 1 ∷ 1 ∷ []; byte = 32; leaf = 36; place = second_column; matrix = refl; past = rw leaves.0 low; below = high })
+    (record { leaf = the_second; matrix = refl; past = rw leaves.0 low; below = high })
 
 -- the column step of the matrix is the MatrixStride that the module gives for member 1
 pub matrix-stride : word words 19 4 ≡ column_step (matrix_rows words 36) (matrix_width words 36)

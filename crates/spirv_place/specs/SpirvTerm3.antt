@@ -3,15 +3,13 @@
 -- Assumes nothing.
 use Rattle.std.specs.Prelude.{◌≡◌, true, ◌≢◌, List, ℕ, ◌+◌, ◌≤◌, ◌<◌, T}
 use Rattle.std.specs.Int.{◌∣◌}
-use Rattle.std.proofs.Math.ListN.{get_elem?}
 use Rattle.ir_records.specs.Result.{ok}
 use Rattle.ir_records.specs.Record.{decoded}
 use Rattle.proc_type_methods.specs.TypeMethods.{column_step}
 use Rattle.valid_type_info.specs.declared.UniformRule.{UniformRule}
 use Rattle.valid_type_info.specs.Verdict.{is_ok, alignment_in}
-use Rattle.place_descent.specs.Place.{At}
 use Rattle.place_descent.specs.Place.{place_of}
-use Rattle.place_term3.specs.Term3.{row_in, HostShareableData, StridesCover, rewrite}
+use Rattle.place_term3.specs.Term3.{row_in, LeafAt, Has, HostShareableData, StridesCover, Spares}
 use Rattle.spirv_words.specs.Module.{opcode, word, type_matrix, type_struct, before}
 use Rattle.spirv_words.specs.Decorations.{row_major, matrix_stride, is_members_of}
 use Rattle.spirv_ids.specs.Ids.{type_number}
@@ -34,24 +32,21 @@ Shareable rule c ws s p = HostShareableData rule c s.types s.members (type_numbe
 abbrev pub Covered : (rule : UniformRule) (c : ℕ) (ws : List ℕ) (s : State) (p : ℕ) → Type 0
 Covered rule c ws s p = StridesCover (row_in rule c s.types s.members) (decoded s.types s.members) (type_number ws p)
 
+-- a leaf of the type at p by the words: its type is the place of a type instruction
+abbrev pub ModuleLeaf : (ws : List ℕ) (p : ℕ) → Type 0
+ModuleLeaf ws p = LeafAt (module_place ws p)
+
 -- byte k of the type at p lies in a leaf
 pub record InModuleLeaf (ws : List ℕ) (p k : ℕ) : Type 0 where
-  pub steps : List ℕ
-  pub byte : ℕ
-  pub leaf : ℕ
-  pub place : module_place ws p steps ≡ At byte leaf
-  pub from : byte ≤ k
-  pub below : k < byte + module_bytes ws leaf
+  pub leaf : ModuleLeaf ws p
+  pub has : Has (module_bytes ws) leaf k
 
 -- byte k of the type at p lies between columns: past the end of a column, and within a column step of its start
 pub record BetweenModuleColumns (ws : List ℕ) (p k : ℕ) : Type 0 where
-  pub steps : List ℕ
-  pub byte : ℕ
-  pub leaf : ℕ
-  pub place : module_place ws p steps ≡ At byte leaf
-  pub matrix : opcode ws leaf ≡ type_matrix
-  pub past : byte + module_bytes ws leaf ≤ k
-  pub below : k < byte + column_step (matrix_rows ws leaf) (matrix_width ws leaf)
+  pub leaf : ModuleLeaf ws p
+  pub matrix : opcode ws leaf.ty ≡ type_matrix
+  pub past : leaf.byte + module_bytes ws leaf.ty ≤ k
+  pub below : k < leaf.byte + column_step (matrix_rows ws leaf.ty) (matrix_width ws leaf.ty)
 
 pub record SpirvTerm3 : Type 0 where
   -- places by the records are places by the module's own words
@@ -65,23 +60,19 @@ pub record SpirvTerm3 : Type 0 where
       → (word ws q 3 ≢ row_major) × (word ws q 3 ≡ matrix_stride → word ws q 4 ≡ column_step (matrix_rows ws x) (matrix_width ws x))
   -- whichever leaf is rewritten, no byte of any other leaf changes
   pub others : (rule : UniformRule) (c t m : ℕ) (ws : List ℕ) (s : State) (p : ℕ) → ReadType t m ws s p → Shareable rule c ws s p → Covered rule c ws s p
-      → (steps steps' : List ℕ) (byte leaf byte' leaf' : ℕ)
-      → module_place ws p steps ≡ At byte leaf → module_place ws p steps' ≡ At byte' leaf' → steps ≢ steps'
-      → (buffer bytes : List ℕ) (k : ℕ) → byte' ≤ k → k < byte' + module_bytes ws leaf'
-      → get_elem? (rewrite buffer byte (module_bytes ws leaf) bytes) k ≡ get_elem? buffer k
+      → (one other : ModuleLeaf ws p) → one.steps ≢ other.steps
+      → (k : ℕ) → Has (module_bytes ws) other k → Spares (module_bytes ws) one k
   -- a byte in no leaf is changed by no rewriting, and a byte between columns is in no leaf
   pub gaps : (rule : UniformRule) (c t m : ℕ) (ws : List ℕ) (s : State) (p k : ℕ) → ReadType t m ws s p → Shareable rule c ws s p
-      → (¬ InModuleLeaf ws p k
-      → (steps : List ℕ) (byte leaf : ℕ) → module_place ws p steps ≡ At byte leaf
-      → (buffer bytes : List ℕ) → get_elem? (rewrite buffer byte (module_bytes ws leaf) bytes) k ≡ get_elem? buffer k)
+      → (¬ InModuleLeaf ws p k → (leaf : ModuleLeaf ws p) → Spares (module_bytes ws) leaf k)
       × (Covered rule c ws s p → BetweenModuleColumns ws p k → ¬ InModuleLeaf ws p k)
   -- every leaf lies within the type's size, those in runtime elements past the first aside
   pub within : (rule : UniformRule) (c t m : ℕ) (ws : List ℕ) (s : State) (p : ℕ) → ReadType t m ws s p → Shareable rule c ws s p → Covered rule c ws s p
-      → (steps : List ℕ) (byte leaf : ℕ) → module_place ws p steps ≡ At byte leaf → FirstSteps ws p steps
-      → byte + module_bytes ws leaf ≤ (row_in rule c s.types s.members (type_number ws p)).size
+      → (leaf : ModuleLeaf ws p) → FirstSteps ws p leaf.steps
+      → leaf.byte + module_bytes ws leaf.ty ≤ (row_in rule c s.types s.members (type_number ws p)).size
   -- if the storage verdict is Ok, every leaf stands at a multiple of its own storage alignment
   pub aligned : (rule : UniformRule) (c t m : ℕ) (ws : List ℕ) (s : State) (p : ℕ) → ReadType t m ws s p → Shareable rule c ws s p
       → T (is_ok (row_in rule c s.types s.members (type_number ws p)).storage)
-      → (steps : List ℕ) (byte leaf : ℕ) → module_place ws p steps ≡ At byte leaf
-      → T (is_ok (row_in rule c s.types s.members (type_number ws leaf)).storage)
-      × (alignment_in (row_in rule c s.types s.members (type_number ws leaf)).storage ∣ byte)
+      → (leaf : ModuleLeaf ws p)
+      → T (is_ok (row_in rule c s.types s.members (type_number ws leaf.ty)).storage)
+      × (alignment_in (row_in rule c s.types s.members (type_number ws leaf.ty)).storage ∣ leaf.byte)

@@ -32,7 +32,8 @@ fn put_alignment(alignments: &mut [u32], t: u32, alignment: u32)
 fn put_member(place: Place, members: &mut [u32], row: u32, j: u32)
     requires sound { member_sound place.input.words.now place.at j ≡ true }
     requires row_in_bounds { row * 4 + 4 ≤ length members.old }
-    ensures { members.new ≡ with_part 4 members.old (row * 4) (member_number place.entry.input.words.now place.entry.at j ∷ offset_of place.entry.input.words.now place.entry.at j ∷ 0 ∷ 0 ∷ []) }
+    ensures { members.new ≡ with_part 4 members.old (row * 4)
+        (member_number place.entry.input.words.now place.entry.at j ∷ offset_of place.entry.input.words.now place.entry.at j ∷ 0 ∷ 0 ∷ []) }
 {
     let member = spirv_members::member_of(place, j).unwrap();
     wgsl_tables::put_member(members, row, member.number, member.offset);
@@ -66,7 +67,9 @@ fn put_all(
     requires rows_bound { held.members + made.rows ≤ 4096 }
     requires rows_in_bounds { (held.members + made.rows) * 4 ≤ length members.old }
     requires t_in_bounds_2 { held.types < length alignments.old }
-    ensures { (types.new ≡ with_part 6 types.old (held.types * 6) (listed made.typed.words)) × (members.new ≡ with_part (made.rows * 4) members.old (held.members * 4) (member_rows place.entry.input.words.now place.entry.at made.rows)) × (alignments.new ≡ with_part 1 alignments.old held.types (made.typed.alignment ∷ [])) }
+    ensures { (types.new ≡ with_part 6 types.old (held.types * 6) (listed made.typed.words))
+        × (members.new ≡ with_part (made.rows * 4) members.old (held.members * 4) (member_rows place.entry.input.words.now place.entry.at made.rows))
+        × (alignments.new ≡ with_part 1 alignments.old held.types (made.typed.alignment ∷ [])) }
 {
     wgsl_tables::put_type(types, held.types, made.typed.words);
     put_members(place, members, held.members, made.rows);
@@ -84,7 +87,8 @@ fn step_at(
 ) -> Result<Records, Fault>
     requires room { Room space.types space.members types.old members.old alignments.old }
     requires held { Held space.types space.members place.input.words.now place.at types.old held.types held.members }
-    ensures { StepIs space.types space.members place.entry.input.words.now place.entry.at types.old members.old alignments.old types.new members.new alignments.new held.types held.members result }
+    ensures { StepIs space.types space.members place.entry.input.words.now place.entry.at types.old members.old alignments.old types.new members.new
+        alignments.new held.types held.members result }
 {
     let count = held.types as usize;
     let end = count * ir_records::TYPE_WORDS;
@@ -118,7 +122,10 @@ fn read_from(
     space: Records,
 ) -> Result<Records, Fault>
     requires { Room space.types space.members types.old members.old alignments.old }
-    ensures { (section_answer_of result ≡ section_of (read_from space.types space.members input.entry.words.now (length input.entry.words.now) header_words none)) × FilledTypes (read_from space.types space.members input.entry.words.now (length input.entry.words.now) header_words none) types.old types.new × FilledMembers (read_from space.types space.members input.entry.words.now (length input.entry.words.now) header_words none) members.old members.new }
+    ensures { (section_answer_of result ≡
+        section_of (read_from space.types space.members input.entry.words.now (length input.entry.words.now) header_words none))
+        × FilledTypes (read_from space.types space.members input.entry.words.now (length input.entry.words.now) header_words none) types.old types.new
+        × FilledMembers (read_from space.types space.members input.entry.words.now (length input.entry.words.now) header_words none) members.old members.new }
 {
     let mut at: usize = spirv_words::HEADER_WORDS;
     let mut held = Records::default();
@@ -145,7 +152,9 @@ fn check_header(words: &[u32]) -> Result<(), Fault>
 // Kept: words and two lent tables, as the exported call has them; a struct of the tables would be made by each caller for this one call.
 #[tactic(auto, unfolding(crate::specs::Read::read_into, crate::specs::Read::read_module))]
 pub fn read_words(words: &[u32], types: &mut [u32], members: &mut [u32]) -> Result<Records, Fault>
-    ensures { (section_answer_of result ≡ section_of (read_into words.now types.old members.old)) × (types.new ≡ types_after (read_into words.now types.old members.old) types.old) × (members.new ≡ members_after (read_into words.now types.old members.old) members.old) }
+    ensures { (section_answer_of result ≡ section_of (read_into words.now types.old members.old))
+        × (types.new ≡ types_after (read_into words.now types.old members.old) types.old)
+        × (members.new ≡ members_after (read_into words.now types.old members.old) members.old) }
 {
     if let Err(fault) = check_header(words) {
         wgsl_tables::clear_both(types, members);

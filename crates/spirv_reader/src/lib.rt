@@ -32,7 +32,8 @@ pub fn read_from(
     types: &mut [u32],
     members: &mut [u32],
 ) -> Result<Records, Fault>
-    ensures { (section_answer_of result ≡ section_at words.now at types.old members.old) × (types.new ≡ types_at words.now at types.old members.old) × (members.new ≡ members_at words.now at types.old members.old) }
+    ensures { (section_answer_of result ≡ section_at words.now at types.old members.old) × (types.new ≡ types_at words.now at types.old members.old)
+        × (members.new ≡ members_at words.now at types.old members.old) }
 {
     spirv_read::read_words(&words[at.min(words.len())..], types, members)
 }
@@ -60,7 +61,9 @@ impl<'a> Reader<'a> {
 
     // The module that begins where the reader is.
     pub fn read(self, types: &mut [u32], members: &mut [u32]) -> Result<Records, Fault>
-        ensures { (section_answer_of result ≡ section_at self.entry.words.now self.entry.at types.old members.old) × (types.new ≡ types_at self.entry.words.now self.entry.at types.old members.old) × (members.new ≡ members_at self.entry.words.now self.entry.at types.old members.old) }
+        ensures { (section_answer_of result ≡ section_at self.entry.words.now self.entry.at types.old members.old)
+            × (types.new ≡ types_at self.entry.words.now self.entry.at types.old members.old)
+            × (members.new ≡ members_at self.entry.words.now self.entry.at types.old members.old) }
     {
         read_from(self.words, self.at, types, members)
     }
@@ -70,7 +73,9 @@ impl<'a> Reader<'a> {
 // Kept: they are those of the exported call; beside `spirv_read::read_words`, of the same contract, since both are a promise to callers: this is the
 // reader's own name for a module that begins at the first word.
 pub fn read_module(words: &[u32], types: &mut [u32], members: &mut [u32]) -> Result<Records, Fault>
-    ensures { (section_answer_of result ≡ section_of (read_into words.now types.old members.old)) × (types.new ≡ types_after (read_into words.now types.old members.old) types.old) × (members.new ≡ members_after (read_into words.now types.old members.old) members.old) }
+    ensures { (section_answer_of result ≡ section_of (read_into words.now types.old members.old))
+        × (types.new ≡ types_after (read_into words.now types.old members.old) types.old)
+        × (members.new ≡ members_after (read_into words.now types.old members.old) members.old) }
 {
     Reader::new(words).read(types, members)
 }

@@ -13,7 +13,8 @@ ghost use Rattle.ir_records.specs.Refusal.{RefusedUnless};
 ghost use Rattle.spirv_members.specs.Serving.{faulted};
 ghost use Rattle.ir_records.specs.Record.{record_of};
 ghost use Rattle.spirv_types.specs.Types.{is_fresh, stride_at, constant_length, type_at};
-ghost use Rattle.spirv_types.specs.Serving.{leaf, width_of, kinded, sign_of, int_made, float_made, parts_made, vector_made, matrix_made, stride_made, length_made, array_typed, array_made, runtime_array_made, spanned, struct_made, type_made};
+ghost use Rattle.spirv_types.specs.Serving.{leaf, width_of, kinded, sign_of, int_made, float_made, parts_made, vector_made, matrix_made};
+ghost use Rattle.spirv_types.specs.Serving.{stride_made, length_made, array_typed, array_made, runtime_array_made, spanned, struct_made, type_made};
 
 use ir_records::{Fault, Kind, ScalarKind, Words};
 use spirv_ids::{Given, Module, Place};
@@ -271,7 +272,8 @@ fn spanned_type(members: Members, first: u32, n: u32) -> Result<Typed, Fault>
 }
 
 fn struct_type(known: Known) -> Result<Typed, Fault>
-    ensures { faulted result ≡ struct_made known.entry.place.input.words.now known.entry.tables.types.now known.entry.tables.alignments.now known.entry.rows known.entry.place.at }
+    ensures { faulted result ≡ struct_made known.entry.place.input.words.now known.entry.tables.types.now known.entry.tables.alignments.now known.entry.rows
+        known.entry.place.at }
 {
     let place = known.place;
     let n = spirv_members::member_count(place.input.words, place.at);
@@ -281,7 +283,8 @@ fn struct_type(known: Known) -> Result<Typed, Fault>
 
 // The type of the instruction at a place, whatever its id is.
 fn type_made(known: Known) -> Result<Typed, Fault>
-    ensures { faulted result ≡ type_made known.entry.place.input.words.now known.entry.tables.types.now known.entry.tables.alignments.now known.entry.rows known.entry.place.at (opcode known.entry.place.input.words.now known.entry.place.at) }
+    ensures { faulted result ≡ type_made known.entry.place.input.words.now known.entry.tables.types.now known.entry.tables.alignments.now known.entry.rows
+        known.entry.place.at (opcode known.entry.place.input.words.now known.entry.place.at) }
 {
     let place = known.place;
     let tables = known.tables;
@@ -299,7 +302,9 @@ fn type_made(known: Known) -> Result<Typed, Fault>
 
 // The type at a place: number 29, then 30.
 pub fn type_at(known: Known) -> Result<Typed, Fault>
-    ensures { (ms : List ℕ) → member_count ms ≡ known.entry.rows → faulted result ≡ type_at known.entry.place.input.words.now (record { types = known.entry.tables.types.now; members = ms; alignments = known.entry.tables.alignments.now }) known.entry.place.at }
+    ensures { (ms : List ℕ) → member_count ms ≡ known.entry.rows
+        → faulted result ≡ type_at known.entry.place.input.words.now
+        (record { types = known.entry.tables.types.now; members = ms; alignments = known.entry.tables.alignments.now }) known.entry.place.at }
 {
     let typed = type_made(known)?;
     check_fresh(known.place)?;

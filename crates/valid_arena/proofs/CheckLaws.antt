@@ -16,7 +16,8 @@ use Rattle.ir_records.specs.Outcome.{Accepted, Refused}
 use Rattle.ir_records.proofs.TableLaws.{also_accepted, outcome_accepted, flat_length}
 use Rattle.ir_records.proofs.RecordLaws.{Fitting, tables_fitting}
 use Rattle.ir_rows.specs.Rows.{cleared}
-use Rattle.proc_layouter.specs.Layouter.{layout_at, layout_row_at, layout_rows, layout_outcome, layout_answer, layout_words, rows_after}
+use Rattle.proc_layouter.specs.LentRows.{rows_after}
+use Rattle.proc_layouter.specs.Layouter.{layout_at, layout_row_at, layout_rows, layout_outcome, layout_answer, layout_words}
 use Rattle.valid_type_info.specs.declared.UniformRule.{UniformRule}
 use Rattle.valid_type_info.specs.Verdict.{least_for}
 use Rattle.valid_arena.specs.Arena.{judged_at, common_at, row, row_at, judge_outcome, arena_outcome, arena_fits, arena_answer, arena_rows, arena_words}

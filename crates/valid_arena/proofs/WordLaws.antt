@@ -14,7 +14,7 @@ use Rattle.ir_records.specs.Outcome.{Outcome}
 use Rattle.ir_records.specs.Outcome.{Accepted, Refused}
 use Rattle.ir_records.proofs.TableLaws.{flat_length, flat_word}
 use Rattle.ir_rows.specs.Rows.{row_word}
-use Rattle.proc_layouter.specs.Layouter.{rows_after}
+use Rattle.proc_layouter.specs.LentRows.{rows_after}
 use Rattle.valid_type_info.specs.TypeInfo.{words_of, rows_in}
 use Rattle.valid_type_info.specs.declared.UniformRule.{UniformRule}
 use Rattle.valid_type_info.specs.Verdict.{least_for}

@@ -9,7 +9,8 @@ use Rattle.ir_records.specs.Fields.{row_words, tables_fit, capabilities_known}
 use Rattle.ir_records.specs.Table.{result_at, value_at, also, first_refusal, flat}
 use Rattle.ir_records.specs.Outcome.{Outcome}
 use Rattle.ir_records.specs.Outcome.{Refused}
-use Rattle.proc_layouter.specs.Layouter.{layout, layout_outcome, rows_after}
+use Rattle.proc_layouter.specs.LentRows.{lent_after}
+use Rattle.proc_layouter.specs.Layouter.{layout, layout_outcome}
 use Rattle.valid_type_info.specs.declared.Row.{Row}
 use Rattle.valid_type_info.specs.declared.UniformRule.{UniformRule}
 use Rattle.valid_type_info.specs.Verdict.{least_for}
@@ -54,8 +55,7 @@ unfoldable pub arena : (c : ℕ) (ts ms : List ℕ) → Outcome
 arena c ts ms =
     pick (capabilities_known c && tables_fit (length ts) (length ms) (type_count ts * row_words)) (arena_outcome c ts ms) (Refused 1 0 0 0)
 
--- ---- the lent rows: on acceptance the fourteen words of each type by the chosen rule, and no other word; number 1 touches nothing, every other refusal
--- zeroes fourteen words for each type
+-- ---- the lent rows: fourteen words for each type by the chosen uniform rule, left by the rule of LentRows (proc_layouter)
 abbrev pub row_at : (least c : ℕ) (ts ms : List ℕ) → ℕ → List ℕ
 row_at least c ts ms i = words_of (row least c (decoded ts ms) i)
 
@@ -64,4 +64,4 @@ arena_rows rule c ts ms n = flat (row_at (least_for rule) c ts ms) n
 
 unfoldable pub arena_words : (rule : UniformRule) (c : ℕ) (ts ms rows : List ℕ) → List ℕ
 arena_words rule c ts ms rows =
-    pick (arena_fits c ts ms rows) (rows_after (arena_outcome c ts ms) (arena_rows rule c ts ms (type_count ts)) (type_count ts) rows) rows
+    lent_after (arena_fits c ts ms rows) (arena_outcome c ts ms) (arena_rows rule c ts ms (type_count ts)) (type_count ts) rows

@@ -7,7 +7,8 @@ ghost use Rattle.ir_records.specs.Record.{member_words, member_count, type_inner
 ghost use Rattle.ir_records.specs.Kinds.{kind_number};
 ghost use Rattle.valid_flags.specs.Flags.{bit};
 ghost use Rattle.valid_width.specs.Width.{dual_source_blending};
-ghost use Rattle.valid_blend.specs.Blend.{source_at, source_result, sources_after, is_other, other_location, leaf_words, inner_words, same_words, same_type, pair_of, struct_blend};
+ghost use Rattle.valid_blend.specs.Blend.{source_at, source_result, sources_after, is_other, other_location, leaf_words};
+ghost use Rattle.valid_blend.specs.Blend.{inner_words, same_words, same_type, pair_of, struct_blend};
 ghost use Rattle.ir_records.specs.Refusal.{judged, number_of, type_refusal};
 ghost use Rattle.valid_blend.specs.Serving.{sources_before, blended_flags, plus_one, detail_of, Gives};
 
@@ -151,7 +152,8 @@ pub fn pair_of(
     a: u32,
     b: u32,
 ) -> Result<u32, TypeRefusal>
-    ensures { (before : ℕ → ℕ) → before (member_type part.now a) ≡ own → judged result ≡ pair_of (type_inner types.now) before part.now (other_location part.now count) flags a b }
+    ensures { (before : ℕ → ℕ) → before (member_type part.now a) ≡ own
+        → judged result ≡ pair_of (type_inner types.now) before part.now (other_location part.now count) flags a b }
 {
     if other_location(part, count) {
         return Err(BlendFault::InvalidBlendSrcWithOtherBindings.into());
@@ -175,7 +177,8 @@ fn struct_blend<F: Fn(u32) -> u32>(
     flags: u32,
 ) -> Result<u32, TypeRefusal>
     requires { F.IsAlwaysCallable flags_of }
-    ensures { (before : ℕ → ℕ) → Gives (F.post flags_of) before → judged result ≡ struct_blend (type_inner types.now) before part.entry.words.now part.entry.count flags }
+    ensures { (before : ℕ → ℕ) → Gives (F.post flags_of) before
+        → judged result ≡ struct_blend (type_inner types.now) before part.entry.words.now part.entry.count flags }
 {
     let first = source_at(part.words, 1, part.count);
     let second = source_at(part.words, 2, part.count);
@@ -203,7 +206,8 @@ pub fn blended_flags<F: Fn(u32) -> u32>(
 ) -> Result<u32, TypeRefusal>
     requires callable { F.IsAlwaysCallable flags_of }
     requires sourceless { sourced ≡ false → Sourceless part.words.now (member_count part.words.now) }
-    ensures { (before : ℕ → ℕ) → Gives (F.post flags_of) before → judged result ≡ blended_flags (bit capabilities dual_source_blending) (type_inner types.now) before part.entry.words.now part.entry.count flags }
+    ensures { (before : ℕ → ℕ) → Gives (F.post flags_of) before
+        → judged result ≡ blended_flags (bit capabilities dual_source_blending) (type_inner types.now) before part.entry.words.now part.entry.count flags }
 {
     if !sourced {
         return Ok(flags);

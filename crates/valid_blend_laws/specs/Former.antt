@@ -10,7 +10,8 @@ use Rattle.ir_records.specs.Outcome.{Outcome}
 use Rattle.ir_records.specs.Outcome.{Refused}
 use Rattle.ir_records.specs.declared.TypeInner.{TypeInner}
 use Rattle.ir_records.specs.declared.TypeInner.TheVariants.{Plain, Array, RuntimeArray, Struct, Other}
-use Rattle.proc_layouter.specs.Layouter.{layout, layout_at, rows_after}
+use Rattle.proc_layouter.specs.LentRows.{lent_after}
+use Rattle.proc_layouter.specs.Layouter.{layout, layout_at}
 use Rattle.valid_type_info.specs.declared.Row.{Row}
 use Rattle.valid_type_info.specs.TypeInfo.{empty_row, words_of, row_sizes, row_flags}
 use Rattle.valid_type_info.specs.Verdict.{min_uniform}
@@ -67,9 +68,7 @@ former_answer c ts pairs rows = pick (former_fits c ts pairs rows) (former_outco
 
 unfoldable pub former_words : (c : ℕ) (ts pairs rows : List ℕ) → List ℕ
 former_words c ts pairs rows =
-    pick (former_fits c ts pairs rows)
-    (rows_after (former_outcome c ts (widened pairs)) (former_rows c ts (widened pairs) (type_count ts)) (type_count ts) rows)
-    rows
+    lent_after (former_fits c ts pairs rows) (former_outcome c ts (widened pairs)) (former_rows c ts (widened pairs) (type_count ts)) (type_count ts) rows
 
 -- ---- no member of a struct of the arena has a blend source
 abbrev pub NoSources : (ts ms : List ℕ) → Type 0

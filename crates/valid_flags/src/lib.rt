@@ -4,7 +4,8 @@
 ghost use Rattle.std.specs.Prelude.{◌≡◌, ◌<◌};
 ghost use Rattle.std.specs.Int.Bits.{bit_and, bit_or};
 ghost use Rattle.ir_records.specs.Kinds.{kind_number};
-ghost use Rattle.valid_flags.specs.Flags.{bit, data_bit, sized_bit, io_shareable_bit, host_shareable_bit, creation_resolved_bit, is_sized_data, starting_flags, scalar_flags, space_flag, pointer_flags, not_host_shareable};
+ghost use Rattle.valid_flags.specs.Flags.{bit, data_bit, sized_bit, io_shareable_bit, host_shareable_bit, creation_resolved_bit};
+ghost use Rattle.valid_flags.specs.Flags.{is_sized_data, starting_flags, scalar_flags, space_flag, pointer_flags, not_host_shareable};
 ghost use Rattle.valid_flags.specs.Serving.{NamesSpace, flags_over_base};
 
 use ir_records::{Fault, Kind, ScalarKind, TypeRefusal};

@@ -30,7 +30,8 @@ pub fn struct_at(types: &[u32], t: u32, offset: u32) -> Option<PreviousStruct>
 fn joined_verdict(before: Earlier, m: MemberAt, w: usize, so_far: Verdict) -> Verdict
     requires of_these { m.t < before.i }
     requires in_row { w + 4 < 14 }
-    ensures { result ≡ member_verdict m.i m.j m.offset (share_verdict (bit (rows_in before.entry.rows.now m.t).flags host_shareable_bit) m.t so_far) (verdict_in before.entry.rows.now m.t w) }
+    ensures { result ≡ member_verdict m.i m.j m.offset (share_verdict (bit (rows_in before.entry.rows.now m.t).flags host_shareable_bit) m.t so_far)
+        (verdict_in before.entry.rows.now m.t w) }
 {
     let shareable = valid_flags::is_host_shareable(before.word(m.t, ir_rows::FLAGS));
     let shared = valid_type_info::share_verdict(shareable, m.t, so_far);

@@ -5,16 +5,19 @@
 use Rattle.std.specs.Prelude as std
 use Rattle.std.specs.Prelude.{Option, Some, None, Bool, true, false, ◌&&◌, List, ◌≡◌, ℕ, ◌≤◌, eqb}
 use Rattle.ir_records.specs.Result.{Result, err, ok, pick, and_then}
+use Rattle.ir_records.specs.Record.{type_inner}
 use Rattle.ir_records.specs.Refusal.{number_of}
 use Rattle.ir_records.specs.declared.TypeRefusal.{TypeRefusal}
 use Rattle.ir_records.specs.declared.TypeInner.{TypeInner}
 use Rattle.valid_flags.specs.Flags.{is_sized_data}
 use Rattle.valid_type_info.specs.declared.PreviousStruct.{PreviousStruct}
 use Rattle.valid_type_info.specs.declared.Row.{Row}
-use Rattle.valid_type_info.specs.TypeInfo.{row_sizes, row_flags}
+use Rattle.valid_type_info.specs.declared.StructType.{StructType}
+use Rattle.valid_type_info.specs.declared.MemberAt.{MemberAt}
+use Rattle.valid_type_info.specs.TypeInfo.{row_sizes, row_flags, rows_in}
 use Rattle.valid_type_info.specs.declared.Verdict.{Verdict}
-use Rattle.valid_type_info.specs.Verdict.{ok_verdict, is_ok, previous_of, distance_ok}
-use Rattle.valid_member_bounds.specs.MemberBounds.{bounds_by, bounds_after}
+use Rattle.valid_type_info.specs.Verdict.{ok_verdict, is_ok, struct_at, previous_of, distance_ok}
+use Rattle.valid_member_bounds.specs.MemberBounds.{is_array, bounds_by, bounds_after}
 use Rattle.valid_member_rules.specs.MemberRules.{member_uniform, member_storage, member_immediates, uniform_after, storage_after, immediates_after}
 use Rattle.valid_members.specs.declared.State.{State}
 use Rattle.valid_members_plain.specs.declared.Reached.{Reached}
@@ -81,3 +84,19 @@ abbrev pub GoesOn : (least : ℕ) (inner : ℕ → TypeInner) (rows : ℕ → Ro
 GoesOn least inner rows i count span members from to =
     state_after least inner rows i count span members from.taken ≡ ok from.state
     → state_after least inner rows i count span members to.taken ≡ ok to.state
+
+-- ---- the same of a struct with what its rules read
+abbrev pub state_in : (least : ℕ) → StructType → ℕ → Result State
+state_in least s = state_after least (type_inner (s.types.now)) (rows_in (s.before.rows.now)) (s.before.i) (s.part.count) (s.span) (s.part.words.now)
+
+-- the step of its member m, as one of so many
+abbrev pub step_in : (least : ℕ) → StructType → (count : ℕ) → MemberAt → State → Result State
+step_in least s count m =
+    let inner = type_inner (s.types.now) m.t in
+    member_step least m.i count (s.span) m.j m.t m.offset (is_array inner) (struct_at inner m.offset) (rows_in (s.before.rows.now) m.t)
+
+abbrev pub ToldIn : (least : ℕ) → StructType → std.Result State TypeRefusal → Type 0
+ToldIn least s = Told least (type_inner (s.types.now)) (rows_in (s.before.rows.now)) (s.before.i) (s.part.count) (s.span) (s.part.words.now)
+
+abbrev pub GoesOnIn : (least : ℕ) → StructType → (from to : Reached State) → Type 0
+GoesOnIn least s = GoesOn least (type_inner (s.types.now)) (rows_in (s.before.rows.now)) (s.before.i) (s.part.count) (s.span) (s.part.words.now)

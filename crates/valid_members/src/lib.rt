@@ -8,11 +8,10 @@ ghost use Rattle.valid_type_info.specs.declared.UniformRule as rule;
 ghost use Rattle.valid_type_info.specs.TypeInfo.{rows_in};
 ghost use Rattle.valid_type_info.specs.Verdict.{least_for, ok_verdict, struct_at, previous_of};
 ghost use Rattle.valid_members_plain.specs.Serving.{least_of, uniform_so_far};
-ghost use Rattle.valid_member_bounds.specs.MemberBounds.{is_array};
 ghost use Rattle.valid_member_rules.specs.MemberRules.{member_storage, member_immediates};
 ghost use Rattle.valid_member_rules.specs.Serving.{uniform_by};
 ghost use Rattle.ir_records.specs.Refusal.{judged};
-ghost use Rattle.valid_members.specs.Serving.{member_step, state_after, InOrder, ordered_step, alignment_of, UniformFits, PlainFits, GoesOn};
+ghost use Rattle.valid_members.specs.Serving.{state_in, step_in, InOrder, ordered_step, alignment_of, UniformFits, PlainFits, GoesOnIn};
 
 use ir_records::TypeRefusal;
 use valid_member_bounds::{BoundMember, Bounds};
@@ -43,7 +42,13 @@ fn after_member(
     state: State,
 ) -> State
     requires { m.t < s.now.before.i }
-    ensures { result ≡ record { bounds = bounds; uniform = uniform_by (least_for rule) d m.i m.j m.t m.offset (rows_in s.now.before.rows.now m.t) state.uniform; storage = member_storage m.i m.j m.t m.offset (rows_in s.now.before.rows.now m.t) state.storage; immediates = member_immediates (rows_in s.now.before.rows.now m.t).immediates state.immediates; previous = struct_at (type_inner s.now.types.now m.t) m.offset } }
+    ensures { result ≡ record {
+      bounds = bounds;
+      uniform = uniform_by (least_for rule) d m.i m.j m.t m.offset (rows_in s.now.before.rows.now m.t) state.uniform;
+      storage = member_storage m.i m.j m.t m.offset (rows_in s.now.before.rows.now m.t) state.storage;
+      immediates = member_immediates (rows_in s.now.before.rows.now m.t).immediates state.immediates;
+      previous = struct_at (type_inner s.now.types.now m.t) m.offset;
+    } }
 {
     let least = valid_type_info::least_for(rule);
     let own = s.before.word(m.t, ir_rows::IMMEDIATES);
@@ -64,7 +69,7 @@ fn member(
     state: State,
 ) -> Result<State, TypeRefusal>
     requires { m.t < s.now.before.i }
-    ensures { judged result ≡ member_step (least_for rule) m.i s.now.part.count s.now.span m.j m.t m.offset (is_array (type_inner s.now.types.now m.t)) (struct_at (type_inner s.now.types.now m.t) m.offset) (rows_in s.now.before.rows.now m.t) state }
+    ensures { judged result ≡ step_in (least_for rule) s.now s.now.part.count m state }
 {
     let d = valid_type_info::distance_to(state.previous, m.offset);
     let bounds = valid_member_bounds::member_bounds(
@@ -91,7 +96,13 @@ pub fn carried(
     uniform: Verdict,
     immediates: u32,
 ) -> State
-    ensures { result ≡ record { bounds = record { end = reached.state.end; flags = reached.state.flags }; uniform = «uniform»; storage = ok_verdict reached.state.storage; immediates = immediates; previous = previous_of (type_inner types.now) part.now reached.taken } }
+    ensures { result ≡ record {
+      bounds = record { end = reached.state.end; flags = reached.state.flags };
+      uniform = «uniform»;
+      storage = ok_verdict reached.state.storage;
+      immediates = immediates;
+      previous = previous_of (type_inner types.now) part.now reached.taken;
+    } }
 {
     State {
         bounds: Bounds {
@@ -136,7 +147,7 @@ fn is_in_order(flags: u32, running: u32, offset: u32, end: u64, span: u32) -> bo
 // The step of a member in order, in fewer tests than `member`.
 fn ordered_member(rule: UniformRule, s: &StructType, m: MemberAt, state: State) -> Option<State>
     requires { m.t < s.now.before.i }
-    ensures { (count : ℕ) → ordered_step result (member_step (least_for rule) m.i count s.now.span m.j m.t m.offset (is_array (type_inner s.now.types.now m.t)) (struct_at (type_inner s.now.types.now m.t) m.offset) (rows_in s.now.before.rows.now m.t) state) }
+    ensures { (count : ℕ) → ordered_step result (step_in (least_for rule) s.now count m state) }
 {
     let flags = s.before.word(m.t, ir_rows::FLAGS);
     let end = valid_member_rules::end_of(m.offset, s.before.word(m.t, ir_rows::SIZE));
@@ -156,7 +167,7 @@ fn ordered_member(rule: UniformRule, s: &StructType, m: MemberAt, state: State) 
 
 // Kept: `from.taken ≤ s.now.part.count`: of how far a loop has come in this struct. A struct of both, as immediates_walk::Walk, would be made of each
 // state that a loop hands on, and Reached is one for every loop.
-// Kept: `GoesOn`: three functions promise that what is known of a state goes on being known. A ghost field of the state would hold the struct and the rule
+// Kept: `GoesOnIn`: three functions promise that what is known of a state goes on being known. A ghost field of the state would hold the struct and the rule
 // of which it is known.
 // Kept: beside `valid_members_plain::plain_members`, up to the first member whose step says none as well: one loop for both would take the step as a
 // closure, and the invariant of each, which its contract names, as a parameter.
@@ -165,7 +176,7 @@ fn ordered_members(rule: UniformRule, s: &StructType, from: Reached<State>) -> R
     requires { from.taken ≤ s.now.part.count }
     ensures taken_le_taken { from.taken ≤ result.taken }
     ensures taken_le_count { result.taken ≤ s.now.part.count }
-    ensures taken_value { GoesOn (least_for rule) (type_inner s.now.types.now) (rows_in s.now.before.rows.now) s.now.before.i s.now.part.count s.now.span s.now.part.words.now from result }
+    ensures taken_value { GoesOnIn (least_for rule) s.now from result }
 {
     let mut state = from.state;
     for j in from.taken..s.part.count {
@@ -213,7 +224,13 @@ fn alignment_of(v: Verdict) -> Option<u32>
 // The same state for the loop of valid_members_plain.
 fn from_state(s: &StructType, from: Reached<State>) -> PlainState
     requires { from.taken ≤ s.now.part.count }
-    ensures { result ≡ record { end = from.state.bounds.end; flags = from.state.bounds.flags; uniform = alignment_of from.state.uniform; storage = from.state.storage.ty; least = least_of from.state.bounds.end (previous_of (type_inner s.now.types.now) s.now.part.words.now from.taken) } }
+    ensures { result ≡ record {
+      end = from.state.bounds.end;
+      flags = from.state.bounds.flags;
+      uniform = alignment_of from.state.uniform;
+      storage = from.state.storage.ty;
+      least = least_of from.state.bounds.end (previous_of (type_inner s.now.types.now) s.now.part.words.now from.taken);
+    } }
 {
     let state = from.state;
     PlainState {
@@ -258,7 +275,7 @@ fn plain_from(s: &StructType, from: Reached<State>) -> Reached<State>
     requires storage_value { from.state.storage ≡ ok_verdict from.state.storage.ty }
     ensures taken_le_taken { from.taken ≤ result.taken }
     ensures taken_le_count { result.taken ≤ s.now.part.count }
-    ensures taken_value { (rule : rule.UniformRule) → GoesOn (least_for rule) (type_inner s.now.types.now) (rows_in s.now.before.rows.now) s.now.before.i s.now.part.count s.now.span s.now.part.words.now from result }
+    ensures taken_value { (rule : rule.UniformRule) → GoesOnIn (least_for rule) s.now from result }
 {
     let start = Reached {
         taken: from.taken,
@@ -283,7 +300,7 @@ fn together(rule: UniformRule, s: &StructType, from: Reached<State>) -> Reached<
     requires { from.taken ≤ s.now.part.count }
     ensures taken_le_taken { from.taken ≤ result.taken }
     ensures taken_le_count { result.taken ≤ s.now.part.count }
-    ensures taken_value { GoesOn (least_for rule) (type_inner s.now.types.now) (rows_in s.now.before.rows.now) s.now.before.i s.now.part.count s.now.span s.now.part.words.now from result }
+    ensures taken_value { GoesOnIn (least_for rule) s.now from result }
 {
     let left = s.part.count - from.taken;
     if are_plain(left, from.state.uniform, from.state.storage) {
@@ -296,8 +313,8 @@ fn together(rule: UniformRule, s: &StructType, from: Reached<State>) -> Reached<
 // The next member by every rule.
 fn step(rule: UniformRule, s: &StructType, at: Reached<State>) -> Result<State, TypeRefusal>
     requires in_part { at.taken < s.now.part.count }
-    requires so_far { state_after (least_for rule) (type_inner s.now.types.now) (rows_in s.now.before.rows.now) s.now.before.i s.now.part.count s.now.span s.now.part.words.now at.taken ≡ ok at.state }
-    ensures { judged result ≡ state_after (least_for rule) (type_inner s.now.types.now) (rows_in s.now.before.rows.now) s.now.before.i s.now.part.count s.now.span s.now.part.words.now (at.taken + 1) }
+    requires so_far { state_in (least_for rule) s.now at.taken ≡ ok at.state }
+    ensures { judged result ≡ state_in (least_for rule) s.now (at.taken + 1) }
 {
     let m = MemberAt {
         i: s.before.i,
@@ -315,8 +332,8 @@ pub fn members_of(
     from: Reached<State>,
 ) -> Result<State, TypeRefusal>
     requires taken_le_count { from.taken ≤ s.now.part.count }
-    requires taken_value { state_after (least_for rule) (type_inner s.now.types.now) (rows_in s.now.before.rows.now) s.now.before.i s.now.part.count s.now.span s.now.part.words.now from.taken ≡ ok from.state }
-    ensures { judged result ≡ state_after (least_for rule) (type_inner s.now.types.now) (rows_in s.now.before.rows.now) s.now.before.i s.now.part.count s.now.span s.now.part.words.now s.now.part.count }
+    requires taken_value { state_in (least_for rule) s.now from.taken ≡ ok from.state }
+    ensures { judged result ≡ state_in (least_for rule) s.now s.now.part.count }
 {
     let mut reached = from;
     // Kept: it goes on by as many members as were taken together, which no range does.

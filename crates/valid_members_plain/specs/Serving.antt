@@ -4,11 +4,13 @@
 -- Assumes nothing.
 use Rattle.std.specs.Prelude.{Option, Some, None, Bool, false, ◌&&◌, List, ◌≡◌, ℕ, ◌+◌, max, eqb}
 use Rattle.ir_records.specs.Result.{ok}
+use Rattle.ir_records.specs.Record.{type_inner}
 use Rattle.ir_records.specs.declared.TypeInner.{TypeInner}
 use Rattle.proc_alignment.specs.Alignment.{is_mask, is_aligned, round_up}
 use Rattle.valid_type_info.specs.declared.PreviousStruct.{PreviousStruct}
 use Rattle.valid_type_info.specs.declared.Row.{Row}
-use Rattle.valid_type_info.specs.TypeInfo.{row_sizes, row_flags}
+use Rattle.valid_type_info.specs.declared.StructType.{StructType}
+use Rattle.valid_type_info.specs.TypeInfo.{row_sizes, row_flags, rows_in}
 use Rattle.valid_type_info.specs.declared.Verdict.{Verdict}
 use Rattle.valid_type_info.specs.Verdict.{min_uniform, ok_verdict, is_ok, alignment_in, struct_at, previous_of}
 use Rattle.valid_member_bounds.specs.declared.Bounds.{Bounds}
@@ -77,3 +79,10 @@ PlainAfter least inner rows i count span members j u immediates s =
     × (storage_after rows i members j ≡ ok_verdict s.storage)
     × (immediates_after rows members j ≡ immediates)
     × (least_of s.end (previous_of inner members j) ≡ s.least)
+
+-- ---- the same of a struct with what its rules read
+abbrev pub StepsIn : (least : ℕ) (u : Verdict) → StructType → (count j t offset : ℕ) → Option PreviousStruct → PlainState → Option PlainState → Type 0
+StepsIn least u s count j t offset = Stepped least u (type_inner (s.types.now) t) (rows_in (s.before.rows.now) t) (s.before.i) count (s.span) j t offset
+
+abbrev pub PlainIn : (least : ℕ) → StructType → (j : ℕ) (u : Verdict) (immediates : ℕ) → PlainState → Type 0
+PlainIn least s = PlainAfter least (type_inner (s.types.now)) (rows_in (s.before.rows.now)) (s.before.i) (s.part.count) (s.span) (s.part.words.now)

@@ -10,7 +10,8 @@ ghost use Rattle.valid_type_info.specs.declared.UniformRule as rule;
 ghost use Rattle.valid_type_info.specs.declared.Verdict as verdict;
 ghost use Rattle.valid_type_info.specs.TypeInfo.{rows_in};
 ghost use Rattle.valid_type_info.specs.Verdict.{min_storage, least_for, alignment_in, struct_at};
-ghost use Rattle.valid_members_plain.specs.Serving.{least_of, keeps_verdicts, keeps_storage, keeps, alignment_after, uniform_so_far, HasFailed, Stepped, PlainAfter};
+ghost use Rattle.valid_members_plain.specs.Serving.{least_of, keeps_verdicts, keeps_storage, keeps, alignment_after};
+ghost use Rattle.valid_members_plain.specs.Serving.{uniform_so_far, HasFailed, StepsIn, PlainIn};
 
 use ir_records::Kind;
 use ir_rows::Earlier;
@@ -104,7 +105,8 @@ fn uniform_after(before: Earlier, t: u32, so_far: Option<u32>) -> Option<u32>
 #[inline(always)]
 fn plain_member(s: &StructType, t: u32, offset: u32, state: PlainState) -> Option<PlainState>
     requires { t < s.now.before.i }
-    ensures { (rule : rule.UniformRule) (u : verdict.Verdict) (count j : ℕ) (before : Option PreviousStruct) → HasFailed state.uniform u → least_of state.end before ≡ state.least → Stepped (least_for rule) u (type_inner s.now.types.now t) (rows_in s.now.before.rows.now t) s.now.before.i count s.now.span j t offset before state result }
+    ensures { (rule : rule.UniformRule) (u : verdict.Verdict) (count j : ℕ) (before : Option PreviousStruct) → HasFailed state.uniform u
+        → least_of state.end before ≡ state.least → StepsIn (least_for rule) u s.now count j t offset before state result }
 {
     let flags = s.before.word(t, ir_rows::FLAGS);
     let end = valid_member_rules::end_of(offset, s.before.word(t, ir_rows::SIZE));
@@ -162,7 +164,9 @@ pub fn plain_members(s: &StructType, from: Reached<PlainState>) -> Reached<Plain
     requires { from.taken ≤ s.now.part.count }
     ensures taken_le_taken { from.taken ≤ result.taken }
     ensures taken_le_count { result.taken ≤ s.now.part.count }
-    ensures plain_after { (rule : rule.UniformRule) (u : verdict.Verdict) (immediates : ℕ) → HasFailed from.state.uniform u → PlainAfter (least_for rule) (type_inner s.now.types.now) (rows_in s.now.before.rows.now) s.now.before.i s.now.part.count s.now.span s.now.part.words.now from.taken (uniform_so_far from.state.uniform u) immediates from.state → PlainAfter (least_for rule) (type_inner s.now.types.now) (rows_in s.now.before.rows.now) s.now.before.i s.now.part.count s.now.span s.now.part.words.now result.taken (uniform_so_far result.state.uniform u) immediates result.state }
+    ensures plain_after { (rule : rule.UniformRule) (u : verdict.Verdict) (immediates : ℕ) → HasFailed from.state.uniform u
+        → PlainIn (least_for rule) s.now from.taken (uniform_so_far from.state.uniform u) immediates from.state
+        → PlainIn (least_for rule) s.now result.taken (uniform_so_far result.state.uniform u) immediates result.state }
 {
     let mut state = from.state;
     for j in from.taken..s.part.count {

@@ -11,7 +11,7 @@ ghost use Rattle.ir_records.specs.Fields.{sources_located};
 ghost use Rattle.ir_records.specs.declared.TypeInner.TheVariants.{Struct};
 ghost use Rattle.valid_type_info.specs.TypeInfo.{rows_in};
 ghost use Rattle.valid_type_info.specs.Verdict.{least_for};
-ghost use Rattle.valid_members.specs.Serving.{Told};
+ghost use Rattle.valid_members.specs.Serving.{ToldIn};
 ghost use Rattle.valid_types.specs.ValidateType.{judge};
 ghost use Rattle.valid_types.specs.Serving.{Settled};
 ghost use Rattle.valid_types.specs.Serving.{words_row, record_row};
@@ -27,7 +27,7 @@ use valid_type_info::{Row, StructType, UniformRule};
 // All members of struct s, by the rules that do not read blend sources. Where none breaks a rule, no member comes next, and the struct right before it
 // is not looked for.
 fn members_of(rule: UniformRule, s: &StructType) -> Result<State, TypeRefusal>
-    ensures { Told (least_for rule) (type_inner s.now.types.now) (rows_in s.now.before.rows.now) s.now.before.i s.now.part.count s.now.span s.now.part.words.now result }
+    ensures { ToldIn (least_for rule) s.now result }
 {
     let start = Reached {
         taken: 0,
@@ -77,7 +77,9 @@ fn members_row(
     requires i_in_bounds_2 { i * 6 ≤ length types.now }
     requires by_index { (j : ℕ) → j < part.count → member_type part.words.now j < i }
     requires sourceless { located.sourced ≡ false → Sourceless part.words.now (member_count part.words.now) }
-    ensures { Settled result (i * 14) rows.old rows.new (judge (least_for rule) capabilities (type_inner types.now) (rows_in (take (i * 14) rows.old)) i (record { size = span; alignment = located.alignment }) (Struct part.entry.count span) part.entry.words.now) }
+    ensures { Settled result (i * 14) rows.old rows.new
+        (judge (least_for rule) capabilities (type_inner types.now) (rows_in (take (i * 14) rows.old)) i
+        (record { size = span; alignment = located.alignment }) (Struct part.entry.count span) part.entry.words.now) }
 {
     if part.count == 0 {
         return Err(TypeRefusal::of(Fault::EmptyStruct));
@@ -134,7 +136,10 @@ fn struct_row(
 ) -> Result<(), TypeRefusal>
     requires i_in_bounds { i * 14 + 14 ≤ length rows.old }
     requires i_in_bounds_2 { i * 6 ≤ length types.now }
-    ensures { (n : ℕ) → Settled result (i * 14) rows.old rows.new (require (sources_located (take (w.b * member_words) (drop (w.a * member_words) members.now))) 2 0 0 (words_row (least_for rule) capabilities (member_count members.now) n (type_inner types.now) (take (i * 14) rows.old) i struct_kind w.a w.b w.c w.d w.e (take (w.b * member_words) (drop (w.a * member_words) members.now)))) }
+    ensures { (n : ℕ) → Settled result (i * 14) rows.old rows.new
+        (require (sources_located (take (w.b * member_words) (drop (w.a * member_words) members.now))) 2 0 0
+        (words_row (least_for rule) capabilities (member_count members.now) n (type_inner types.now) (take (i * 14) rows.old) i struct_kind w.a w.b w.c w.d
+        w.e (take (w.b * member_words) (drop (w.a * member_words) members.now)))) }
 {
     ir_fields::struct_fields(ir_records::member_count(members), w)?;
     let part = ir_records::member_part(members, w.a, w.b);

@@ -9,7 +9,8 @@ ghost use Rattle.ir_records.specs.Record.{atomic_kind, value_pointer_kind, type_
 ghost use Rattle.ir_records.specs.Refusal.{judged};
 ghost use Rattle.valid_flags.specs.Flags.{starting_flags, pointer_flags};
 ghost use Rattle.valid_width.specs.Width.{check_width, atomic_width};
-ghost use Rattle.valid_type_flags.specs.TypeFlags.{with_width, cooperative_flags, vertex_flags, matrix_flags, ray_query_flags, image_flags, is_struct, is_external_image, pointer_to, acceleration_flags, is_binding_base, binding_array_of};
+ghost use Rattle.valid_type_flags.specs.TypeFlags.{with_width, cooperative_flags, vertex_flags, matrix_flags, ray_query_flags, image_flags};
+ghost use Rattle.valid_type_flags.specs.TypeFlags.{is_struct, is_external_image, pointer_to, acceleration_flags, is_binding_base, binding_array_of};
 ghost use Rattle.valid_type_flags.specs.Serving.{NamesDimension, NamesClass, arrayed_image, external_image};
 
 use ir_records::{Fault, Kind, ScalarKind, TypeRefusal};

@@ -7,7 +7,8 @@ ghost use Rattle.ir_records.specs.Record.{member_type};
 ghost use Rattle.valid_type_info.specs.declared.Verdict as verdict;
 ghost use Rattle.valid_type_info.specs.declared.UniformRule as rule;
 ghost use Rattle.valid_type_info.specs.declared.Distance.TheVariants.{Overflow};
-ghost use Rattle.valid_type_info.specs.Verdict.{NamesRule, is_ok, min_uniform, least_for, ok_verdict, array_verdict, share_verdict, offset_verdict, member_verdict, distance_verdict, distance_ok, unsized_verdict, span_verdict};
+ghost use Rattle.valid_type_info.specs.Verdict.{NamesRule, is_ok, min_uniform, least_for, ok_verdict, array_verdict, share_verdict};
+ghost use Rattle.valid_type_info.specs.Verdict.{offset_verdict, member_verdict, distance_verdict, distance_ok, unsized_verdict, span_verdict};
 ghost use Rattle.valid_type_info.specs.Serving.{NamesDisalignment, after_distance, is_within};
 
 use ir_records::{Fault, Members, Refusal, TypeRefusal};
@@ -223,7 +224,8 @@ pub fn member_verdict(m: MemberAt, so_far: Verdict, member: Verdict) -> Verdict
 // The distance from this struct; none where a sum or the difference of the Rust leaves 32 bits.
 fn distance_from(previous: PreviousStruct, offset: u32) -> Option<Distance>
     ensures within { is_within (unwrap_or result Overflow) ≡ distance_ok (Some previous) offset }
-    ensures verdict { (rule : rule.UniformRule) (i j : ℕ) (v : verdict.Verdict) → is_within (unwrap_or result Overflow) ≡ true → after_distance (least_for rule) (unwrap_or result Overflow) i j offset v ≡ distance_verdict (least_for rule) i j offset (Some previous) v }
+    ensures verdict { (rule : rule.UniformRule) (i j : ℕ) (v : verdict.Verdict) → is_within (unwrap_or result Overflow) ≡ true
+        → after_distance (least_for rule) (unwrap_or result Overflow) i j offset v ≡ distance_verdict (least_for rule) i j offset (Some previous) v }
 {
     let diff = offset.checked_sub(previous.offset)?;
     // The Rust's span + 15 leaves 32 bits just where the rounded span does.
@@ -238,7 +240,8 @@ fn distance_from(previous: PreviousStruct, offset: u32) -> Option<Distance>
 // The distance rule; Overflow where a sum or the difference of the Rust leaves 32 bits.
 pub fn distance_to(previous: Option<PreviousStruct>, offset: u32) -> Distance
     ensures within { is_within result ≡ distance_ok previous offset }
-    ensures verdict { (rule : rule.UniformRule) (i j : ℕ) (v : verdict.Verdict) → is_within result ≡ true → after_distance (least_for rule) result i j offset v ≡ distance_verdict (least_for rule) i j offset previous v }
+    ensures verdict { (rule : rule.UniformRule) (i j : ℕ) (v : verdict.Verdict) → is_within result ≡ true
+        → after_distance (least_for rule) result i j offset v ≡ distance_verdict (least_for rule) i j offset previous v }
 {
     match previous {
         None => Distance::Enough,

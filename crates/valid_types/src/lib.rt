@@ -4,7 +4,9 @@
 
 ghost use Rattle.std.specs.Prelude.{◌≡◌, List, ℕ, ◌+◌, ◌*◌, ◌≤◌, length, take};
 ghost use Rattle.ir_records.specs.Kinds.{kind_number};
-ghost use Rattle.ir_records.specs.Record.{scalar_kind, vector_kind, matrix_kind, cooperative_matrix_kind, atomic_kind, pointer_kind, value_pointer_kind, array_kind, struct_kind, image_kind, sampler_kind, acceleration_structure_kind, ray_query_kind, binding_array_kind, type_count, type_inner};
+ghost use Rattle.ir_records.specs.Record.{scalar_kind, vector_kind, matrix_kind, cooperative_matrix_kind, atomic_kind, pointer_kind};
+ghost use Rattle.ir_records.specs.Record.{value_pointer_kind, array_kind, struct_kind, image_kind, sampler_kind, acceleration_structure_kind};
+ghost use Rattle.ir_records.specs.Record.{ray_query_kind, binding_array_kind, type_count, type_inner};
 ghost use Rattle.ir_records.specs.declared.TypeInner as inner;
 ghost use Rattle.valid_flags.specs.Flags.{starting_flags, scalar_flags};
 ghost use Rattle.valid_width.specs.Width.{check_width};
@@ -221,7 +223,9 @@ pub fn plain_row(
     requires i_in_bounds { i * 14 + 14 ≤ length rows.old }
     requires fact { w.kind ≡ array_kind → ⊥ }
     requires fact_2 { w.kind ≡ struct_kind → ⊥ }
-    ensures { (least m : ℕ) (members : List ℕ) → Settled result (i * 14) rows.old rows.new (words_row least capabilities m (type_count types.now) (type_inner types.now) (take (i * 14) rows.old) i w.kind w.a w.b w.c w.d w.e members) }
+    ensures { (least m : ℕ) (members : List ℕ)
+        → Settled result (i * 14) rows.old rows.new
+        (words_row least capabilities m (type_count types.now) (type_inner types.now) (take (i * 14) rows.old) i w.kind w.a w.b w.c w.d w.e members) }
 {
     let at = (i as usize) * ir_records::ROW_WORDS;
     let row = judge_plain(capabilities, types, &rows[..at], w)?;
@@ -285,7 +289,8 @@ fn array_over(
 // The same of an array, with numbers 2 to 7 before it.
 pub fn array_row(least: u32, rows: &mut [u32], i: u32, w: Words) -> Result<(), TypeRefusal>
     requires { i * 14 + 14 ≤ length rows.old }
-    ensures { (c m n : ℕ) (inner : ℕ → inner.TypeInner) (members : List ℕ) → Settled result (i * 14) rows.old rows.new (words_row least c m n inner (take (i * 14) rows.old) i array_kind w.a w.b w.c w.d w.e members) }
+    ensures { (c m n : ℕ) (inner : ℕ → inner.TypeInner) (members : List ℕ)
+        → Settled result (i * 14) rows.old rows.new (words_row least c m n inner (take (i * 14) rows.old) i array_kind w.a w.b w.c w.d w.e members) }
 {
     let at = (i as usize) * ir_records::ROW_WORDS;
     let layout = proc_type_layout::array_record(&rows[..at], i, w)?;

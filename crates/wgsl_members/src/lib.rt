@@ -10,7 +10,8 @@ ghost use Rattle.ir_records.specs.Refusal.{number_of};
 ghost use Rattle.wgsl_tokens.specs.Tokens.{from};
 ghost use Rattle.wgsl_grammar.specs.Serving.{number_read};
 ghost use Rattle.wgsl_tables.specs.Tables.{name_in, structs_in};
-ghost use Rattle.wgsl_members.specs.Members.{attributes, again, value_of, attribute_of, attributes_of, align_fits, size_fits, attributes_fit, align_of_member, size_of_member, typed_member, named_member, member_of};
+ghost use Rattle.wgsl_members.specs.Members.{attributes, again, value_of, attribute_of, attributes_of, align_fits, size_fits};
+ghost use Rattle.wgsl_members.specs.Members.{attributes_fit, align_of_member, size_of_member, typed_member, named_member, member_of};
 ghost use Rattle.wgsl_members.specs.Serving.{attributes_read, tables, members_in, Bounds, MemberRead, Placeable, PlacedIn, Fits, Unplaced};
 
 use ir_records::Records;
@@ -205,7 +206,8 @@ fn place_member(
     name: Span,
 ) -> Body
     requires { Placeable names.old members.old body }
-    ensures { (a : Attributes) → fit.align ≡ align_of_member a closed.shape → fit.size ≡ size_of_member a closed.shape → PlacedIn names.old names.new members.old members.new body a closed.shape closed.made name closed.end.at result }
+    ensures { (a : Attributes) → fit.align ≡ align_of_member a closed.shape → fit.size ≡ size_of_member a closed.shape
+        → PlacedIn names.old names.new members.old members.new body a closed.shape closed.made name closed.end.at result }
 {
     let shape = closed.shape;
     let offset = proc_alignment::round_up_wide(fit.align, body.end);
@@ -260,7 +262,9 @@ fn typed_member(
     at: usize,
 ) -> Result<Body, Refusal>
     requires { Bounds room (tables names.old types.old members.old) body }
-    ensures { MemberRead s.now room (tables names.old types.old members.old) (tables names.new types.new members.new) body (typed_member room (structs_in s.now structs.now) (members_in s.now (tables names.old types.old members.old) body) attributes (name_in s.now name.start name.end) (from s.now at)) result }
+    ensures { MemberRead s.now room (tables names.old types.old members.old) (tables names.new types.new members.new) body
+        (typed_member room (structs_in s.now structs.now) (members_in s.now (tables names.old types.old members.old) body) attributes
+        (name_in s.now name.start name.end) (from s.now at)) result }
 {
     let read = wgsl_types::read_type(
         s,
@@ -293,7 +297,9 @@ fn named_member(
     at: usize,
 ) -> Result<Body, Refusal>
     requires { Bounds room (tables names.old types.old members.old) body }
-    ensures { MemberRead s.now room (tables names.old types.old members.old) (tables names.new types.new members.new) body (named_member room (structs_in s.now structs.now) (members_in s.now (tables names.old types.old members.old) body) attributes (from s.now at)) result }
+    ensures { MemberRead s.now room (tables names.old types.old members.old) (tables names.new types.new members.new) body
+        (named_member room (structs_in s.now structs.now) (members_in s.now (tables names.old types.old members.old) body) attributes (from s.now at))
+        result }
 {
     let name = wgsl_grammar::name_at(s, at)?;
     let w = name.bytes(s);
@@ -318,7 +324,8 @@ pub fn read_member(
     body: Body,
 ) -> Result<Body, Refusal>
     requires { Bounds room (tables names.old types.old members.old) body }
-    ensures { MemberRead s.now room (tables names.old types.old members.old) (tables names.new types.new members.new) body (member_of (length s.now) room (structs_in s.now structs.now) (members_in s.now (tables names.old types.old members.old) body)) result }
+    ensures { MemberRead s.now room (tables names.old types.old members.old) (tables names.new types.new members.new) body
+        (member_of (length s.now) room (structs_in s.now structs.now) (members_in s.now (tables names.old types.old members.old) body)) result }
 {
     let given = attributes_at(s, body.at)?;
     named_member(

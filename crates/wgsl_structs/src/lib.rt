@@ -9,7 +9,8 @@ ghost use Rattle.wgsl_grammar.specs.Grammar.{expect};
 ghost use Rattle.wgsl_tables.specs.Tables.{name_in, structs_in};
 ghost use Rattle.wgsl_members.specs.Serving.{tables, members_in, Bounds};
 ghost use Rattle.wgsl_structs.specs.Structs.{goes, closes_or, member_end, members_of, struct_body, struct_of, declaration_of, declarations_of};
-ghost use Rattle.wgsl_structs.specs.Serving.{end_read, MembersRead, declarations, declared_in, StateBounds, StructRead, Closable, ClosedIn, first, DeclarationRead};
+ghost use Rattle.wgsl_structs.specs.Serving.{end_read, MembersRead, declarations, declared_in, StateBounds};
+ghost use Rattle.wgsl_structs.specs.Serving.{StructRead, Closable, ClosedIn, first, DeclarationRead};
 
 use ir_records::{Kind, Records, Words};
 use program_words::Span;
@@ -70,7 +71,9 @@ fn read_members(
     first: Body,
 ) -> Result<MembersAt, Refusal>
     requires { Bounds room (tables names.old types.old members.old) first }
-    ensures { MembersRead s.now room (tables names.old types.old members.old) (tables names.new types.new members.new) first (members_of (length s.now) (length s.now) room (structs_in s.now structs.now) (members_in s.now (tables names.old types.old members.old) first)) result }
+    ensures { MembersRead s.now room (tables names.old types.old members.old) (tables names.new types.new members.new) first
+        (members_of (length s.now) (length s.now) room (structs_in s.now structs.now) (members_in s.now (tables names.old types.old members.old) first))
+        result }
 {
     let mut body = first;
     // Kept: the turns are those of the definition. `while let ControlFlow::Continue(at) = end_at(..)?` would have to fall in the tokens that are left, and a law
@@ -144,7 +147,9 @@ fn struct_body(
     at: usize,
 ) -> Result<State, Refusal>
     requires { StateBounds room (declarations structs.old names.old types.old members.old) state }
-    ensures { StructRead s.now room (declarations structs.old names.old types.old members.old) (declarations structs.new names.new types.new members.new) state (struct_body (length s.now) room (declared_in s.now (declarations structs.old names.old types.old members.old) state) (name_in s.now name.start name.end) (from s.now at)) result }
+    ensures { StructRead s.now room (declarations structs.old names.old types.old members.old) (declarations structs.new names.new types.new members.new)
+        state (struct_body (length s.now) room (declared_in s.now (declarations structs.old names.old types.old members.old) state)
+        (name_in s.now name.start name.end) (from s.now at)) result }
 {
     let first = Body {
         names: 0,
@@ -174,7 +179,8 @@ fn read_struct(
     at: usize,
 ) -> Result<State, Refusal>
     requires { StateBounds room (declarations structs.old names.old types.old members.old) state }
-    ensures { StructRead s.now room (declarations structs.old names.old types.old members.old) (declarations structs.new names.new types.new members.new) state (struct_of (length s.now) room (declared_in s.now (declarations structs.old names.old types.old members.old) state) (from s.now at)) result }
+    ensures { StructRead s.now room (declarations structs.old names.old types.old members.old) (declarations structs.new names.new types.new members.new)
+        state (struct_of (length s.now) room (declared_in s.now (declarations structs.old names.old types.old members.old) state) (from s.now at)) result }
 {
     let name = wgsl_grammar::name_at(s, at)?;
     let earlier = &structs[..state.structs as usize];
@@ -196,7 +202,10 @@ fn declaration_at(
     state: State,
 ) -> Result<Option<State>, Refusal>
     requires { StateBounds room (declarations structs.old names.old types.old members.old) state }
-    ensures { DeclarationRead s.now room (declarations structs.old names.old types.old members.old) (declarations structs.new names.new types.new members.new) state (declaration_of (length s.now) room (declared_in s.now (declarations structs.old names.old types.old members.old) state) (from s.now state.at)) result }
+    ensures { DeclarationRead s.now room (declarations structs.old names.old types.old members.old)
+        (declarations structs.new names.new types.new members.new) state
+        (declaration_of (length s.now) room (declared_in s.now (declarations structs.old names.old types.old members.old) state) (from s.now state.at))
+        result }
 {
     match wgsl_tokens::next_token(s, state.at) {
         Ok(None) => Ok(None),
@@ -219,7 +228,9 @@ pub fn read_declarations(
     room: Records,
 ) -> Result<State, Refusal>
     requires { StateBounds room (declarations structs.old names.old types.old members.old) first }
-    ensures { StructRead s.now room (declarations structs.old names.old types.old members.old) (declarations structs.new names.new types.new members.new) first (declarations_of (length s.now) (length s.now + 1) room (declared_in s.now (declarations structs.old names.old types.old members.old) first)) result }
+    ensures { StructRead s.now room (declarations structs.old names.old types.old members.old) (declarations structs.new names.new types.new members.new)
+        first (declarations_of (length s.now) (length s.now + 1) room (declared_in s.now (declarations structs.old names.old types.old members.old) first))
+        result }
 {
     let mut state = State {
         structs: 0,

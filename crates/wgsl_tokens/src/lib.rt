@@ -5,7 +5,8 @@
 
 ghost use Rattle.std.specs.Prelude.{◌≡◌, true, false, ◌≤◌, ◌<◌, length, get_or};
 ghost use Rattle.program_words.specs.Number.{is_digit};
-ghost use Rattle.wgsl_tokens.specs.Tokens.{code, is_blank, ends_line, is_ascii, starts_word, in_word, is_mark, opens_line, opens_block, closes_block, line, block};
+ghost use Rattle.wgsl_tokens.specs.Tokens.{code, is_blank, ends_line, is_ascii, starts_word, in_word};
+ghost use Rattle.wgsl_tokens.specs.Tokens.{is_mark, opens_line, opens_block, closes_block, line, block};
 ghost use Rattle.wgsl_tokens.specs.Lexed.{starts_gap, end_of, StartAt, LexedAt, TokenAt};
 ghost use Rattle.wgsl_tokens.specs.Serving.{GapAt, BlockAt};
 
@@ -252,7 +253,8 @@ fn word_at(s: &[u8], start: usize) -> Result<Lexed, BadToken>
 
 // A number that starts at a position: no leading zero, no suffix, no point.
 fn number_at(s: &[u8], start: usize) -> Result<Lexed, BadToken>
-    requires { (start < length s.now) × (starts_gap s.now start ≡ false) × (starts_word (get_or s.now start 0) ≡ false) × (is_digit (get_or s.now start 0) ≡ true) }
+    requires { (start < length s.now) × (starts_gap s.now start ≡ false) × (starts_word (get_or s.now start 0) ≡ false)
+        × (is_digit (get_or s.now start 0) ≡ true) }
     ensures { LexedAt s.now start result }
 {
     let end = program_words::run_end(s, start + 1, program_words::is_digit);

@@ -8,7 +8,8 @@ ghost use Rattle.std.proofs.Math.Option.{some};
 ghost use Rattle.ir_records.specs.Record.{type_words};
 ghost use Rattle.wgsl_tokens.specs.Tokens.{Token, from};
 ghost use Rattle.wgsl_tables.specs.Tables.{Records, records_in, structs_in};
-ghost use Rattle.wgsl_types.specs.Types.{known_type, Closing, make_type, scalar_type, close_template, template_of, template_type, number_count, comma_count, count_of, close_array, array_of, arguments_of, type_after, type_of};
+ghost use Rattle.wgsl_types.specs.Types.{known_type, Closing, make_type, scalar_type, close_template, template_of, template_type, number_count};
+ghost use Rattle.wgsl_types.specs.Types.{comma_count, count_of, close_array, array_of, arguments_of, type_after, type_of};
 ghost use Rattle.wgsl_types.specs.Serving.{count_read, opened_type, refused_inside, TypeRead, Room};
 
 use ir_records::Words;
@@ -96,7 +97,8 @@ pub fn known_type(s: &[u8], structs: &[NamedShape], w: &[u8]) -> Option<Known>
 // The name of a type, and the `<` of a template.
 #[tactic(auto, unfolding(crate::specs::Types::type_after))]
 fn open_type(s: &[u8], structs: &[NamedShape], at: usize) -> Result<Opened, Refusal>
-    ensures { (inner : Records → List Token → Closing) (room left : ℕ) (types : Records) → type_after inner room left (structs_in s.now structs.now) types (from s.now at) ≡ opened_type inner room left types s.now result }
+    ensures { (inner : Records → List Token → Closing) (room left : ℕ) (types : Records)
+        → type_after inner room left (structs_in s.now structs.now) types (from s.now at) ≡ opened_type inner room left types s.now result }
 {
     let name = wgsl_grammar::name_at(s, at)?;
     let known = known_type(s, structs, name.bytes(s)).ok_or(Refusal::of(Problem::UnknownType, at))?;
@@ -195,7 +197,8 @@ fn template_of(
     end: End,
 ) -> Result<Closed, Unclosed>
     requires { Room room made types.old }
-    ensures { TypeRead s.now room made types.old types.new (template_of room (records_in type_words types.old made) template (some scalar) (from s.now end.at)) result }
+    ensures { TypeRead s.now room made types.old types.new
+        (template_of room (records_in type_words types.old made) template (some scalar) (from s.now end.at)) result }
 {
     let inner = make_scalar(types, room, made, scalar, end).map_err(refused_inside)?;
     close_template(s, types, room, inner.made, template, scalar, inner.end.at)
@@ -292,7 +295,8 @@ fn close_array(
     end: End,
 ) -> Result<Closed, Unclosed>
     requires { Room room made types.old }
-    ensures { (s : List ℕ) → TypeRead s room made types.old types.new (close_array room element (records_in type_words types.old made) (record { count = count; rest = from s end.at })) result }
+    ensures { (s : List ℕ) → TypeRead s room made types.old types.new
+        (close_array room element (records_in type_words types.old made) (record { count = count; rest = from s end.at })) result }
 {
     let measure = wgsl_placement::array_measure(count, element).ok_or(Refusal::of(
         Problem::LargeArray,
@@ -337,7 +341,8 @@ pub fn read_type(
     left: u32,
 ) -> Result<Closed, Unclosed>
     requires { Room room made types.old }
-    ensures { TypeRead s.now room made types.old types.new (type_of room left (structs_in s.now structs.now) (records_in type_words types.old made) (from s.now at)) result }
+    ensures { TypeRead s.now room made types.old types.new
+        (type_of room left (structs_in s.now structs.now) (records_in type_words types.old made) (from s.now at)) result }
 {
     if left == 0 {
         return Err(Refusal::of(Problem::TooDeep, at).into());
@@ -365,7 +370,8 @@ fn read_arguments(
     left: u32,
 ) -> Result<Closed, Unclosed>
     requires { Room room made types.old }
-    ensures { TypeRead s.now room made types.old types.new (arguments_of room (type_of room left (structs_in s.now structs.now) (records_in type_words types.old made) (from s.now at))) result }
+    ensures { TypeRead s.now room made types.old types.new
+        (arguments_of room (type_of room left (structs_in s.now structs.now) (records_in type_words types.old made) (from s.now at))) result }
 {
     let inner = read_type(s, structs, types, room, made, at, left).map_err(refused_inside)?;
     array_of(s, types, room, inner.made, inner.shape, inner.end.at)
