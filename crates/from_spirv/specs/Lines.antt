@@ -20,4 +20,5 @@ no_members = replicate 16384 0
 
 unfoldable pub module_lines : List ℕ → List ℕ
 module_lines words =
-    section_lines (section_of (read_into words no_types no_members)) (types_after (read_into words no_types no_members) no_types) (members_after (read_into words no_types no_members) no_members)
+    let read = read_into words no_types no_members in
+    section_lines (section_of read) (types_after read no_types) (members_after read no_members)

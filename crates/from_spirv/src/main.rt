@@ -2,11 +2,13 @@
 // type and member that `inspect` takes, or the refusal.
 #![tactic(auto)]
 
-ghost use Rattle.std.specs.Prelude.{◌≤◌, length};
+ghost use Rattle.std.specs.Prelude.{◌≡◌, ◌≤◌, length, take, true, IfSome};
+ghost use Rattle.std.specs.Io.KnownBytes.{Appends};
 ghost use Rattle.io.specs.Counts.{IsPrefixLen};
 ghost use Rattle.program_output.specs.Bytes.{Adds};
-ghost use Rattle.from_spirv.specs.Serving.{HeldWithin};
+ghost use Rattle.from_spirv.specs.Serving.{HeldWithin, count_of};
 ghost use Rattle.from_spirv.specs.Lines.{module_lines};
+ghost use Rattle.from_spirv.specs.Inputs.{error_text, HeldWith, Came, HeldAfter, Answered};
 
 use ir_records::Refusal;
 use program_input::STDOUT;
@@ -25,12 +27,21 @@ enum InputError {
 }
 
 impl InputError {
-    fn message(self) -> &'static [u8] {
+    fn message(self) -> &'static [u8]
+        ensures { result.now ≡ error_text self }
+    {
         match self {
             InputError::Odd => b"the module is no whole number of words\n",
             InputError::Long => b"the module is longer than 1048576 words\n",
         }
     }
+}
+
+/// How many bytes or words are held of the input, and whether it is known to have ended there: a full buffer and a read that failed do not tell.
+#[derive(Clone, Copy, Debug, PartialEq, Eq)]
+pub struct Held {
+    pub count: usize,
+    pub ended: bool,
 }
 
 // What is written of a module.
@@ -46,10 +57,13 @@ fn put_answer(out: &mut Output, words: &[u32])
     }
 }
 
-fn answer<W: Write>(to: &mut W, words: &[u32]) {
+// Writes the answer to a module, and tells whether it could be written.
+fn answer<W: Write>(to: &mut W, words: &[u32]) -> bool
+    ensures { result ≡ true → Appends (W.contents to.old) (W.contents to.new) (module_lines words.now) }
+{
     let mut out = Output::new();
     put_answer(&mut out, words);
-    out.write_out(to);
+    out.write_out(to)
 }
 
 // What is held with the bytes of one read.
@@ -57,7 +71,8 @@ fn answer<W: Write>(to: &mut W, words: &[u32]) {
 // `spirv_input::append` takes both.
 fn with_bytes(words: &mut [u32], held: usize, bytes: &[u8]) -> Result<usize, InputError>
     requires { held ≤ length words.old }
-    ensures { HeldWithin held (length words.old) result }
+    ensures within { HeldWithin held (length words.old) result }
+    ensures words { HeldWith bytes.now held words.old words.new result }
 {
     let got = bytes.len();
     if got % 4 != 0 {
@@ -72,52 +87,71 @@ fn with_bytes(words: &mut [u32], held: usize, bytes: &[u8]) -> Result<usize, Inp
 }
 
 // Reads until the buffer is full, the input ends or a read fails, and says how many bytes stand at the start of the buffer.
-fn read_full<S: Read>(source: &mut S, buffer: &mut [u8]) -> usize
-    ensures { IsPrefixLen result buffer.new }
+fn read_full<S: Read>(source: &mut S, buffer: &mut [u8]) -> Held
+    ensures within { IsPrefixLen result.count buffer.new }
+    ensures bytes { Came (S.remaining source.old) (S.remaining source.new) (take result.count buffer.new) result.ended }
 {
     let mut held: usize = 0;
     // Kept: a read gives as many bytes as it has, so no range counts it; and `program_files::read_all` refuses a full buffer and a failed read, and tells
     // no count with them, where here the bytes that came are used.
     while let Ok(more) = program_input::read_after(source, buffer, held) {
         if more == 0 {
-            return held;
+            return Held {
+                count: held,
+                ended: true,
+            };
         }
         held += more;
     }
-    held
+    Held {
+        count: held,
+        ended: false,
+    }
 }
 
 // What one full buffer of the input adds to the words that are held.
-fn read_more<S: Read>(source: &mut S, words: &mut [u32], held: usize) -> Result<usize, InputError>
+fn read_more<S: Read>(source: &mut S, words: &mut [u32], held: usize) -> Result<Held, InputError>
     requires { held ≤ length words.old }
-    ensures { HeldWithin held (length words.old) result }
+    ensures within { HeldWithin held (length words.old) (count_of result) }
+    ensures words { HeldAfter (S.remaining source.old) (S.remaining source.new) held words.old words.new result }
 {
     let mut buffer = io::large_buffer();
     let got = read_full(source, &mut buffer);
-    with_bytes(words, held, &buffer[..got])
+    let count = with_bytes(words, held, &buffer[..got.count])?;
+    Ok(Held {
+        count,
+        ended: got.ended,
+    })
 }
 
 // All words of the input.
 // Kept: program_files::read_all reads bytes. Here each full buffer is made words at once; by it 4 MiB of bytes would be held beside 4 MiB of words.
-fn read_all<S: Read>(source: &mut S, words: &mut [u32]) -> Result<usize, InputError>
-    ensures { HeldWithin 0 (length words.old) result }
+fn read_all<S: Read>(source: &mut S, words: &mut [u32]) -> Result<Held, InputError>
+    ensures within { HeldWithin 0 (length words.old) (count_of result) }
+    ensures words { HeldAfter (S.remaining source.old) (S.remaining source.new) 0 words.old words.new result }
 {
     let mut held: usize = 0;
     // Kept: it ends where nothing more is held, after as many buffers as the input has.
     loop {
         let now = read_more(source, words, held)?;
-        if now <= held {
-            return Ok(held);
+        if now.count <= held {
+            return Ok(now);
         }
-        held = now;
+        held = now.count;
     }
 }
 
-fn read_and_answer<S: Read, W: Write>(source: &mut S, to: &mut W) {
+// Writes the answer to the module that the input is, and tells whether all of the input was read and the answer could be written.
+fn read_and_answer<S: Read, W: Write>(source: &mut S, to: &mut W) -> bool
+    ensures { result ≡ true → IfSome (S.remaining source.old) (λ input. Answered input (W.contents to.old) (W.contents to.new)) }
+{
     let mut words = program_files::filled::<u32, MODULE_WORDS>(0);
     match read_all(source, &mut words) {
-        Ok(held) => answer(to, &words[..held]),
-        Err(error) => program_files::tell(error.message()),
+        Ok(held) => answer(to, &words[..held.count]) & held.ended,
+        Err(error) => {
+            program_files::tell(error.message());
+            false
+        }
     }
 }
 

@@ -1,11 +1,13 @@
 // The program `inspect`: it answers its arguments, and without one the commands on standard input.
 #![tactic(auto)]
 
-ghost use Rattle.std.specs.Prelude.{◌≡◌};
+ghost use Rattle.std.specs.Prelude.{◌≡◌, true};
+ghost use Rattle.std.specs.Io.KnownBytes.{Appends};
 ghost use Rattle.program_output.specs.Bytes.{Adds};
 ghost use Rattle.program_command_line.specs.Arguments.{help_text, is_help, unknown_bytes, argument_bytes};
 
 use program_output::{Output, Standard};
+use std::io::Write;
 use std::rt::Env;
 
 // Whether an argument is --help.
@@ -66,13 +68,20 @@ pub fn put_argument(name: &[u8], out: &mut Output)
     }
 }
 
+// Writes the answer to an argument, and tells whether it could be written.
+fn answer_name<W: Write>(to: &mut W, name: &[u8]) -> bool
+    ensures { result ≡ true → Appends (W.contents to.old) (W.contents to.new) (argument_bytes name.now) }
+{
+    let mut out = Output::new();
+    put_argument(name, &mut out);
+    out.write_out(to)
+}
+
 // The name of an argument that is longer than the buffer is left out.
 fn answer<R: Env>(rt: &R, i: usize) {
     let mut name = io::buffer();
-    let mut out = Output::new();
     let name = program_files::argument(rt, i, &mut name).unwrap_or(&[]);
-    put_argument(name, &mut out);
-    out.write_out(&mut Standard);
+    answer_name(&mut Standard, name);
 }
 
 pub fn run<R: Env + Input>(rt: &R) {

@@ -1,1 +1,2 @@
 pub mod Serving
+pub mod Sources

@@ -4,7 +4,8 @@
 
 mod arguments;
 
-ghost use Rattle.std.specs.Prelude.{◌≡◌, ℕ, ◌≤◌, ◌<◌, length, get_or, take, IfOk, IfSome};
+ghost use Rattle.std.specs.Prelude.{◌≡◌, ℕ, ◌≤◌, ◌<◌, length, get_or, take, IfOk, IfSome, IsUtf8};
+ghost use Rattle.program_files.specs.Sources.{left_of};
 ghost use Rattle.program_files.specs.Serving.{HeldWithin, message_of};
 
 pub use arguments::{argument, argument_count};
@@ -20,6 +21,8 @@ pub enum Source<S, F> {
 }
 
 impl<S: Read, F: Read> Read for Source<S, F> {
+    ghost remaining = { left_of S.remaining F.remaining };
+
     fn read(&mut self, bytes: &mut [u8]) -> std::io::Result<usize> {
         match self {
             Source::Standard(input) => input.read(bytes),
@@ -33,7 +36,9 @@ pub fn tell(why: &[u8]) {
 }
 
 // The file of that name, where it can be opened; a name that is no UTF-8 names none.
-pub fn open<R: Files>(rt: &R, name: &[u8]) -> Option<R::File> {
+pub fn open<R: Files>(rt: &R, name: &[u8]) -> Option<R::File>
+    ensures { IfSome result (λ _. IsUtf8 name.now) }
+{
     let path = std::str::from_utf8(name).ok()?;
     std::fs::open(rt, path).ok()
 }

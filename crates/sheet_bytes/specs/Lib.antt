@@ -1,1 +1,2 @@
 pub mod Holder
+pub mod Leaf

@@ -5,6 +5,12 @@ ghost use Rattle.std.specs.Prelude.{◌≡◌};
 ghost use Rattle.ir_records.specs.Record.{type_word, struct_members};
 ghost use Rattle.ir_rows.specs.Rows.{row_word};
 ghost use Rattle.sheet_names.specs.Runtime.{is_runtime};
+ghost use Rattle.ir_records.specs.Kinds.{scalar_number};
+ghost use Rattle.sheet_names.specs.declared.Sheet.{Sheet};
+ghost use Rattle.sheet_output.specs.Written.{Writes};
+ghost use Rattle.sheet_dimensions.specs.Extents.{in_use, inside_of, IsOf};
+ghost use Rattle.sheet_c.specs.Text.{c_scalar_text, tag_text, inside_text, dimension_text, dimensions_text, bytes_text, declared_text};
+ghost use Rattle.sheet_c.specs.Text.{c_open_text, c_none_text, c_gap_text, c_member_text, c_offset_text, size_text, step_text, c_end_text};
 ghost use Rattle.sheet_c.specs.Last.{is_open_at, last_byte_of};
 
 use ir_records::ScalarKind;
@@ -26,7 +32,9 @@ pub const START: &[u8] =
 pub const CLOSE: &[u8] = b"};\n";
 
 // The type of a scalar. A host has no f16: its bits are an uint16_t.
-fn put_scalar<W: Write>(out: &mut Writer<W>, scalar: Scalar) {
+fn put_scalar<W: Write>(out: &mut Writer<W>, scalar: Scalar)
+    ensures { Writes W.contents out.old (c_scalar_text (scalar_number scalar.kind) scalar.width) out.new }
+{
     let bits = scalar.bits();
     match scalar {
         Scalar {
@@ -44,26 +52,34 @@ fn put_scalar<W: Write>(out: &mut Writer<W>, scalar: Scalar) {
 }
 
 // The name of a struct, with `struct ` before it.
-fn put_tag<W: Write>(out: &mut Writer<W>, t: Type) {
+fn put_tag<W: Write>(out: &mut Writer<W>, t: Type)
+    ensures { Writes W.contents out.old (tag_text t.entry.sheet t.entry.i) out.new }
+{
     out.put_text(b"struct ");
     sheet_identifiers::put_type(out, t);
 }
 
-pub fn put_open<W: Write>(out: &mut Writer<W>, t: Type) {
+pub fn put_open<W: Write>(out: &mut Writer<W>, t: Type)
+    ensures { Writes W.contents out.old (c_open_text t.entry.sheet t.entry.i) out.new }
+{
     out.put_byte(b'\n');
     put_tag(out, t);
     out.put_text(b" {\n");
 }
 
 // A struct that has no form for a host.
-pub fn put_none<W: Write>(out: &mut Writer<W>, t: Type) {
+pub fn put_none<W: Write>(out: &mut Writer<W>, t: Type)
+    ensures { Writes W.contents out.old (c_none_text t.entry.sheet t.entry.i) out.new }
+{
     out.put_text(b"\n/* ");
     put_tag(out, t);
     out.put_text(sheet_dimensions::NO_FORM);
     out.put_text(b" */\n");
 }
 
-pub fn put_gap<W: Write>(out: &mut Writer<W>, unused: Unused) {
+pub fn put_gap<W: Write>(out: &mut Writer<W>, unused: Unused)
+    ensures { Writes W.contents out.old (c_gap_text out.old.markup unused.start unused.bytes) out.new }
+{
     out.put_two(
         b"    uint8_t unused_at_",
         unused.start,
@@ -74,7 +90,9 @@ pub fn put_gap<W: Write>(out: &mut Writer<W>, unused: Unused) {
 }
 
 // The type inside the dimensions.
-fn put_base<W: Write>(out: &mut Writer<W>, base: Base) {
+fn put_base<W: Write>(out: &mut Writer<W>, base: Base)
+    ensures { (sheet : Sheet) → IsOf sheet base.entry → Writes W.contents out.old (inside_text sheet (inside_of base.entry)) out.new }
+{
     match base {
         Base::Scalar(scalar) => put_scalar(out, scalar),
         Base::Struct(t) => put_tag(out, t),
@@ -82,7 +100,9 @@ fn put_base<W: Write>(out: &mut Writer<W>, base: Base) {
 }
 
 // `[n]`; a runtime-sized array has no number, or 1 where it is the only member.
-fn put_dimension<W: Write>(out: &mut Writer<W>, n: Option<u64>, alone: bool) {
+fn put_dimension<W: Write>(out: &mut Writer<W>, n: Option<u64>, alone: bool)
+    ensures { Writes W.contents out.old (dimension_text alone n) out.new }
+{
     match n {
         Some(n) => out.put_with(b"[", n, b"]"),
         None if alone => out.put_text(b"[1]"),
@@ -90,21 +110,27 @@ fn put_dimension<W: Write>(out: &mut Writer<W>, n: Option<u64>, alone: bool) {
     }
 }
 
-fn put_dimensions<W: Write>(out: &mut Writer<W>, dimensions: Dimensions, alone: bool) {
+fn put_dimensions<W: Write>(out: &mut Writer<W>, dimensions: Dimensions, alone: bool)
+    ensures { Writes W.contents out.old (dimensions_text alone (in_use dimensions.entry.extents)) out.new }
+{
     for n in dimensions.as_slice() {
         put_dimension(out, *n, alone);
     }
 }
 
 // A member whose steps no dimensions keep.
-fn put_as_bytes<W: Write>(out: &mut Writer<W>, member: Member) {
+fn put_as_bytes<W: Write>(out: &mut Writer<W>, member: Member)
+    ensures { Writes W.contents out.old (bytes_text member.entry (row_word member.entry.of.sheet.rows.now member.entry.ty 0)) out.new }
+{
     out.put_text(b"uint8_t ");
     sheet_identifiers::put_member(out, member);
     out.put_with(b"[", u64::from(member.own_type().size()), b"]");
 }
 
 // Type, name and dimensions of a member.
-fn put_declared<W: Write>(out: &mut Writer<W>, member: Member) {
+fn put_declared<W: Write>(out: &mut Writer<W>, member: Member)
+    ensures { Writes W.contents out.old (declared_text member.entry) out.new }
+{
     match sheet_dimensions::of_type(member.own_type()) {
         Some(dimensions) => {
             put_base(out, dimensions.base);
@@ -117,7 +143,9 @@ fn put_declared<W: Write>(out: &mut Writer<W>, member: Member) {
 }
 
 // The line of a member.
-pub fn put_member<W: Write>(out: &mut Writer<W>, member: Member) {
+pub fn put_member<W: Write>(out: &mut Writer<W>, member: Member)
+    ensures { Writes W.contents out.old (c_member_text out.old.markup member.entry) out.new }
+{
     out.put_text(b"    ");
     put_declared(out, member);
     out.put_with(b"; /* ", u64::from(member.offset), b": ");
@@ -126,7 +154,9 @@ pub fn put_member<W: Write>(out: &mut Writer<W>, member: Member) {
 }
 
 // The assertion of a member's offset.
-pub fn put_offset<W: Write>(out: &mut Writer<W>, member: Member) {
+pub fn put_offset<W: Write>(out: &mut Writer<W>, member: Member)
+    ensures { Writes W.contents out.old (c_offset_text out.old.markup member.entry) out.new }
+{
     out.put_text(b"_Static_assert(offsetof(");
     put_tag(out, member.of);
     out.put_text(b", ");
@@ -135,14 +165,18 @@ pub fn put_offset<W: Write>(out: &mut Writer<W>, member: Member) {
 }
 
 // The assertion of the size.
-fn put_size<W: Write>(out: &mut Writer<W>, t: Type) {
+fn put_size<W: Write>(out: &mut Writer<W>, t: Type)
+    ensures { Writes W.contents out.old (size_text t.entry.sheet t.entry.i) out.new }
+{
     out.put_text(b"_Static_assert(sizeof(");
     put_tag(out, t);
     out.put_with(b") == ", u64::from(t.size()), b", \"size\");\n");
 }
 
 // The assertion of the step of a runtime-sized array, which has no part in sizeof.
-fn put_step<W: Write>(out: &mut Writer<W>, member: Member) {
+fn put_step<W: Write>(out: &mut Writer<W>, member: Member)
+    ensures { Writes W.contents out.old (step_text member.entry.of.sheet member.entry.of.i member.entry.j member.entry.ty) out.new }
+{
     out.put_text(b"_Static_assert(sizeof(((");
     put_tag(out, member.of);
     out.put_text(b" *)0)->");
@@ -160,7 +194,8 @@ fn is_open(last: Member) -> bool
 
 /// Where the lines of a struct end: at its size, but nothing may stand after a runtime-sized array that stands after others.
 pub fn last_byte(t: Type) -> Option<u64>
-    ensures { result ≡ last_byte_of t.entry.sheet.types.now (struct_members t.entry.sheet.types.now t.entry.sheet.members.now t.entry.i) (type_word t.entry.sheet.types.now t.entry.i 2) (row_word t.entry.sheet.rows.now t.entry.i 0) }
+    ensures { result ≡ last_byte_of t.entry.sheet.types.now (struct_members t.entry.sheet.types.now t.entry.sheet.members.now t.entry.i)
+        (type_word t.entry.sheet.types.now t.entry.i 2) (row_word t.entry.sheet.rows.now t.entry.i 0) }
 {
     if t.last_member().is_some_and(|last| is_open(last)) {
         None
@@ -170,7 +205,9 @@ pub fn last_byte(t: Type) -> Option<u64>
 }
 
 // After the offsets: the size, or the step of the last member where that is a runtime-sized array after others.
-pub fn put_end<W: Write>(out: &mut Writer<W>, t: Type) {
+pub fn put_end<W: Write>(out: &mut Writer<W>, t: Type)
+    ensures { Writes W.contents out.old (c_end_text t.entry.sheet t.entry.i) out.new }
+{
     match t.last_member() {
         Some(last) if is_open(last) => put_step(out, last),
         _ => put_size(out, t),

@@ -1,6 +1,6 @@
 -- The layout sheet: of which types the slots are counted, and what they are.
 -- Assumes nothing.
-use Rattle.std.specs.Prelude.{◌≡◌, ◌<◌, length, get_or, Bool, ◌&&◌, List, ℕ, ◌==◌, nat_le, Option, None, Some}
+use Rattle.std.specs.Prelude.{◌≡◌, ◌<◌, length, get_or, Bool, ◌&&◌, List, ℕ, ◌==◌, nat_le, Option, None, Some, Result, MatchResult}
 use Rattle.ir_records.specs.Result.{pick}
 use Rattle.ir_records.specs.Record.{type_word, struct_kind}
 use Rattle.ir_rows.specs.Rows.{row_word}
@@ -39,3 +39,16 @@ judged_rows rule c records rows = arena_words rule c (records.types.now) (record
 
 abbrev pub counted_report : (c : ℕ) → Sheet → (rows report : List ℕ) → List ℕ
 counted_report c records rows report = report_words c (records.types.now) (records.members.now) rows report
+
+-- the rows after a call for the slots of type i: where they are asked for, the records are judged first
+abbrev pub asked_rows : UniformRule → (c : ℕ) → Sheet → (rows : List ℕ) (i : ℕ) → List ℕ
+asked_rows rule c records rows i = pick (is_asked (records.types.now) rows i) (judged_rows rule c records rows) rows
+
+-- ---- what is left after judging
+-- in the report: what is counted, and what was there where the records are refused
+abbrev pub ReportLeft : {A E : Type 0} → Result A E → (counted was is : List ℕ) → Type 0
+ReportLeft result counted was is = MatchResult result (λ _. is ≡ counted) (λ _. is ≡ was)
+
+-- and in the slots of the 1024 types
+abbrev pub SlotsLeft : {A E : Type 0} → Result A E → (slots : ℕ → Option Slots) (was is : List (Option Slots)) → Type 0
+SlotsLeft result slots was is = MatchResult result (λ _. Counted slots 1024 was is) (λ _. is ≡ was)

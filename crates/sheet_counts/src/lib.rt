@@ -1,11 +1,12 @@
 // What is counted of accepted records: the rows, the bytes carried and wasted of each type, and the slots of the structs that may be immediates.
 #![tactic(auto)]
 
-ghost use Rattle.std.specs.Prelude.{◌≡◌, replicate, None, MatchResult};
-ghost use Rattle.ir_records.specs.Result.{pick};
+ghost use Rattle.std.specs.Prelude.{◌≡◌, replicate, None};
 ghost use Rattle.ir_records.specs.Refusal.{outcome_of};
 ghost use Rattle.valid_arena.specs.Arena.{arena_answer};
-ghost use Rattle.sheet_counts.specs.Counts.{is_asked, slots_of, Counted, judged_rows, counted_report};
+ghost use Rattle.sheet_output.specs.Written.{Writes};
+ghost use Rattle.sheet_counts.specs.Counts.{is_asked, slots_of, judged_rows, asked_rows, counted_report, ReportLeft, SlotsLeft};
+ghost use Rattle.sheet_counts.specs.Text.{no_slots_text, struct_slots_text};
 
 use immediates_ranges::Slots;
 use ir_records::Refusal;
@@ -75,7 +76,7 @@ impl Counts {
         i: u32,
     ) -> Option<Slots>
         ensures value { result ≡ slots_of capabilities records.entry self.old.rows i }
-        ensures rows { self.new.rows ≡ pick (is_asked records.entry.types.now self.old.rows i) (judged_rows rule capabilities records.entry self.old.rows) self.old.rows }
+        ensures rows { self.new.rows ≡ asked_rows rule capabilities records.entry self.old.rows i }
         ensures report { self.new.report ≡ self.old.report }
         ensures slots { self.new.slots ≡ self.old.slots }
     {
@@ -103,8 +104,8 @@ impl Counts {
     ) -> Result<(), Refusal>
         ensures value { outcome_of result ≡ arena_answer capabilities records.entry.types.now records.entry.members.now self.old.rows }
         ensures rows { self.new.rows ≡ judged_rows rule capabilities records.entry self.old.rows }
-        ensures report { MatchResult result (λ _. self.new.report ≡ counted_report capabilities records.entry self.new.rows self.old.report) (λ _. self.new.report ≡ self.old.report) }
-        ensures slots { MatchResult result (λ _. Counted (slots_of capabilities records.entry self.new.rows) 1024 self.old.slots self.new.slots) (λ _. self.new.slots ≡ self.old.slots) }
+        ensures report { ReportLeft result (counted_report capabilities records.entry self.new.rows self.old.report) self.old.report self.new.report }
+        ensures slots { SlotsLeft result (slots_of capabilities records.entry self.new.rows) self.old.slots self.new.slots }
     {
         let types = records.types;
         let members = records.members;
@@ -118,7 +119,8 @@ impl Counts {
             &mut self.rows,
             &mut self.report,
         );
-        // Kept: by number, since `slots_of` lends the rows of the same struct: an iterator over `self.slots` would hold it, and rows as a parameter would be one more beside four.
+        // Kept: by number, since `slots_of` lends the rows of the same struct: an iterator over `self.slots` would hold it, and rows as a parameter would be
+        // one more beside four.
         for i in 0..sheet_names::MOST_TYPES {
             self.slots[i as usize] = self.slots_of(records, capabilities, rule, i);
         }
@@ -127,7 +129,9 @@ impl Counts {
 }
 
 // Why a struct has no slots: it is not host-shareable, has no fixed size or has 16-bit scalars.
-fn put_no_slots<W: Write>(out: &mut Writer<W>, t: Type) {
+fn put_no_slots<W: Write>(out: &mut Writer<W>, t: Type)
+    ensures { Writes W.contents out.old (no_slots_text t.entry.sheet.rows.now t.entry.i) out.new }
+{
     if !t.is_shareable() {
         out.put_text(b"no, the struct is not host-shareable");
     } else if !t.is_sized() {
@@ -138,7 +142,9 @@ fn put_no_slots<W: Write>(out: &mut Writer<W>, t: Type) {
 }
 
 /// The slots of a struct in words, or why there are none.
-pub fn put_slots<W: Write>(out: &mut Writer<W>, t: Type) {
+pub fn put_slots<W: Write>(out: &mut Writer<W>, t: Type)
+    ensures { Writes W.contents out.old (struct_slots_text t.entry.sheet t.entry.i) out.new }
+{
     if !t.may_be_immediate() {
         put_no_slots(out, t);
         return;

@@ -3,3 +3,7 @@ pub mod Row
 pub mod Counts
 pub mod Runtime
 pub mod Walk
+pub mod Search
+pub mod Text
+pub mod Serving
+pub mod Module

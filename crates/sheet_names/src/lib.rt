@@ -2,7 +2,7 @@
 // module's bytes.
 #![tactic(auto)]
 
-ghost use Rattle.std.specs.Prelude.{◌≡◌, [], ◌+◌, ◌<◌, get_or, eqb, length, MatchOption, None, true, false};
+ghost use Rattle.std.specs.Prelude.{◌≡◌, [], ◌+◌, ◌*◌, ◌<◌, List, ℕ, get_or, slice_get, set, eqb, length, MatchOption, None, Some, true, false};
 ghost use Rattle.ir_records.specs.Record.{type_word, type_inner, array_kind, struct_kind, struct_members, member_type, member_offset};
 ghost use Rattle.std.specs.Iterator.{at_most};
 ghost use Rattle.ir_rows.specs.Rows.{row_word};
@@ -13,6 +13,11 @@ ghost use Rattle.sheet_names.specs.Counts.{carried_in, wasted_in, is_counted};
 ghost use Rattle.sheet_names.specs.Row.{may_be_immediate, is_usable};
 ghost use Rattle.sheet_names.specs.Runtime.{is_runtime};
 ghost use Rattle.sheet_names.specs.Walk.{TokenSteps};
+ghost use Rattle.sheet_names.specs.Text.{TokensFrom, TextNames, TextNamed};
+ghost use Rattle.sheet_names.specs.Serving.{struct_from, first_walk, struct_named, word_passed, member_named, mark_passed, passed};
+ghost use Rattle.sheet_names.specs.Module.{type_instructions, type_of, string_of, row_of, type_named, row_named, instruction_named, no_names, module_names};
+ghost use Rattle.spirv_words.specs.Module.{word, header_words};
+ghost use Rattle.wgsl_tokens.specs.declared.Lexed.{Lexed};
 
 use immediates_ranges::Slots;
 use ir_records::{Kind, TypeInner};
@@ -119,7 +124,9 @@ fn member_row(types: &[u32], i: u32, j: u32) -> usize
 }
 
 impl NameTable {
-    fn new() -> NameTable {
+    fn new() -> NameTable
+        ensures { result ≡ no_names }
+    {
         NameTable {
             types: [None; ir_records::MOST_TYPES],
             members: [None; ir_records::MOST_MEMBERS],
@@ -128,9 +135,12 @@ impl NameTable {
 }
 
 // Keeps where a name stands, where the table has a place for it.
-fn put_place(places: &mut [Option<Span>], at: usize, name: Span) {
-    if let Some(place) = places.get_mut(at) {
-        *place = Some(name);
+// Kept: the number is tested, where `get_mut` would do: no clause of it tells what the table holds once the place is written.
+fn put_place(places: &mut [Option<Span>], at: usize, name: Span)
+    ensures { places.new ≡ set places.old at (Some name) }
+{
+    if at < places.len() {
+        places[at] = Some(name);
     }
 }
 
@@ -216,7 +226,9 @@ impl<'a> Type<'a> {
 
     /// The type of its elements, where it is an array.
     pub fn element(self) -> Option<Type<'a>>
-        ensures { MatchOption result (eqb (type_word self.entry.sheet.types.now self.entry.i 0) array_kind ≡ false) (λ e. (eqb (type_word self.entry.sheet.types.now self.entry.i 0) array_kind ≡ true) × (e.sheet ≡ self.entry.sheet) × (e.i ≡ type_word self.entry.sheet.types.now self.entry.i 1)) }
+        ensures { MatchOption result (eqb (type_word self.entry.sheet.types.now self.entry.i 0) array_kind ≡ false)
+            (λ e. (eqb (type_word self.entry.sheet.types.now self.entry.i 0) array_kind ≡ true) × (e.sheet ≡ self.entry.sheet)
+            × (e.i ≡ type_word self.entry.sheet.types.now self.entry.i 1)) }
     {
         self.is_array().then_some(self.other(self.word(1)))
     }
@@ -378,7 +390,9 @@ impl<'a> Type<'a> {
 
     /// Its last member.
     pub fn last_member(self) -> Option<Member<'a>>
-        ensures { MatchOption result (type_word self.entry.sheet.types.now self.entry.i 2 ≡ 0) (λ m. (m.of ≡ self.entry) × (m.j + 1 ≡ type_word self.entry.sheet.types.now self.entry.i 2) × (m.ty ≡ member_type (struct_members self.entry.sheet.types.now self.entry.sheet.members.now self.entry.i) m.j)) }
+        ensures { MatchOption result (type_word self.entry.sheet.types.now self.entry.i 2 ≡ 0)
+            (λ m. (m.of ≡ self.entry) × (m.j + 1 ≡ type_word self.entry.sheet.types.now self.entry.i 2)
+            × (m.ty ≡ member_type (struct_members self.entry.sheet.types.now self.entry.sheet.members.now self.entry.i) m.j)) }
     {
         let last = self.count().checked_sub(1)?;
         Some(self.member(last))
@@ -402,19 +416,24 @@ impl<'a> Member<'a> {
     }
 
     pub fn name(self) -> Option<&'a [u8]>
-        ensures { NameIs (member_name self.entry.of.sheet.text.now self.entry.of.sheet.names.now self.entry.of.sheet.types.now self.entry.of.i self.entry.j) result }
+        ensures { NameIs (member_name self.entry.of.sheet.text.now self.entry.of.sheet.names.now self.entry.of.sheet.types.now self.entry.of.i self.entry.j)
+            result }
     {
         self.of.member_name(self.j)
     }
 }
 
 // The first struct from a type on.
-fn struct_from(types: &[u32], from: u32) -> Option<u32> {
+fn struct_from(types: &[u32], from: u32) -> Option<u32>
+    ensures { result ≡ struct_from types.now from }
+{
     (from..MOST_TYPES).find(|i| ir_records::is_of_kind(types, *i, Kind::Struct))
 }
 
 impl<'a> Walk<'a> {
-    fn new(text: &'a [u8], types: &'a [u32]) -> Walk<'a> {
+    fn new(text: &'a [u8], types: &'a [u32]) -> Walk<'a>
+        ensures { result ≡ first_walk text.entry types.entry }
+    {
         Walk {
             text,
             types,
@@ -427,7 +446,9 @@ impl<'a> Walk<'a> {
     }
 
     // A word after `struct` is the name of the next struct.
-    fn name_struct(&mut self, word: Span) {
+    fn name_struct(&mut self, word: Span)
+        ensures { self.new ≡ struct_named self.old word }
+    {
         if let Some(ty) = struct_from(self.types, self.ty) {
             put_place(&mut self.names.types, ty as usize, word);
             self.ty = ty.wrapping_add(1);
@@ -435,7 +456,9 @@ impl<'a> Walk<'a> {
     }
 
     // Any word may be a member's name.
-    fn pass_word(&mut self, word: Span) {
+    fn pass_word(&mut self, word: Span)
+        ensures { self.new ≡ word_passed self.old word }
+    {
         if self.after_struct {
             self.name_struct(word);
         }
@@ -443,23 +466,29 @@ impl<'a> Walk<'a> {
         self.last = Some(word);
     }
 
-    // The word before a colon is the name of the next member.
-    fn name_member(&mut self) {
+    // The word before a colon is the name of the next member. A number that wrapped would be that of the first one again.
+    fn name_member(&mut self)
+        ensures { self.new ≡ member_named self.old }
+    {
         if let Some(name) = self.last {
             put_place(&mut self.names.members, self.row as usize, name);
         }
-        self.row = self.row.wrapping_add(1);
+        self.row = self.row.saturating_add(1);
     }
 
     // A colon stands after the name of a member, and nowhere else.
-    fn pass_mark(&mut self, byte: u8) {
+    fn pass_mark(&mut self, byte: u8)
+        ensures { self.new ≡ mark_passed self.old byte }
+    {
         if byte == b':' {
             self.name_member();
         }
         self.after_struct = false;
     }
 
-    fn pass_token(&mut self, token: Lexed) {
+    fn pass_token(&mut self, token: Lexed)
+        ensures { self.new ≡ passed self.old token }
+    {
         match token {
             Lexed::Word(word) => self.pass_word(word),
             Lexed::Mark { byte, .. } => self.pass_mark(byte),
@@ -469,7 +498,10 @@ impl<'a> Walk<'a> {
 }
 
 /// The names of a text that was read into these type records.
-pub fn from_text(text: &[u8], types: &[u32]) -> NameTable {
+pub fn from_text(text: &[u8], types: &[u32]) -> NameTable
+    ensures places { (tokens : List Lexed) × TokensFrom text.now 0 tokens × TextNames text.now types.now tokens result }
+    ensures named { TextNamed text.now types.now result }
+{
     let mut walk = Walk::new(text, types);
     for token in (Tokens { text, at: 0 }) {
         walk.pass_token(token);
@@ -478,7 +510,11 @@ pub fn from_text(text: &[u8], types: &[u32]) -> NameTable {
 }
 
 // The places of all instructions of a module.
-fn instructions(words: &[u32]) -> Instructions {
+fn instructions(words: &[u32]) -> Instructions
+    ensures words { result.words ≡ words.entry }
+    ensures at { result.at ≡ header_words }
+    ensures end { result.end ≡ length words.now }
+{
     Instructions {
         words,
         at: spirv_words::HEADER_WORDS,
@@ -487,20 +523,26 @@ fn instructions(words: &[u32]) -> Instructions {
 }
 
 /// Where the instruction of each type record stands, where there is one.
-pub fn type_places(words: &[u32]) -> [Option<usize>; ir_records::MOST_TYPES] {
+pub fn type_places(words: &[u32]) -> [Option<usize>; ir_records::MOST_TYPES]
+    ensures { (k : ℕ) → k < 1024 → get_or result k None ≡ slice_get (type_instructions words.now) k }
+{
     let mut places = [None; ir_records::MOST_TYPES];
-    let types = instructions(words).filter(|at| spirv_ids::is_read(spirv_words::opcode_of(
-        words, *at,
-    )));
-    for (place, at) in places.iter_mut().zip(types) {
-        *place = Some(at);
+    let mut i = 0;
+    // Kept: a count, where `zip` of `iter_mut` with the types would do: no clause tells what a table holds once its places were lent one by one.
+    for at in instructions(words) {
+        if spirv_ids::is_read(spirv_words::opcode_of(words, at)) & (i < places.len()) {
+            places[i] = Some(at);
+            i += 1;
+        }
     }
     places
 }
 
 impl<'a> Module<'a> {
     // The type that word k of an instruction names.
-    fn type_of(self, at: usize, k: usize) -> Option<u32> {
+    fn type_of(self, at: usize, k: usize) -> Option<u32>
+        ensures { result ≡ type_of self.entry.words.now self.entry.places.now (word self.entry.words.now at k) }
+    {
         let id = spirv_words::word_of(self.words, at, k);
         (0..MOST_TYPES).find(|i| {
             let place = ir_records::item_or(self.places, *i as usize, None);
@@ -509,7 +551,9 @@ impl<'a> Module<'a> {
     }
 
     // Where the string of an instruction stands, from its word k on and up to a NUL.
-    fn string_of(self, at: usize, k: usize) -> Option<Span> {
+    fn string_of(self, at: usize, k: usize) -> Option<Span>
+        ensures { result ≡ string_of self.entry at k }
+    {
         let start = at.checked_add(k)?.checked_mul(4)?;
         let next = at.checked_add(spirv_words::word_count(self.words, at))?;
         let words = self.bytes.get(start..next.checked_mul(4)?)?;
@@ -524,13 +568,17 @@ impl<'a> Module<'a> {
     }
 
     // OpName: the string stands after the id.
-    fn type_named(self, at: usize) -> Option<(u32, Span)> {
+    fn type_named(self, at: usize) -> Option<(u32, Span)>
+        ensures { result ≡ type_named self.entry at }
+    {
         let i = self.type_of(at, 1)?;
         Some((i, self.string_of(at, 2)?))
     }
 
     // The row of a member of a type, where it has that member.
-    fn row_of(self, i: u32, j: u32) -> Option<usize> {
+    fn row_of(self, i: u32, j: u32) -> Option<usize>
+        ensures { result ≡ row_of self.entry.types.now i j }
+    {
         let count = ir_records::type_word(self.types, i, 2);
         if ir_records::is_of_kind(self.types, i, Kind::Struct) & (j < count) {
             return Some(member_row(self.types, i, j));
@@ -539,30 +587,41 @@ impl<'a> Module<'a> {
     }
 
     // OpMemberName: the string stands after the id and the member's number.
-    fn row_named(self, at: usize) -> Option<(usize, Span)> {
+    fn row_named(self, at: usize) -> Option<(usize, Span)>
+        ensures { result ≡ row_named self.entry at }
+    {
         let i = self.type_of(at, 1)?;
         let row = self.row_of(i, spirv_words::word_of(self.words, at, 2))?;
         Some((row, self.string_of(at, 3)?))
     }
-}
 
-/// The names of a module that was read into these records: those of its OpName and OpMemberName.
-pub fn from_module(module: Module) -> NameTable {
-    let mut names = NameTable::new();
-    for at in instructions(module.words) {
-        match spirv_words::opcode_of(module.words, at) {
+    // Keeps the name that an instruction gives.
+    fn put_names(self, names: &mut NameTable, at: usize)
+        ensures { names.new ≡ instruction_named self.entry at names.old }
+    {
+        match spirv_words::opcode_of(self.words, at) {
             OP_NAME => {
-                if let Some((i, name)) = module.type_named(at) {
+                if let Some((i, name)) = self.type_named(at) {
                     put_place(&mut names.types, i as usize, name);
                 }
             }
             OP_MEMBER_NAME => {
-                if let Some((row, name)) = module.row_named(at) {
+                if let Some((row, name)) = self.row_named(at) {
                     put_place(&mut names.members, row, name);
                 }
             }
             _ => {}
         }
+    }
+}
+
+/// The names of a module that was read into these records: those of its OpName and OpMemberName.
+pub fn from_module(module: Module) -> NameTable
+    ensures { result ≡ module_names «module».entry }
+{
+    let mut names = NameTable::new();
+    for at in instructions(module.words) {
+        module.put_names(&mut names, at);
     }
     names
 }

@@ -74,7 +74,8 @@ impl<'a, W: Write> Writer<'a, W> {
     pub fn finish(self) -> bool
         ensures past { 1114112 < self.entry.out.now.end → result ≡ false }
         ensures none_waits { self.exit.0.now.end ≡ 0 }
-        ensures written { result ≡ true → Appends (W.contents self.entry.to.now) (W.contents self.exit.1.0.now) (take self.entry.out.now.end self.entry.out.now.bytes) }
+        ensures written { result ≡ true
+            → Appends (W.contents self.entry.to.now) (W.contents self.exit.1.0.now) (take self.entry.out.now.end self.entry.out.now.bytes) }
     {
         let Writer { out, to, markup: _ } = self;
         out.write_out(to)

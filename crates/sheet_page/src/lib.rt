@@ -1,6 +1,9 @@
 // The sheet as a page that stands alone: its head and its end, and for each struct a table of its members.
 #![tactic(auto)]
 
+ghost use Rattle.sheet_output.specs.Written.{Writes};
+ghost use Rattle.sheet_page.specs.Text.{number_cell, gap_row, member_row};
+
 use sheet_names::Member;
 use sheet_output::{Unused, Writer};
 use std::io::Write;
@@ -50,12 +53,16 @@ pub const TABLE_HEAD: &[u8] = b"</p>
 pub const TABLE_END: &[u8] = b"</table>\n";
 
 // A cell with a number.
-fn put_cell<W: Write>(out: &mut Writer<W>, n: u64) {
+fn put_cell<W: Write>(out: &mut Writer<W>, n: u64)
+    ensures { Writes W.contents out.old (number_cell n) out.new }
+{
     out.put_with(b"<td class=\"n\">", n, b"</td>");
 }
 
 // Bytes between two members, or after the last one.
-pub fn put_gap<W: Write>(out: &mut Writer<W>, unused: Unused) {
+pub fn put_gap<W: Write>(out: &mut Writer<W>, unused: Unused)
+    ensures { Writes W.contents out.old (gap_row unused.start unused.bytes) out.new }
+{
     out.put_text(b"<tr>");
     put_cell(out, unused.start);
     put_cell(out, unused.bytes);
@@ -63,7 +70,9 @@ pub fn put_gap<W: Write>(out: &mut Writer<W>, unused: Unused) {
 }
 
 // The line of a member: its offset, size and alignment, its name and its type.
-pub fn put_member<W: Write>(out: &mut Writer<W>, member: Member) {
+pub fn put_member<W: Write>(out: &mut Writer<W>, member: Member)
+    ensures { let m = member.entry in Writes W.contents out.old (member_row out.old.markup m.of.sheet m.of.i m.j m.ty m.offset) out.new }
+{
     let t = member.own_type();
     out.put_text(b"<tr>");
     put_cell(out, u64::from(member.offset));

@@ -1,6 +1,11 @@
 // The picture of a struct's bytes on a page, sixteen to a row.
 #![tactic(auto)]
 
+ghost use Rattle.std.specs.Prelude.{◌≡◌};
+ghost use Rattle.ir_rows.specs.Rows.{row_word};
+ghost use Rattle.sheet_output.specs.Written.{Writes};
+ghost use Rattle.sheet_picture.specs.Picture.{drawn_as, run_text, row_text, rows_text, rest_text};
+
 use sheet_names::Type;
 use sheet_output::Writer;
 use std::io::Write;
@@ -16,12 +21,17 @@ pub const HEAD: &[u8] = b"<table class=\"bytes\">
 ";
 
 // The member in whose leaf a byte of a struct lies, where it lies in one.
-fn drawn_as(t: Type, byte: u64) -> Option<u32> {
-    sheet_bytes::holder(t, byte).filter(|_| sheet_bytes::in_leaf(t, byte))
+fn drawn_as(t: Type, byte: u64) -> Option<u32>
+    ensures { result ≡ drawn_as t.entry.sheet t.entry.i byte }
+{
+    let j = sheet_bytes::holder(t, byte)?;
+    sheet_bytes::in_leaf(t, byte).then_some(j)
 }
 
 // A run of so many bytes: a member's name, or nothing where no leaf holds them.
-fn put_run<W: Write>(out: &mut Writer<W>, t: Type, member: Option<u32>, bytes: u64) {
+fn put_run<W: Write>(out: &mut Writer<W>, t: Type, member: Option<u32>, bytes: u64)
+    ensures { Writes W.contents out.old (run_text out.old.markup t.entry.sheet t.entry.i member bytes) out.new }
+{
     out.put_with(b"<td colspan=\"", bytes, b"\" class=\"");
     match member {
         Some(j) => {
@@ -34,7 +44,9 @@ fn put_run<W: Write>(out: &mut Writer<W>, t: Type, member: Option<u32>, bytes: u
 }
 
 // The row of the bytes from one up to a limit, in runs of one member's bytes.
-fn put_row<W: Write>(out: &mut Writer<W>, t: Type, from: u64, limit: u64) {
+fn put_row<W: Write>(out: &mut Writer<W>, t: Type, from: u64, limit: u64)
+    ensures { Writes W.contents out.old (row_text out.old.markup t.entry.sheet t.entry.i from limit) out.new }
+{
     out.put_with(b"<tr><th>", from, b"</th>");
     let mut start = from;
     for b in from..limit {
@@ -49,7 +61,9 @@ fn put_row<W: Write>(out: &mut Writer<W>, t: Type, from: u64, limit: u64) {
 }
 
 // The bytes of a struct, as far as they are drawn.
-pub fn put_rows<W: Write>(out: &mut Writer<W>, t: Type) {
+pub fn put_rows<W: Write>(out: &mut Writer<W>, t: Type)
+    ensures { Writes W.contents out.old (rows_text out.old.markup t.entry.sheet t.entry.i) out.new }
+{
     let drawn = MOST_DRAWN.min(u64::from(t.size()));
     for row in 0..drawn.div_ceil(ROW_BYTES) {
         let from = row * ROW_BYTES;
@@ -58,7 +72,9 @@ pub fn put_rows<W: Write>(out: &mut Writer<W>, t: Type) {
 }
 
 // Under the picture: what is not drawn.
-pub fn put_rest<W: Write>(out: &mut Writer<W>, t: Type) {
+pub fn put_rest<W: Write>(out: &mut Writer<W>, t: Type)
+    ensures { Writes W.contents out.old (rest_text (row_word t.entry.sheet.rows.now t.entry.i 0)) out.new }
+{
     out.put_text(b"</table>\n");
     if MOST_DRAWN < u64::from(t.size()) {
         out.put_with(b"<p>Bytes from ", MOST_DRAWN, b" on are not drawn.</p>\n");

@@ -1,9 +1,10 @@
 // Where a module is refused: the instruction, found by reading the words before it.
 #![tactic(auto)]
 
-ghost use Rattle.std.specs.Prelude.{◌≡◌, ◌-◌, ◌<◌, length, replicate};
+ghost use Rattle.std.specs.Prelude.{◌≡◌, ◌+◌, ◌-◌, ◌<◌, length, replicate, true, false};
 ghost use Rattle.spirv_read.specs.Read.{read_into, section_of};
 ghost use Rattle.sheet_places.specs.Places.{after_instruction, place_of, words_before, is_refusal};
+ghost use Rattle.sheet_places.specs.Halving.{is_refused, refused_before, half_start, half_end, refused_at};
 
 use std::ops::Range;
 
@@ -53,7 +54,9 @@ pub fn is_refused(words: &[u32]) -> bool
 // One half of the instructions with these numbers: the words before its first are not refused, and those up to its end are.
 fn halved(words: &[u32], among: Range<usize>) -> Range<usize>
     requires { 1 < among.end - among.start }
-    ensures { result.end - result.start < among.end - among.start }
+    ensures less { result.end - result.start < among.end - among.start }
+    ensures start { result.start ≡ half_start (refused_before words.now) among.start among.end }
+    ensures end { result.end ≡ half_end (refused_before words.now) among.start among.end }
 {
     let middle = among.start + (among.end - among.start) / 2;
     if is_refused(before(words, middle)) {
@@ -64,7 +67,11 @@ fn halved(words: &[u32], among: Range<usize>) -> Range<usize>
 }
 
 // The number of the instruction at which a module is refused. What an instruction is refused for stands before it, so halves are enough.
-pub fn refused_at(words: &[u32]) -> usize {
+pub fn refused_at(words: &[u32]) -> usize
+    ensures at { result ≡ refused_at words.now }
+    ensures before { refused_before words.now 0 ≡ false → refused_before words.now result ≡ false }
+    ensures to_its_end { 0 < length words.now → is_refused words.now ≡ true → refused_before words.now (result + 1) ≡ true }
+{
     let mut among = 0..words.len();
     // Kept: each step halves the range, which no range counts; `partition_point` is of a slice, in which these numbers do not stand.
     while 1 < among.len() {

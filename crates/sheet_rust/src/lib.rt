@@ -1,6 +1,15 @@
 // The sheet as Rust: a struct each, its numbers as constants, and an assertion for every offset and size.
 #![tactic(auto)]
 
+ghost use Rattle.std.specs.Prelude.{length, replicate, reverse};
+ghost use Rattle.ir_records.specs.Kinds.{scalar_number};
+ghost use Rattle.sheet_names.specs.declared.Sheet.{Sheet};
+ghost use Rattle.sheet_output.specs.Written.{Writes};
+ghost use Rattle.sheet_dimensions.specs.Extents.{inside_of, IsOf};
+ghost use Rattle.sheet_rust.specs.Text.{rust_scalar_text, inside_text, closes_text, dimensions_text, type_text};
+ghost use Rattle.sheet_rust.specs.Text.{rust_open_text, rust_none_text, rust_gap_text, rust_member_text, impl_text, rust_numbers_text};
+ghost use Rattle.sheet_rust.specs.Text.{rust_offset_text, rust_size_text, rust_assertion_text};
+
 use ir_records::ScalarKind;
 use sheet_dimensions::{Base, Dimensions};
 use sheet_names::{Member, Type};
@@ -13,7 +22,9 @@ pub const START: &[u8] =
     b"// Made by sheet. The assertions hold where the host's structs are those of the kernel.\n";
 
 // The type of a scalar. A host has no f16: its bits are a u16.
-fn put_scalar<W: Write>(out: &mut Writer<W>, scalar: Scalar) {
+fn put_scalar<W: Write>(out: &mut Writer<W>, scalar: Scalar)
+    ensures { Writes W.contents out.old (rust_scalar_text (scalar_number scalar.kind) scalar.width) out.new }
+{
     match scalar {
         Scalar {
             kind: ScalarKind::Sint | ScalarKind::Uint,
@@ -24,7 +35,9 @@ fn put_scalar<W: Write>(out: &mut Writer<W>, scalar: Scalar) {
     }
 }
 
-pub fn put_open<W: Write>(out: &mut Writer<W>, t: Type) {
+pub fn put_open<W: Write>(out: &mut Writer<W>, t: Type)
+    ensures { Writes W.contents out.old (rust_open_text t.entry.sheet t.entry.i) out.new }
+{
     out.put_text(
         b"
 #[repr(C)]
@@ -37,14 +50,18 @@ pub struct ",
 }
 
 // A struct that has no form for a host.
-pub fn put_none<W: Write>(out: &mut Writer<W>, t: Type) {
+pub fn put_none<W: Write>(out: &mut Writer<W>, t: Type)
+    ensures { Writes W.contents out.old (rust_none_text t.entry.sheet t.entry.i) out.new }
+{
     out.put_text(b"\n// struct ");
     sheet_identifiers::put_type(out, t);
     out.put_text(sheet_dimensions::NO_FORM);
     out.put_byte(b'\n');
 }
 
-pub fn put_gap<W: Write>(out: &mut Writer<W>, unused: Unused) {
+pub fn put_gap<W: Write>(out: &mut Writer<W>, unused: Unused)
+    ensures { Writes W.contents out.old (rust_gap_text out.old.markup unused.start unused.bytes) out.new }
+{
     out.put_two(
         b"    pub unused_at_",
         unused.start,
@@ -55,26 +72,46 @@ pub fn put_gap<W: Write>(out: &mut Writer<W>, unused: Unused) {
 }
 
 // The type inside the dimensions.
-fn put_base<W: Write>(out: &mut Writer<W>, base: Base) {
+fn put_base<W: Write>(out: &mut Writer<W>, base: Base)
+    ensures { (sheet : Sheet) → IsOf sheet base.entry → Writes W.contents out.old (inside_text sheet (inside_of base.entry)) out.new }
+{
     match base {
         Base::Scalar(scalar) => put_scalar(out, scalar),
         Base::Struct(t) => sheet_identifiers::put_type(out, t),
     }
 }
 
-// The type of a member, its dimensions from the innermost on. A runtime-sized array has its first element here.
-fn put_dimensioned<W: Write>(out: &mut Writer<W>, dimensions: Dimensions) {
-    for _ in dimensions.as_slice() {
+// The start of each array.
+fn put_starts<W: Write>(out: &mut Writer<W>, extents: &[Option<u64>])
+    ensures { Writes W.contents out.old (replicate (length extents.now) 91) out.new }
+{
+    for _ in extents {
         out.put_byte(b'[');
     }
-    put_base(out, dimensions.base);
-    for n in dimensions.as_slice().iter().rev() {
+}
+
+// The end of each array, from the innermost on. A runtime-sized array has its first element here.
+fn put_ends<W: Write>(out: &mut Writer<W>, extents: &[Option<u64>])
+    ensures { Writes W.contents out.old (closes_text (reverse extents.now)) out.new }
+{
+    for n in extents.iter().rev() {
         out.put_with(b"; ", n.unwrap_or(1), b"]");
     }
 }
 
+// The type of a member, its dimensions from the innermost on.
+fn put_dimensioned<W: Write>(out: &mut Writer<W>, dimensions: Dimensions)
+    ensures { (sheet : Sheet) → IsOf sheet dimensions.entry.base → Writes W.contents out.old (dimensions_text sheet dimensions.entry) out.new }
+{
+    put_starts(out, dimensions.as_slice());
+    put_base(out, dimensions.base);
+    put_ends(out, dimensions.as_slice());
+}
+
 // The type of a member.
-fn put_type<W: Write>(out: &mut Writer<W>, t: Type) {
+fn put_type<W: Write>(out: &mut Writer<W>, t: Type)
+    ensures { Writes W.contents out.old (type_text t.entry.sheet t.entry.i) out.new }
+{
     match sheet_dimensions::of_type(t) {
         Some(dimensions) => put_dimensioned(out, dimensions),
         None => out.put_with(b"[u8; ", u64::from(t.size()), b"]"),
@@ -82,7 +119,9 @@ fn put_type<W: Write>(out: &mut Writer<W>, t: Type) {
 }
 
 // The line of a member.
-pub fn put_member<W: Write>(out: &mut Writer<W>, member: Member) {
+pub fn put_member<W: Write>(out: &mut Writer<W>, member: Member)
+    ensures { Writes W.contents out.old (rust_member_text out.old.markup member.entry) out.new }
+{
     let t = member.own_type();
     out.put_text(b"    pub ");
     sheet_identifiers::put_member(out, member);
@@ -93,14 +132,18 @@ pub fn put_member<W: Write>(out: &mut Writer<W>, member: Member) {
     out.put_byte(b'\n');
 }
 
-fn put_impl<W: Write>(out: &mut Writer<W>, t: Type) {
+fn put_impl<W: Write>(out: &mut Writer<W>, t: Type)
+    ensures { Writes W.contents out.old (impl_text t.entry.sheet t.entry.i) out.new }
+{
     out.put_text(b"}\n#[allow(dead_code)]\nimpl ");
     sheet_identifiers::put_type(out, t);
     out.put_text(b" {\n");
 }
 
 // After the members: the numbers of the struct, up to its offsets.
-pub fn put_numbers<W: Write>(out: &mut Writer<W>, t: Type) {
+pub fn put_numbers<W: Write>(out: &mut Writer<W>, t: Type)
+    ensures { Writes W.contents out.old (rust_numbers_text t.entry.sheet t.entry.i) out.new }
+{
     put_impl(out, t);
     out.put_with(b"    pub const SIZE: usize = ", u64::from(t.size()), b";\n");
     out.put_with(
@@ -115,19 +158,25 @@ pub fn put_numbers<W: Write>(out: &mut Writer<W>, t: Type) {
     );
 }
 
-pub fn put_offset<W: Write>(out: &mut Writer<W>, member: Member) {
+pub fn put_offset<W: Write>(out: &mut Writer<W>, member: Member)
+    ensures { Writes W.contents out.old (rust_offset_text out.old.markup member.entry) out.new }
+{
     out.put_with(b"        ", u64::from(member.offset), b",\n");
 }
 
 // The end of the constants, and the assertion of the size.
-pub fn put_size<W: Write>(out: &mut Writer<W>, t: Type) {
+pub fn put_size<W: Write>(out: &mut Writer<W>, t: Type)
+    ensures { Writes W.contents out.old (rust_size_text t.entry.sheet t.entry.i) out.new }
+{
     out.put_text(b"    ];\n}\nconst _: () = assert!(::core::mem::size_of::<");
     sheet_identifiers::put_type(out, t);
     out.put_with(b">() == ", u64::from(t.size()), b");\n");
 }
 
 // The assertion of a member's offset.
-pub fn put_assertion<W: Write>(out: &mut Writer<W>, member: Member) {
+pub fn put_assertion<W: Write>(out: &mut Writer<W>, member: Member)
+    ensures { Writes W.contents out.old (rust_assertion_text out.old.markup member.entry) out.new }
+{
     out.put_text(b"const _: () = assert!(::core::mem::offset_of!(");
     sheet_identifiers::put_type(out, member.of);
     out.put_text(b", ");

@@ -167,7 +167,8 @@ pub fn put_numbered_member<W: Write>(out: &mut Writer<W>, member: Member)
 
 // Bytes of a member's name as it is put.
 pub fn name_length(member: Member) -> usize
-    ensures { result ≡ name_length (member_name member.entry.of.sheet.text.now member.entry.of.sheet.names.now member.entry.of.sheet.types.now member.entry.of.i member.entry.j) member.entry.j }
+    ensures { result ≡ name_length (member_name member.entry.of.sheet.text.now member.entry.of.sheet.names.now member.entry.of.sheet.types.now
+        member.entry.of.i member.entry.j) member.entry.j }
 {
     match member.name() {
         Some(name) if is_printable(name) => name.len(),

@@ -1,1 +1,2 @@
 pub mod VerdictLaws
+pub mod SlotLaws

@@ -1,9 +1,11 @@
 // Verdicts, slots and bytes of a struct in words.
 #![tactic(auto)]
 
-ghost use Rattle.std.specs.Prelude.{◌≡◌, ◌≤◌, ◌+◌, ◌++◌};
+ghost use Rattle.std.specs.Prelude.{◌≡◌, ◌<◌, ◌≤◌, ◌+◌, ◌-◌, ◌++◌};
+ghost use Rattle.valid_flags.specs.Flags.{bit};
 ghost use Rattle.sheet_output.specs.Written.{Writes};
 ghost use Rattle.sheet_verdicts.specs.Text.{measures_text, first_word, verdict_at, member_text, uneven_text, wrong_text, verdict_text};
+ghost use Rattle.sheet_verdicts.specs.Slots.{run_last, run_text, mask_text, slots_text};
 
 use immediates_ranges::Slots;
 use sheet_names::Type;
@@ -128,13 +130,26 @@ pub fn put_verdict<W: Write>(out: &mut Writer<W>, t: Type, space: Space)
 }
 
 // Whether slot k of a mask is set.
-fn has_slot(mask: u64, k: u32) -> bool {
+fn has_slot(mask: u64, k: u32) -> bool
+    ensures { result ≡ bit mask k }
+{
     (k < 64) && (mask >> k & 1 == 1)
 }
 
+// The last slot of the run from k on.
+fn run_last(mask: u64, k: u32) -> u32
+    requires { k < 64 }
+    ensures { result ≡ run_last mask (63 - k) k }
+{
+    (k..63).find(|s| !has_slot(mask, *s + 1)).unwrap_or(63)
+}
+
 // The slots of a run from k on.
-fn put_run<W: Write>(out: &mut Writer<W>, mask: u64, k: u32) {
-    let last = (k..63).find(|s| !has_slot(mask, *s + 1)).unwrap_or(63);
+fn put_run<W: Write>(out: &mut Writer<W>, mask: u64, k: u32)
+    requires { k < 64 }
+    ensures { Writes W.contents out.old (run_text mask k) out.new }
+{
+    let last = run_last(mask, k);
     out.put_with(b" ", u64::from(k), b"");
     if k != last {
         out.put_with(b"-", u64::from(last), b"");
@@ -142,7 +157,9 @@ fn put_run<W: Write>(out: &mut Writer<W>, mask: u64, k: u32) {
 }
 
 // The slots of a mask, in runs.
-fn put_mask<W: Write>(out: &mut Writer<W>, mask: u64) {
+fn put_mask<W: Write>(out: &mut Writer<W>, mask: u64)
+    ensures { Writes W.contents out.old (mask_text mask) out.new }
+{
     let starts = mask & !(mask << 1);
     for k in 0..64 {
         if has_slot(starts, k) {
@@ -152,7 +169,9 @@ fn put_mask<W: Write>(out: &mut Writer<W>, mask: u64) {
 }
 
 // Slots that are touched, and those of them that are covered only in part.
-pub fn put_slots<W: Write>(out: &mut Writer<W>, slots: Slots) {
+pub fn put_slots<W: Write>(out: &mut Writer<W>, slots: Slots)
+    ensures { Writes W.contents out.old (slots_text slots) out.new }
+{
     put_mask(out, slots.touched);
     if slots.partly != 0 {
         out.put_text(b"; only a part of");

@@ -1,0 +1,3 @@
+pub mod IdentifierLaws
+pub mod DecimalLaws
+pub mod AloneLaws

@@ -1,0 +1,8 @@
+-- `sheet_rust::put_none` meets its contract: one after the other. Assumes nothing.
+use Rattle.sheet_output.proofs.WritesLaws.{writes_both}
+use Rattle.sheet_rust.proofs.put_none.Goals as goal
+
+pub returns : goal.returns
+returns g c =
+    let k = g.W.Write.contents in
+    writes_both k (writes_both k (writes_both k c.put_text.ensures c.put_type.ensures.written) c.put_text-2.ensures) c.put_byte.ensures
