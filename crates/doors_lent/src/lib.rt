@@ -2,43 +2,67 @@
 // Each word of a lent buffer is 9 before its call, and all of them are printed after it, those past the call's own too.
 #![tactic(auto)]
 
-ghost use Rattle.std.specs.Prelude.{◌≡◌, List, ℕ, ◌≤◌, ◌==◌, count_by, min};
+ghost use Rattle.std.specs.Prelude.{◌≡◌, List, ℕ, ◌≤◌, ◌==◌, ◌++◌, count_by, min, OnOk};
+ghost use Rattle.std.specs.Io.KnownBytes.{Appends};
+ghost use Rattle.program_output.specs.Bytes.{ascii, number};
+ghost use Rattle.doors_lent.specs.Printed.{WordsLine, refusal_line};
 ghost use Rattle.doors_lent.specs.Lent.{nines, first_words, rows_checked, rows_laid_out, rows_reported};
 ghost use Rattle.doors_lent.specs.Lent.{slot_words, place_words, choice, after_step, part_words, range_words, plain_words};
 ghost use Rattle.doors_lent.specs.Calls.{LeavesRows, LeavesFound, ReadLeaves};
 
-// Kept: the system's number of the stream; program_input, which has it, is of programs that read.
-const STDOUT: i32 = 1;
+use program_output::Standard;
+use std::io::Write;
 
 // A line begins with a name.
-fn put_name(name: &[u8]) {
-    io::write_all(STDOUT, name);
-    io::write_all(STDOUT, b":");
+fn put_name<W: Write>(to: &mut W, name: &[u8]) -> std::io::Result<()>
+    ensures { OnOk result (Appends (W.contents to.old) (W.contents to.new) (name.now ++ ascii ":")) }
+{
+    to.write_all(name)?;
+    to.write_all(b":")
 }
 
-fn put_number(n: u64) {
-    io::write_all(STDOUT, b" ");
-    io::print_decimal(STDOUT, n);
+// A number after a blank.
+fn put_number<W: Write>(to: &mut W, n: u64) -> std::io::Result<()>
+    ensures { OnOk result (Appends (W.contents to.old) (W.contents to.new) (number 32 n)) }
+{
+    let mut digits = [0u8; 20];
+    let k = io::decimal(n, &mut digits);
+    to.write_all(b" ")?;
+    to.write_all(&digits[..k])
 }
 
-fn put_end() {
-    io::write_all(STDOUT, b"\n");
-}
-
-/// The words of a buffer.
-pub fn words<T: Copy + Into<u64>>(name: &[u8], words: &[T]) {
-    put_name(name);
+/// Writes the words of a buffer in a line.
+pub fn put_words<W: Write, T: Copy + Into<u64>>(
+    to: &mut W,
+    name: &[u8],
+    words: &[T],
+) -> std::io::Result<()>
+    ensures { OnOk result ((bytes : List ℕ) × WordsLine T.converts name.now words.now bytes × Appends (W.contents to.old) (W.contents to.new) bytes) }
+{
+    put_name(to, name)?;
     for word in words {
-        put_number((*word).into());
+        put_number(to, (*word).into())?;
     }
-    put_end();
+    to.write_all(b"\n")
 }
 
-/// The answer of an arena that is made for a number.
+/// Prints the words of a buffer. A print that fails is not told: what is missing shows in what is compared.
+pub fn words<T: Copy + Into<u64>>(name: &[u8], words: &[T]) {
+    let _ = put_words(&mut Standard, name, words);
+}
+
+/// Writes the answer of an arena that is made for a number.
+pub fn put_refusal<W: Write>(to: &mut W, number: u32, answer: &[u32; 5]) -> std::io::Result<()>
+    ensures { OnOk result (Appends (W.contents to.old) (W.contents to.new) (refusal_line number answer.now)) }
+{
+    to.write_all(b"made for")?;
+    put_number(to, number as u64)?;
+    put_words(to, b"", answer)
+}
+
+/// Prints it.
 pub fn refusal(number: u32, answer: &[u32; 5]) {
-    io::write_all(STDOUT, b"made for");
-    put_number(number as u64);
-    words(b"", answer);
+    let _ = put_refusal(&mut Standard, number, answer);
 }
 
 /// How many words of a long buffer are n; the number that is printed is handed back.
@@ -46,9 +70,7 @@ pub fn count(name: &[u8], words: &[u32], n: u32) -> usize
     ensures { result ≡ count_by (λ word. word == n) words.now }
 {
     let found = words.iter().filter(|word| **word == n).count();
-    put_name(name);
-    put_number(found as u64);
-    put_end();
+    self::words(name, &[found as u64]);
     found
 }
 

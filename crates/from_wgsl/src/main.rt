@@ -2,6 +2,10 @@
 // member that `inspect` takes, or the refusal with its place.
 #![tactic(auto)]
 
+ghost use Rattle.std.specs.Prelude.{◌≡◌, true, List, ℕ, IfSome};
+ghost use Rattle.std.specs.Io.KnownBytes.{Appends};
+ghost use Rattle.wgsl_lines.specs.Lines.{Answers};
+
 use program_files::Messages;
 use program_output::Standard;
 use std::io::{Read, Write};
@@ -11,10 +15,15 @@ const UNREAD: Messages = Messages {
     failed: b"the text cannot be read\n",
 };
 
-fn answer_open<S: Read, W: Write>(source: &mut S, to: &mut W) {
+// Writes the answer to the text that the input is, and tells whether all of the input was read and the answer could be written.
+fn answer_open<S: Read, W: Write>(source: &mut S, to: &mut W) -> bool
+    ensures { result ≡ true
+        → IfSome (S.remaining source.old) (λ input. (bytes : List ℕ) × Answers input bytes × Appends (W.contents to.old) (W.contents to.new) bytes) }
+{
     let mut bytes = program_files::filled::<u8, { program_files::INPUT_BYTES }>(0);
-    if let Some(text) = program_files::read_text(source, &mut bytes, UNREAD) {
-        wgsl_lines::answer(to, text);
+    match program_files::read_text(source, &mut bytes, UNREAD) {
+        Some(text) => wgsl_lines::answer(to, text),
+        None => false,
     }
 }
 

@@ -1,6 +1,11 @@
 // What is printed of the bytes of a file: a WGSL text or a SPIR-V module, read, judged and written out, or its refusal.
 #![tactic(auto)]
 
+ghost use Rattle.std.specs.Prelude.{◌≡◌, List, ℕ, MatchResult};
+ghost use Rattle.sheet_answers.specs.Bytes.{made, is_module};
+ghost use Rattle.sheet_answers.specs.Judged.{Sent, Judges, WritesStructs};
+ghost use Rattle.sheet_answers.specs.Answers.{SaysText, IsModule, SaysModule};
+
 use ir_records::Refusal;
 use program_output::Output;
 use sheet_counts::Counts;
@@ -22,20 +27,27 @@ pub struct Asked {
 const MOST_WORDS: usize = 262144;
 
 // The words of the records that a reader made in a table.
-fn made(table: &[u32], records: u32, record_words: usize) -> &[u32] {
+fn made(table: &[u32], records: u32, record_words: usize) -> &[u32]
+    ensures { result.now ≡ made table.now records record_words }
+{
     let words = (records as usize).saturating_mul(record_words);
     table.get(..words).unwrap_or(table)
 }
 
 // Whether bytes begin as a module does, in either order of a word's bytes.
-fn is_module(bytes: &[u8]) -> bool {
+fn is_module(bytes: &[u8]) -> bool
+    ensures { result ≡ is_module bytes.now }
+{
     bytes.starts_with(&spirv_read::MAGIC.to_le_bytes())
         | bytes.starts_with(&spirv_read::MAGIC.to_be_bytes())
 }
 
 impl Asked {
     // The sheet of records that are accepted.
-    fn put_judged<W: Write>(self, out: &mut Writer<W>, records: Sheet) -> Result<(), Refusal> {
+    fn put_judged<W: Write>(self, out: &mut Writer<W>, records: Sheet) -> Result<(), Refusal>
+        ensures judged { Judges self records.entry result }
+        ensures written { MatchResult result (λ _. WritesStructs W.contents self records.entry out.old out.new) (λ _. out.new ≡ out.old) }
+    {
         let mut counts = Counts::new();
         counts.judge(records, self.capabilities, self.rule)?;
         self.form.put_all(out, counts.sheet(records));
@@ -49,7 +61,9 @@ impl Asked {
         text: &[u8],
         types: &[u32],
         members: &[u32],
-    ) {
+    )
+        ensures { (said : List ℕ) × SaysText self out.old.markup text.now types.now members.now said × Sent W.contents out.old said out.new }
+    {
         let names = sheet_names::from_text(text, types);
         let records = Sheet::of(text, &names, types, members);
         if let Err(refusal) = self.put_judged(out, records) {
@@ -72,7 +86,10 @@ impl Asked {
     }
 
     // The records of a module.
-    fn answer_section<W: Write>(self, out: &mut Writer<W>, module: Module, members: &[u32]) {
+    fn answer_section<W: Write>(self, out: &mut Writer<W>, module: Module, members: &[u32])
+        ensures { (words bytes types : List ℕ) → IsModule words bytes types «module».entry
+            → (said : List ℕ) × SaysModule self out.old.markup words bytes types members.now said × Sent W.contents out.old said out.new }
+    {
         let names = sheet_names::from_module(module);
         let records = Sheet::of(module.bytes, &names, module.types, members);
         if let Err(refusal) = self.put_judged(out, records) {
@@ -111,8 +128,8 @@ impl Asked {
         }
     }
 
-    /// What is printed of the bytes of a file; standard input has no name.
-    pub fn answer<W: Write>(self, to: &mut W, name: Option<&[u8]>, bytes: &[u8]) {
+    /// Prints what is said of the bytes of a file, and answers whether all of it could be written; standard input has no name.
+    pub fn answer<W: Write>(self, to: &mut W, name: Option<&[u8]>, bytes: &[u8]) -> bool {
         let mut output = Output::new();
         let mut out = Writer::new(&mut output, to, self.form.markup());
         self.form.put_start(&mut out, name);
@@ -121,6 +138,6 @@ impl Asked {
         } else {
             self.answer_text(&mut out, bytes);
         }
-        out.finish();
+        out.finish()
     }
 }

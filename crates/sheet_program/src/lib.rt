@@ -2,6 +2,8 @@
 #![tactic(auto)]
 
 ghost use Rattle.std.specs.Prelude.{◌≡◌};
+ghost use Rattle.program_output.specs.Bytes.{ascii};
+ghost use Rattle.sheet_program.specs.Options.{same, form_of, valued_of, option_of, argument_of, rule_of, no_options, with_value};
 ghost use Rattle.sheet_program.specs.Stop.{stop_of};
 
 use program_files::Messages;
@@ -70,7 +72,8 @@ const UNREAD: Messages = Messages {
 fn answer_open<S: Read, W: Write>(asked: Asked, to: &mut W, name: Option<&[u8]>, source: &mut S) {
     let mut bytes = program_files::filled::<u8, { program_files::INPUT_BYTES }>(0);
     if let Some(text) = program_files::read_text(source, &mut bytes, UNREAD) {
-        asked.answer(to, name, text);
+        // That it could not be written has been told.
+        let _ = asked.answer(to, name, text);
     }
 }
 
@@ -106,23 +109,73 @@ A refusal is one line `refused NUMBER: ` with its meaning, and then where it sta
     );
 }
 
+// The form of that name.
+#[tactic(auto, unfolding(crate::specs::Options::form_of))]
+fn form_of(name: &[u8]) -> Option<Form>
+    ensures { result ≡ form_of name.now }
+{
+    match name {
+        b"c" => Some(Form::C),
+        b"rust" => Some(Form::Rust),
+        b"html" => Some(Form::Page),
+        b"text" => Some(Form::Text),
+        _ => None,
+    }
+}
+
+// Whether a name is that of the capability word.
+// Kept: by `==` and no arm of a match: of a name of twelve bytes in an arm the check looks at each byte, and does not end within its limits.
+fn is_capabilities(name: &[u8]) -> bool
+    ensures { result ≡ same name.now (ascii "capabilities") }
+{
+    name == b"capabilities".as_slice()
+}
+
+// The option of that name that takes the next argument.
+#[tactic(auto, unfolding(crate::specs::Options::valued_of))]
+fn valued_of(name: &[u8]) -> Option<Valued>
+    ensures { result ≡ valued_of name.now }
+{
+    match name {
+        b"rule" => Some(Valued::Rule),
+        _ => is_capabilities(name).then_some(Valued::Capabilities),
+    }
+}
+
+// The option of that name, without the two marks before it.
+fn option_of(name: &[u8]) -> Argument
+    ensures { result ≡ option_of name.now }
+{
+    if let Some(form) = form_of(name) {
+        return Argument::OfForm(form);
+    }
+    if let Some(option) = valued_of(name) {
+        return Argument::WithValue(option);
+    }
+    if name == b"help".as_slice() {
+        return Argument::Help;
+    }
+    Argument::NoOption
+}
+
 // What an argument is by its name.
-fn argument_of(word: &[u8]) -> Argument {
+fn argument_of(word: &[u8]) -> Argument
+    ensures { result ≡ argument_of word.now }
+{
+    if let Some(name) = word.strip_prefix(b"--") {
+        return option_of(name);
+    }
     match word {
-        b"--c" => Argument::OfForm(Form::C),
-        b"--rust" => Argument::OfForm(Form::Rust),
-        b"--html" => Argument::OfForm(Form::Page),
-        b"--text" => Argument::OfForm(Form::Text),
-        b"--rule" => Argument::WithValue(Valued::Rule),
-        b"--capabilities" => Argument::WithValue(Valued::Capabilities),
-        b"--help" => Argument::Help,
         [b'-', ..] => Argument::NoOption,
         _ => Argument::File,
     }
 }
 
 // The rule of that name.
-fn rule_of(name: &[u8]) -> Option<UniformRule> {
+#[tactic(auto, unfolding(crate::specs::Options::rule_of))]
+fn rule_of(name: &[u8]) -> Option<UniformRule>
+    ensures { result ≡ rule_of name.now }
+{
     match name {
         b"older" => Some(UniformRule::Older),
         b"newer" => Some(UniformRule::Newer),
@@ -132,7 +185,9 @@ fn rule_of(name: &[u8]) -> Option<UniformRule> {
 
 impl Options {
     // What is asked before any argument.
-    fn new() -> Options {
+    fn new() -> Options
+        ensures { result ≡ no_options }
+    {
         Options {
             asked: Asked {
                 form: Form::Text,
@@ -146,7 +201,9 @@ impl Options {
     }
 
     // After the value of an option.
-    fn with_value(self, option: Valued, value: &[u8]) -> Result<Options, Stop> {
+    fn with_value(self, option: Valued, value: &[u8]) -> Result<Options, Stop>
+        ensures { result ≡ with_value self option value.now }
+    {
         let asked = match option {
             Valued::Rule => Asked {
                 rule: rule_of(value).ok_or(Stop::NoRule)?,
