@@ -60,7 +60,7 @@ pub fn put_refusal<W: Write>(to: &mut W, number: u32, answer: &[u32; 5]) -> std:
     put_words(to, b"", answer)
 }
 
-/// Prints it.
+/// Prints the answer of an arena that is made for a number.
 pub fn refusal(number: u32, answer: &[u32; 5]) {
     let _ = put_refusal(&mut Standard, number, answer);
 }

@@ -1,1 +1,4 @@
 pub mod JudgedLaws
+pub mod TextLaws
+pub mod WordLaws
+pub mod FileLaws

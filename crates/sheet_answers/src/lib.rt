@@ -1,10 +1,12 @@
 // What is printed of the bytes of a file: a WGSL text or a SPIR-V module, read, judged and written out, or its refusal.
 #![tactic(auto)]
 
-ghost use Rattle.std.specs.Prelude.{◌≡◌, List, ℕ, MatchResult};
+ghost use Rattle.std.specs.Prelude.{◌≡◌, List, ℕ, true, MatchResult};
+ghost use Rattle.std.specs.Io.KnownBytes.{Appends};
+ghost use Rattle.sheet_output.specs.Written.{lent};
 ghost use Rattle.sheet_answers.specs.Bytes.{made, is_module};
 ghost use Rattle.sheet_answers.specs.Judged.{Sent, Judges, WritesStructs};
-ghost use Rattle.sheet_answers.specs.Answers.{SaysText, IsModule, SaysModule};
+ghost use Rattle.sheet_answers.specs.Answers.{SaysText, SaysOfText, IsModule, SaysModule, SaysWords, SaysOfModule, Answers};
 
 use ir_records::Refusal;
 use program_output::Output;
@@ -71,7 +73,9 @@ impl Asked {
         }
     }
 
-    fn answer_text<W: Write>(self, out: &mut Writer<W>, text: &[u8]) {
+    fn answer_text<W: Write>(self, out: &mut Writer<W>, text: &[u8])
+        ensures { (said : List ℕ) × SaysOfText self out.old.markup text.now said × Sent W.contents out.old said out.new }
+    {
         let mut types = [0; ir_records::TYPE_TABLE];
         let mut members = [0; ir_records::MEMBER_TABLE];
         match wgsl_read::read_at(text, &mut types, &mut members) {
@@ -98,7 +102,9 @@ impl Asked {
         }
     }
 
-    fn answer_words<W: Write>(self, out: &mut Writer<W>, bytes: &[u8], words: &[u32]) {
+    fn answer_words<W: Write>(self, out: &mut Writer<W>, bytes: &[u8], words: &[u32])
+        ensures { (said : List ℕ) × SaysWords self out.old.markup words.now bytes.now said × Sent W.contents out.old said out.new }
+    {
         let mut types = [0; ir_records::TYPE_TABLE];
         let mut members = [0; ir_records::MEMBER_TABLE];
         match spirv_reader::read_module(words, &mut types, &mut members) {
@@ -116,7 +122,9 @@ impl Asked {
         }
     }
 
-    fn answer_module<W: Write>(self, out: &mut Writer<W>, bytes: &[u8]) {
+    fn answer_module<W: Write>(self, out: &mut Writer<W>, bytes: &[u8])
+        ensures { (said : List ℕ) × SaysOfModule self out.old.markup bytes.now said × Sent W.contents out.old said out.new }
+    {
         let mut words = program_files::filled::<u32, MOST_WORDS>(0);
         if bytes.len() % 4 != 0 {
             program_files::tell(b"sheet: the module is no whole number of words\n");
@@ -129,7 +137,10 @@ impl Asked {
     }
 
     /// Prints what is said of the bytes of a file, and answers whether all of it could be written; standard input has no name.
-    pub fn answer<W: Write>(self, to: &mut W, name: Option<&[u8]>, bytes: &[u8]) -> bool {
+    pub fn answer<W: Write>(self, to: &mut W, name: Option<&[u8]>, bytes: &[u8]) -> bool
+        ensures { (answer : List ℕ) × Answers self (lent name.entry) bytes.now answer
+            × (result ≡ true → Appends (W.contents to.old) (W.contents to.new) answer) }
+    {
         let mut output = Output::new();
         let mut out = Writer::new(&mut output, to, self.form.markup());
         self.form.put_start(&mut out, name);

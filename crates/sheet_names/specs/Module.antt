@@ -44,6 +44,7 @@ string_of m at k = let start = (at + k) * 4 in string_in start (part_of (m.bytes
 abbrev pub row_of : (types : List ℕ) (i j : ℕ) → Option ℕ
 row_of types i j = pick (eqb (type_word types i 0) struct_kind && ltb j (type_word types i 2)) (Some (type_word types i 1 + j)) None
 
+-- the same, where there is such a type
 abbrev pub member_row_of : (types : List ℕ) → Option ℕ → (j : ℕ) → Option ℕ
 member_row_of types None j = None
 member_row_of types (Some i) j = row_of types i j
@@ -77,6 +78,7 @@ instruction_named m at names =
     (pick (eqb (opcode (m.words.now) at) 6) (record { types = names.types; members = put (row_named m at) (names.members) })
     names)
 
+-- the instructions one after the other
 unfoldable pub instructions_named : Module → (ats : List ℕ) → NameTable → NameTable
 instructions_named m [] names = names
 instructions_named m (at ∷ ats) names = instructions_named m ats (instruction_named m at names)
