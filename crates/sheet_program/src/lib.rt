@@ -1,8 +1,10 @@
 // The program `sheet`: its arguments, the files that they name, and what is printed of each.
 #![tactic(auto)]
 
-ghost use Rattle.std.specs.Prelude.{◌≡◌};
+ghost use Rattle.std.specs.Prelude.{◌≡◌, true, IfSome};
 ghost use Rattle.program_output.specs.Bytes.{ascii};
+ghost use Rattle.sheet_output.specs.Written.{lent};
+ghost use Rattle.sheet_program.specs.Printed.{Printed};
 ghost use Rattle.sheet_program.specs.Options.{same, form_of, valued_of, option_of, argument_of, rule_of, no_options, with_value};
 ghost use Rattle.sheet_program.specs.Stop.{stop_of};
 
@@ -69,11 +71,20 @@ const UNREAD: Messages = Messages {
     failed: b"sheet: the input cannot be read\n",
 };
 
-fn answer_open<S: Read, W: Write>(asked: Asked, to: &mut W, name: Option<&[u8]>, source: &mut S) {
+// Prints the sheet of the file that the input is, and tells whether all of the input was read and the sheet could be written.
+fn answer_open<S: Read, W: Write>(
+    asked: Asked,
+    to: &mut W,
+    name: Option<&[u8]>,
+    source: &mut S,
+) -> bool
+    ensures { result ≡ true
+        → IfSome (S.remaining source.old) (λ input. Printed asked (lent name.entry) input (W.contents to.old) (W.contents to.new)) }
+{
     let mut bytes = program_files::filled::<u8, { program_files::INPUT_BYTES }>(0);
-    if let Some(text) = program_files::read_text(source, &mut bytes, UNREAD) {
-        // That it could not be written has been told.
-        let _ = asked.answer(to, name, text);
+    match program_files::read_text(source, &mut bytes, UNREAD) {
+        Some(text) => asked.answer(to, name, text),
+        None => false,
     }
 }
 
@@ -86,7 +97,10 @@ fn tell_of(argument: &[u8], what: &[u8]) {
 
 fn answer_file<R: Files>(rt: &R, asked: Asked, name: &[u8]) {
     match program_files::open(rt, name) {
-        Some(mut file) => answer_open(asked, &mut Standard, Some(name), &mut file),
+        Some(mut file) => {
+            // That it could not be written has been told.
+            let _ = answer_open(asked, &mut Standard, Some(name), &mut file);
+        }
         None => tell_of(name, b": the file cannot be opened\n"),
     }
 }
@@ -261,7 +275,7 @@ impl Options {
             self.with_value(option, b"")?;
         }
         if !self.files {
-            answer_open(self.asked, &mut Standard, None, &mut rt.reader());
+            let _ = answer_open(self.asked, &mut Standard, None, &mut rt.reader());
         } else if self.open {
             program_files::tell(
                 b"sheet: an option stands after the last file; options hold for the files after them\n",
