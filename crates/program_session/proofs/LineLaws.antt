@@ -1,6 +1,7 @@
 -- The lines of an input, and what stands after them, of its first part and of what comes then.
 -- Assumes nothing.
 use Rattle.std.proofs.Common.{◌≡◌, refl, sym, ◌∙◌, ap, ℕ, zero, suc, ◌+◌, ◌-◌, ◌<◌, ◌≤◌, Bool, true, false, not, eqb, List, [], ◌∷◌, ◌++◌, length, take, drop, append_assoc, append-nil, length-append, add-one, arith}
+use Rattle.std.proofs.Math.Seq.{drop-append_seam}
 use Rattle.program_words.specs.Words.{run_of}
 use Rattle.program_session.specs.Transcript.{lines_after, lines, rest_after, rest}
 use Rattle.program_session.specs.Serving.{Unended}
@@ -141,9 +142,7 @@ ends f [] = record { before = []; whole = append-nil f }
 ends f (b ∷ bs) = ends_by f bs b (eqb b 10) refl (ends [] bs) (ends (f ++ (b ∷ [])) bs)
 
 drop_before : (n : ℕ) (xs bs : List ℕ) → n ≡ length xs → drop n (xs ++ bs) ≡ bs
-drop_before n [] bs h = rw h refl
-drop_before zero (x ∷ xs) bs h = absurd (omega (arith, h))
-drop_before (suc n) (x ∷ xs) bs h = drop_before n xs bs (omega (arith, h))
+drop_before n xs bs h = rw h (drop-append_seam xs bs)
 
 pub rest_short : (bs : List ℕ) → length (rest bs) ≤ length bs
 rest_short bs =

@@ -11,7 +11,7 @@ use lib.ListN.{length, take}
 use borrow.Author.Tests.{ne_eqb}
 use Rattle.std.specs.Prelude.{Option, None, Some}
 use Rattle.std.specs.List.{list_any, range_with_len, prefix_len, suffix_len}
-use Rattle.std.proofs.lemmas.Bool.{false≢true}
+use Rattle.std.proofs.lemmas.Bool.{false≢true, or_parts}
 use Rattle.std.proofs.lemmas.List.{take_all, append_cancel_left}
 use Rattle.std.proofs.lemmas.Slice.Eq.{bytes_eq-Decides}
 use Rattle.ir_records.specs.Result.{pick}
@@ -65,15 +65,11 @@ none_same : (test : ℕ → Bool) (n from k : ℕ) → list_any test (range_with
 none_same test zero from k e h l = absurd (omega arith)
 none_same test (suc n) from k e h l = by (none_same test n (from + 1) k) (eq-or-lt_of_le h)
   where
-    rest : (a b : Bool) → (a || b) ≡ false → (a ≡ false) × (b ≡ false)
-    rest true b e = absurd (false≢true (sym e))
-    rest false b e = (refl, e)
-
     by : (list_any test (range_with_len (from + 1) n) ≡ false → from + 1 ≤ k → k < from + 1 + n → test k ≡ false)
         → (from ≡ k) ⊎ (from < k)
         → test k ≡ false
-    by later (inl same) = rw (sym same) (rest (test from) (list_any test (range_with_len (from + 1) n)) e).0
-    by later (inr more) = later (rest (test from) (list_any test (range_with_len (from + 1) n)) e).1 (omega arith) (omega arith)
+    by later (inl same) = rw (sym same) (or_parts (test from) (list_any test (range_with_len (from + 1) n)) e).0
+    by later (inr more) = later (or_parts (test from) (list_any test (range_with_len (from + 1) n)) e).1 (omega arith) (omega arith)
 
 -- a text is that of a number, or of a name that no earlier one is
 abbrev pub IsName : (name : Option (List ℕ)) (earlier : Bool) (text : List ℕ) → Type 0

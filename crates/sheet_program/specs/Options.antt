@@ -20,26 +20,23 @@ use Rattle.sheet_program.specs.declared.Stop.{Stop}
 use Rattle.sheet_program.specs.declared.Stop.TheVariants as stop
 use Rattle.sheet_program.specs.Stop.{stop_of}
 
-abbrev pub same : List ℕ → List ℕ → Bool
-same s t = pointwise nat_eq s t
-
 -- ---- options, by their names without the two marks before them
 -- a form
 unfoldable pub form_of : List ℕ → Option Form
 form_of name =
-    pick (same name (ascii "c")) (Some form.C)
-    (pick (same name (ascii "rust")) (Some form.Rust)
-    (pick (same name (ascii "html")) (Some form.Page)
-    (pick (same name (ascii "text")) (Some form.Text) None)))
+    pick (pointwise nat_eq name (ascii "c")) (Some form.C)
+    (pick (pointwise nat_eq name (ascii "rust")) (Some form.Rust)
+    (pick (pointwise nat_eq name (ascii "html")) (Some form.Page)
+    (pick (pointwise nat_eq name (ascii "text")) (Some form.Text) None)))
 
 -- one that takes the next argument
 unfoldable pub valued_of : List ℕ → Option Valued
-valued_of name = pick (same name (ascii "rule")) (Some valued.Rule) (pick (same name (ascii "capabilities")) (Some valued.Capabilities) None)
+valued_of name = pick (pointwise nat_eq name (ascii "rule")) (Some valued.Rule) (pick (pointwise nat_eq name (ascii "capabilities")) (Some valued.Capabilities) None)
 
 -- one that takes the next argument, or help, or none
 abbrev pub other_of : (name : List ℕ) → Option Valued → Argument
 other_of name (Some option) = argument.WithValue option
-other_of name None = pick (same name (ascii "help")) argument.Help argument.NoOption
+other_of name None = pick (pointwise nat_eq name (ascii "help")) argument.Help argument.NoOption
 
 abbrev pub form_or : (name : List ℕ) → Option Form → Argument
 form_or name (Some form) = argument.OfForm form
@@ -62,7 +59,7 @@ argument_of word =
 
 -- the rule of that name
 unfoldable pub rule_of : List ℕ → Option UniformRule
-rule_of name = pick (same name (ascii "older")) (Some Older) (pick (same name (ascii "newer")) (Some Newer) None)
+rule_of name = pick (pointwise nat_eq name (ascii "older")) (Some Older) (pick (pointwise nat_eq name (ascii "newer")) (Some Newer) None)
 
 -- before any argument: a text, by the older rule, with no capability
 abbrev pub no_options : Options

@@ -1,11 +1,12 @@
 // The program `sheet`: its arguments, the files that they name, and what is printed of each.
 #![tactic(auto)]
 
-ghost use Rattle.std.specs.Prelude.{◌≡◌, true, IfSome};
+ghost use Rattle.std.specs.Prelude.{◌≡◌, true, IfSome, nat_eq};
+ghost use Rattle.std.specs.Cmp.Lexicographic.{pointwise};
 ghost use Rattle.program_output.specs.Bytes.{ascii};
 ghost use Rattle.sheet_output.specs.Written.{lent};
 ghost use Rattle.sheet_program.specs.Printed.{Printed};
-ghost use Rattle.sheet_program.specs.Options.{same, form_of, valued_of, option_of, argument_of, rule_of, no_options, with_value};
+ghost use Rattle.sheet_program.specs.Options.{form_of, valued_of, option_of, argument_of, rule_of, no_options, with_value};
 ghost use Rattle.sheet_program.specs.Stop.{stop_of};
 
 use program_files::Messages;
@@ -140,7 +141,7 @@ fn form_of(name: &[u8]) -> Option<Form>
 // Whether a name is that of the capability word.
 // Kept: by `==` and no arm of a match: of a name of twelve bytes in an arm the check looks at each byte, and does not end within its limits.
 fn is_capabilities(name: &[u8]) -> bool
-    ensures { result ≡ same name.now (ascii "capabilities") }
+    ensures { result ≡ pointwise nat_eq name.now (ascii "capabilities") }
 {
     name == b"capabilities".as_slice()
 }

@@ -1,11 +1,13 @@
 -- The layout sheet: its bytes, in each of the four forms.
 -- Assumes nothing.
-use Rattle.std.specs.Prelude.{Bool, List, [], ◌++◌, ℕ, eqb, Option}
+use Rattle.std.specs.Prelude.{List, [], ◌++◌, ℕ, Option}
 use Rattle.std.specs.List.{count_by, range_with_len}
 use Rattle.ir_records.specs.Result.{pick}
-use Rattle.ir_records.specs.Record.{type_word, type_count, struct_kind}
+use Rattle.ir_records.specs.Record.{type_count}
+use Rattle.ir_records.specs.Fields.{most_types}
 use Rattle.program_output.specs.Bytes.{ascii, decimal, joined}
 use Rattle.sheet_names.specs.declared.Sheet.{Sheet}
+use Rattle.sheet_names.specs.Text.{is_struct}
 use Rattle.sheet_output.specs.declared.Markup.{Markup}
 use Rattle.sheet_types.specs.Text.{file_text}
 use Rattle.sheet_c.specs.Text.{c_start}
@@ -24,13 +26,6 @@ start_text form.Rust m name = rust_start
 start_text form.Page m name = page_start ++ file_text m name ++ ascii "</h1>\n"
 
 -- ---- the structs
--- no more types are read
-abbrev pub most_types : ℕ
-most_types = 1024
-
-abbrev pub is_struct : (types : List ℕ) (i : ℕ) → Bool
-is_struct types i = eqb (type_word types i 0) struct_kind
-
 -- the structs in the order of their records
 abbrev pub structs_text : Form → Markup → Sheet → List ℕ
 structs_text form m sheet = joined (λ i. pick (is_struct (sheet.types.now) i) (struct_text form m sheet i) []) most_types

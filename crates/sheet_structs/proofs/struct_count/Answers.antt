@@ -6,7 +6,8 @@ use Rattle.std.proofs.Common.{rules, arith}
 use Rattle.std.proofs.lemmas.List.Sums.{length-filter}
 use Rattle.std.proofs.lemmas.Iterator.{YieldsList-from_range}
 use Rattle.std.proofs.lemmas.Iterator.Consumers.{count_from_yields_List, YieldsList-from_filter}
-use Rattle.sheet_structs.specs.Text.{is_struct, most_types}
+use Rattle.ir_records.specs.Fields.{most_types}
+use Rattle.sheet_names.specs.Text.{is_struct}
 use Rattle.sheet_structs.proofs.struct_count.Goals as goal
 
 pub returns : goal.returns

@@ -10,7 +10,8 @@ use Rattle.sheet_output.specs.Written.{Writes}
 use Rattle.sheet_output.proofs.WritesLaws.{writes_none, writes_both, writes_then}
 use Rattle.sheet_verdicts.proofs.SlotLaws.{joined_more}
 use Rattle.sheet_structs.specs.Structs.{struct_text}
-use Rattle.sheet_structs.specs.Text.{is_struct, most_types}
+use Rattle.ir_records.specs.Fields.{most_types}
+use Rattle.sheet_names.specs.Text.{is_struct}
 use Rattle.sheet_structs.proofs.Form.put_all.Goals as goal
 use Rattle.sheet_structs.proofs.Form.put_all.Goals.{then-is_struct, else-is_struct}
 

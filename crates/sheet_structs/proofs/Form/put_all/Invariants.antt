@@ -4,7 +4,7 @@ use Rattle.ir_records.specs.Result.{pick}
 use Rattle.program_output.specs.Bytes.{joined}
 use Rattle.sheet_output.specs.Written.{Writes}
 use Rattle.sheet_structs.specs.Structs.{struct_text}
-use Rattle.sheet_structs.specs.Text.{is_struct}
+use Rattle.sheet_names.specs.Text.{is_struct}
 use Rattle.sheet_structs.proofs.Form.put_all.Given as goal
 
 abbrev pub invariant-loop-i : goal.invariant-loop-i
