@@ -4,10 +4,29 @@ use mathlib.Core.Path.{◌≡◌, refl}
 use mathlib.Core.List.{List, [], ◌∷◌}
 use Prim.Native.Nat.{ℕ, ◌<◌, ◌≤◌}
 use native.Mathlib.Omega.{arith}
-use lib.ListN.{length, set}
+use lib.ListN.{length, set, drop}
 use borrow.Author.Tests.{le-leb}
 use Rattle.immediates_ranges.specs.Answer.{SlotsAnswer}
 use Rattle.doors_words.specs.Words.{touched_of, partly_of, with_front, with_masks, with_one}
+
+-- two, three or four words from the front on, where there are as many
+pub four_stores : (l : List ℕ) (a b c d : ℕ) → 4 ≤ length l → set (set (set (set l 0 a) 1 b) 2 c) 3 d ≡ a ∷ b ∷ c ∷ d ∷ drop 4 l
+four_stores [] a b c d h = absurd (omega arith)
+four_stores (w ∷ []) a b c d h = absurd (omega arith)
+four_stores (w ∷ x ∷ []) a b c d h = absurd (omega arith)
+four_stores (w ∷ x ∷ y ∷ []) a b c d h = absurd (omega arith)
+four_stores (w ∷ x ∷ y ∷ z ∷ l) a b c d h = refl
+
+pub three_stores : (l : List ℕ) (a b c : ℕ) → 3 ≤ length l → set (set (set l 0 a) 1 b) 2 c ≡ a ∷ b ∷ c ∷ drop 3 l
+three_stores [] a b c h = absurd (omega arith)
+three_stores (w ∷ []) a b c h = absurd (omega arith)
+three_stores (w ∷ x ∷ []) a b c h = absurd (omega arith)
+three_stores (w ∷ x ∷ y ∷ l) a b c h = refl
+
+pub two_stores : (l : List ℕ) (a b : ℕ) → 2 ≤ length l → set (set l 0 a) 1 b ≡ a ∷ b ∷ drop 2 l
+two_stores [] a b h = absurd (omega arith)
+two_stores (w ∷ []) a b h = absurd (omega arith)
+two_stores (w ∷ x ∷ l) a b h = refl
 
 -- the masks by how many words are lent: one, or none or more
 pub one_mask : (l : List ℕ) (found : SlotsAnswer) → length l ≡ 1 → set l 0 (touched_of found) ≡ with_masks l found

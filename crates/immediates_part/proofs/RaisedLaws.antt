@@ -134,7 +134,7 @@ module _ (offset size n : ℕ) where
       (λ k h. ap (λ (b : Bool). leb n k && b) (bit_mask (covers_partly offset size) slot_count (k - n) (omega (arith, h))) ∙ moved_partly k)
 
 -- ---- the shift that the code makes, of fewer places than there are slots
-shifted_out : (m n : ℕ) → slot_count ≤ n → raised m n ≡ 0
+pub shifted_out : (m n : ℕ) → slot_count ≤ n → raised m n ≡ 0
 unfolding raised
 shifted_out m n h =
     let j = n - slot_count in

@@ -16,7 +16,7 @@ ghost use Rattle.immediates_walk.specs.Walk.{slots_at};
 ghost use Rattle.immediates_walk.specs.Parts.{Sizes, part_at};
 ghost use Rattle.immediates_walk.specs.Serving.{members_at, StopsAt};
 
-use immediates_kept::OfType;
+use immediates_kept::{Kept, OfType};
 use immediates_part::Part;
 use immediates_ranges::Slots;
 use ir_records::Kind;
@@ -72,7 +72,9 @@ impl<'a> Walk<'a> {
 }
 
 // The members from where a walk stands, up to the first that is a struct; None where one before it is refused.
-fn plain_from(walk: Walk) -> Option<Taken>
+// Kept: the struct's rows are handed in: it is called once for each member that is a struct, and would look for them each time.
+fn plain_from(walk: Walk, own: &[u32]) -> Option<Taken>
+    requires { own.now ≡ struct_members walk.of.types.now walk.of.members.now walk.of.ty }
     ensures from_le_taken { IfSome result (λ t. (walk.entry.from.taken ≤ t.taken) × (t.taken ≤ walk.entry.count)) }
     ensures taken_bound { IfSome result
         (λ t. t.taken < walk.entry.count → StopsAt walk.entry.of.types.now walk.entry.of.members.now walk.entry.of.ty walk.entry.offset t.taken) }
@@ -80,7 +82,6 @@ fn plain_from(walk: Walk) -> Option<Taken>
         (Past ≡ members_at walk.entry.of.types.now walk.entry.of.members.now walk.entry.of.ty walk.entry.offset walk.entry.count)
         (λ t. part_in t.part ≡ members_at walk.entry.of.types.now walk.entry.of.members.now walk.entry.of.ty walk.entry.offset t.taken) }
 {
-    let own = ir_records::struct_members(walk.of.types, walk.of.members, walk.of.ty);
     let mut part = walk.from.part;
     for j in walk.from.taken..walk.count {
         let t = ir_records::member_type(own, j);
@@ -116,12 +117,13 @@ fn members_part(walk: Walk, kept: &mut [OfType]) -> Option<Part>
     let mut j = walk.from.taken;
     // Kept: `j` goes on past all the members that plain_from took, which no range does.
     while j < walk.count {
-        let plain = plain_from(Walk {
+        let from = Walk {
             of: walk.of,
             offset: walk.offset,
             count: walk.count,
             from: Taken { taken: j, part },
-        })?;
+        };
+        let plain = plain_from(from, own)?;
         let taken = plain.taken;
         if walk.count <= taken {
             return Some(plain.part);
@@ -166,7 +168,7 @@ fn nested_in<const N: usize>(walk: Walk) -> Option<Part>
     requires parts_bound { N ≤ 1024 }
     ensures { part_found result ≡ members_at walk.entry.of.types.now walk.entry.of.members.now walk.entry.of.ty walk.entry.offset walk.entry.count }
 {
-    let mut kept: [OfType; N] = [[None; 4]; N];
+    let mut kept: [OfType; N] = [[Kept::Unwalked; 4]; N];
     members_part(walk, &mut kept)
 }
 
@@ -194,7 +196,8 @@ fn type_part(own: ArenaType, offset: u32) -> Option<Part>
         return immediates_part::range_part(offset, size);
     }
     let walk = Walk::start(own, offset);
-    let plain = plain_from(walk)?;
+    let rows = ir_records::struct_members(own.types, own.members, own.ty);
+    let plain = plain_from(walk, rows)?;
     if walk.count <= plain.taken {
         return Some(plain.part);
     }

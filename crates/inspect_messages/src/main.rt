@@ -10,7 +10,7 @@ fn stop_at<W: Write>(to: &mut W, mut s: Session, line: &[u8]) {
     let mut arena = [0u32; program_commands::ARENA_WORDS];
     let mut numbers = [0u32; program_lines::MOST_NUMBERS];
     let mut out = Output::new();
-    match program_lines::read_line(line, &mut numbers) {
+    match program_lines::said_line(line, &mut numbers) {
         Ok(Some(Line::Change(change))) => s.change(change, &mut arena),
         Ok(_) => {}
         Err(reason) => s.stop(reason),

@@ -454,14 +454,46 @@ pub fn member_source(part: &[u32], j: u32) -> u32
     table_word(part, MEMBER_WORDS as u32, j, SOURCE)
 }
 
+// Kept: the same four of a row that the part has, with no test of its length, by the number at which the part's rows stand: a part may be longer than
+// its rows, and the loops over all rows of a part read by them. `Members` has methods for the rows of a struct.
+pub fn own_type(part: &[u32], j: usize) -> u32
+    requires { j * member_words + member_words ≤ length part.now }
+    ensures { result ≡ member_type part.now j }
+{
+    part[j * MEMBER_WORDS + TYPE as usize]
+}
+
+// Kept: as own_type.
+pub fn own_offset(part: &[u32], j: usize) -> u32
+    requires { j * member_words + member_words ≤ length part.now }
+    ensures { result ≡ member_offset part.now j }
+{
+    part[j * MEMBER_WORDS + OFFSET as usize]
+}
+
+// Kept: as own_type.
+pub fn own_location(part: &[u32], j: usize) -> u32
+    requires { j * member_words + member_words ≤ length part.now }
+    ensures { result ≡ member_location part.now j }
+{
+    part[j * MEMBER_WORDS + LOCATION as usize]
+}
+
+// Kept: as own_type.
+pub fn own_source(part: &[u32], j: usize) -> u32
+    requires { j * member_words + member_words ≤ length part.now }
+    ensures { result ≡ member_source part.now j }
+{
+    part[j * MEMBER_WORDS + SOURCE as usize]
+}
+
 // Whether row j has a blend source and no location.
-// Kept: it reads the words itself, since `any` over the rows counts them by usize, and member_source takes the u32 of a record.
 fn is_unlocated(part: &[u32], j: usize) -> bool
     requires { j < member_count part.now }
     ensures { result ≡ is_unlocated part.now j }
 {
-    let source = word_at(part, j * MEMBER_WORDS + SOURCE as usize);
-    let location = word_at(part, j * MEMBER_WORDS + LOCATION as usize);
+    let source = own_source(part, j);
+    let location = own_location(part, j);
     (0 < source) & (location == 0)
 }
 

@@ -1,11 +1,24 @@
 -- The number of an order: each order has one, and the lesser number is the first order by member numbers.
 -- Assumes nothing.
-use mathlib.Core.Path.{◌≡◌, sym, ap, ◌∙◌}
+use mathlib.Core.Path.{◌≡◌, refl, sym, ap, ◌∙◌}
 use Prim.Native.Nat.{ℕ, zero, suc, ◌+◌, ◌-◌, ◌*◌, ◌/◌, ◌%◌, ◌^◌, ◌≤◌, ◌<◌}
 use native.Mathlib.Nat.{div-one, div-div-eq-div-mul, pow-suc, pow-succ'}
 use native.Mathlib.Decide.{ℕ_discrete, dec_le}
 use native.Mathlib.Omega.{arith}
-use Rattle.order_numbers.specs.Order.{Before, member_at}
+use lib.ListN.{get_or}
+use Rattle.order_numbers.specs.Order.{Before, member_at, powers}
+
+-- ---- the table of powers
+pub power_is : (k : ℕ) → k ≤ 7 → get_or powers k 0 ≡ 7 ^ k
+power_is zero h = refl
+power_is (suc zero) h = refl
+power_is (suc (suc zero)) h = refl
+power_is (suc (suc (suc zero))) h = refl
+power_is (suc (suc (suc (suc zero)))) h = refl
+power_is (suc (suc (suc (suc (suc zero))))) h = refl
+power_is (suc (suc (suc (suc (suc (suc zero)))))) h = refl
+power_is (suc (suc (suc (suc (suc (suc (suc zero))))))) h = refl
+power_is (suc (suc (suc (suc (suc (suc (suc (suc k)))))))) h = absurd (omega arith)
 
 -- ---- digits: the last, and those before it
 digit_last : (n a : ℕ) → member_at (suc n) a n ≡ a % 7

@@ -1,7 +1,7 @@
 -- 02, E11: orders of up to seven members. An order is told by the member at each place; the code carries it as a number to base 7 whose digits are
 -- the member numbers, the first place's the highest.
 -- Assumes nothing.
-use Rattle.std.specs.Prelude.{◌≡◌, Bool, true, ◌||◌, ◌⊎◌, ℕ, ◌+◌, ◌-◌, ◌*◌, ◌/◌, ◌%◌, ◌^◌, ◌<◌, eqb, leb}
+use Rattle.std.specs.Prelude.{◌≡◌, Bool, true, ◌||◌, List, [], ◌∷◌, ◌⊎◌, ℕ, ◌+◌, ◌-◌, ◌*◌, ◌/◌, ◌%◌, ◌^◌, ◌<◌, eqb, leb}
 use Rattle.std.specs.Prelude.{Option, Some, None}
 use Rattle.order_numbers.specs.Search.{first_from, is_found, is_nothing}
 
@@ -30,6 +30,10 @@ abbrev pub AtOrBefore : (n : ℕ) (a b : ℕ → ℕ) → Type 0
 AtOrBefore n a b = Same n a b ⊎ Before n a b
 
 -- ---- the number of an order
+-- the powers of 7, as the code has them
+abbrev pub powers : List ℕ
+powers = 1 ∷ 7 ∷ 49 ∷ 343 ∷ 2401 ∷ 16807 ∷ 117649 ∷ 823543 ∷ []
+
 -- the member at place j of an order of n
 unfoldable pub member_at : (n order j : ℕ) → ℕ
 member_at n order j = order / 7 ^ (n - 1 - j) % 7

@@ -410,7 +410,7 @@ impl Program {
         ensures told { Adds self.old.out (answered line.now (held self.old)).bytes self.new.out }
     {
         let mut numbers = [0u32; program_lines::MOST_NUMBERS];
-        match program_lines::read_line(line, &mut numbers) {
+        match program_lines::said_line(line, &mut numbers) {
             Ok(Some(read)) => self.answer_read(read),
             Ok(None) => {}
             Err(reason) => self.session.stop(reason),

@@ -5,7 +5,7 @@ ghost use Rattle.std.specs.Prelude.{◌≡◌, ◌≤◌, length};
 ghost use Rattle.program_words.specs.Words.{words};
 ghost use Rattle.program_words.specs.Number.{number_of};
 ghost use Rattle.program_arguments.specs.Arguments.{numbers_of, reason_of, reason_of_stray};
-ghost use Rattle.program_arguments.specs.Serving.{told_at, numbers_in, NumberAt};
+ghost use Rattle.program_arguments.specs.Serving.{told_at, numbers_in, filled, count_of, NumberAt};
 
 use program_words::{NumberError, NumberRead, Stray};
 
@@ -90,7 +90,29 @@ fn next_number(s: &[u8], place: u32) -> Result<Option<NumberRead>, Reason>
     }))
 }
 
-/// Reads the numbers of a text into the lent words, as many as there is room for at most, and gives them.
+/// Reads the numbers of a text into the lent words, as many as there is room for at most, and says how many they are.
+pub fn fill_numbers(s: &[u8], command: Command, numbers: &mut [u32]) -> Result<usize, Reason>
+    requires { length numbers.old ≤ 1025 }
+    ensures numbers_after { filled result numbers.new ≡ numbers_of command (length numbers.old) 2 (words s.now) }
+    ensures within { count_of result ≤ length numbers.old }
+    ensures long { length numbers.new ≡ length numbers.old }
+{
+    let mut rest = s;
+    // Kept: an index: where the text ends the answer is how many stand before it, and the invariant says what stands there.
+    for k in 0..numbers.len() {
+        let Some(number) = next_number(rest, k as u32 + 2)? else {
+            return Ok(k);
+        };
+        numbers[k] = number.value;
+        rest = &rest[number.at..];
+    }
+    if program_words::next_word(rest, 0).is_some() {
+        return Err(Reason::Usage(command));
+    }
+    Ok(numbers.len())
+}
+
+/// The same, and gives the numbers.
 pub fn read_numbers<'a>(
     s: &[u8],
     command: Command,
@@ -99,18 +121,6 @@ pub fn read_numbers<'a>(
     requires { length numbers.old ≤ 1025 }
     ensures { numbers_in result ≡ numbers_of command (length numbers.old) 2 (words s.now) }
 {
-    let mut rest = s;
-    // Kept: an index: where the text ends the answer is the part before k, and the invariant says what stands there; `iter_mut` would hold that part until the
-    // loop ends.
-    for k in 0..numbers.len() {
-        let Some(number) = next_number(rest, k as u32 + 2)? else {
-            return Ok(&numbers[..k]);
-        };
-        numbers[k] = number.value;
-        rest = &rest[number.at..];
-    }
-    if program_words::next_word(rest, 0).is_some() {
-        return Err(Reason::Usage(command));
-    }
-    Ok(numbers)
+    let count = fill_numbers(s, command, numbers)?;
+    Ok(&numbers[..count])
 }

@@ -8,7 +8,7 @@ use Rattle.program_words.specs.Words.{run_of, before_comment, without_return, te
 use Rattle.program_words.specs.Number.{all_digits, decimal, number_of}
 use Rattle.program_words.specs.Stray.{stray_of, stray_from}
 use Rattle.program_arguments.specs.Arguments.{numbers_of}
-use Rattle.program_lines.specs.Line.{Line, last_command_of, answer_command_of, later_command_of, command_of, arguments_of, line_of, line_in}
+use Rattle.program_lines.specs.Line.{Line, last_command_of, answer_command_of, later_command_of, command_of, arguments_of, line_of, numbers_read, line_in}
 use Rattle.program_lines.specs.Line as line
 use Rattle.program_arguments.specs.declared.Command.TheVariants as command
 use Rattle.program_arguments.specs.declared.Reason.{Reason}
@@ -21,9 +21,9 @@ read s = line_of (words (text_of s))
 abbrev range_line : List ℕ
 range_line = 114 ∷ 97 ∷ 110 ∷ 103 ∷ 101 ∷ 32 ∷ 32 ∷ 51 ∷ 32 ∷ 50 ∷ 53 ∷ 50 ∷ 32 ∷ 35 ∷ 32 ∷ 49 ∷ 13 ∷ []
 
-range-line : read range_line ≡ Ok (Some (line.Range 3 252))
+range-line : (read range_line ≡ Ok (Some (line.Range 3 252))) × (numbers_read (words (text_of range_line)) ≡ 3 ∷ 252 ∷ [])
 unfolding run_of before_comment without_return pieces words all_digits decimal number_of last_command_of answer_command_of later_command_of command_of numbers_of arguments_of
-range-line = refl
+range-line = (refl, refl)
 
 -- "\ttype 8 0 2": words left off are 0
 type-line : read (9 ∷ 116 ∷ 121 ∷ 112 ∷ 101 ∷ 32 ∷ 56 ∷ 32 ∷ 48 ∷ 32 ∷ 50 ∷ []) ≡ Ok (Some (line.TypeRecord 8 0 2 0 0 0))

@@ -1,6 +1,6 @@
 -- What a line says, by its bytes and its words: the command and the numbers after it.
 -- Assumes nothing.
-use Rattle.std.specs.Prelude.{Bool, List, [], ◌∷◌, ℕ, nat_eq, leb, length, get_or, drop, Option, Some, None, Result, Ok, Err}
+use Rattle.std.specs.Prelude.{◌≡◌, Bool, List, [], ◌∷◌, ℕ, nat_eq, leb, length, get_or, take, drop, Option, Some, None, Result, Ok, Err}
 use Rattle.std.specs.Cmp.Lexicographic.{pointwise}
 use Rattle.std.specs.Result.{result_map_both}
 use Rattle.ir_records.specs.Result.{pick}
@@ -133,7 +133,11 @@ enough c (wrong r) = wrong r
 unfoldable pub arguments_of : Command → List (List ℕ) → Arguments
 arguments_of c ws = enough c (numbers_of c (most_of c) 2 ws)
 
--- ---- the  Words left off are 0; the steps of a place and the types given for an order are the numbers after the first
+abbrev pub list_of : Arguments → List ℕ
+list_of (read ns) = ns
+list_of (wrong r) = []
+
+-- ---- the line. Words left off are 0; the steps of a place and the types given for an order are the numbers after the first
 abbrev pub line_by : Command → List ℕ → Line
 line_by command.Capabilities ns = Capabilities (get_or ns 0 0)
 line_by command.Rule ns = Rule (get_or ns 0 0)
@@ -169,6 +173,15 @@ abbrev pub line_of : List (List ℕ) → Result (Option Line) Reason
 line_of [] = Ok None
 line_of (w ∷ ws) = line_after (command_of w) ws
 
+-- the numbers of a line that is read
+abbrev pub numbers_after : Option Command → List (List ℕ) → List ℕ
+numbers_after None ws = []
+numbers_after (Some c) ws = list_of (arguments_of c ws)
+
+abbrev pub numbers_read : List (List ℕ) → List ℕ
+numbers_read [] = []
+numbers_read (w ∷ ws) = numbers_after (command_of w) ws
+
 -- ---- a line of bytes: a byte that no line may hold, or what its words say
 abbrev pub line_unless : Option Stray → List (List ℕ) → Result (Option Line) Reason
 line_unless None ws = line_of ws
@@ -176,3 +189,14 @@ line_unless (Some s) ws = Err (reason_of_stray s)
 
 abbrev pub line_in : List ℕ → Result (Option Line) Reason
 line_in s = line_unless (stray_in s) (words (text_of s))
+
+abbrev pub numbers_unless : Option Stray → List (List ℕ) → List ℕ
+numbers_unless None ws = numbers_read ws
+numbers_unless (Some s) ws = []
+
+abbrev pub line_numbers : List ℕ → List ℕ
+line_numbers s = numbers_unless (stray_in s) (words (text_of s))
+
+-- the words begin with the numbers
+abbrev pub Holds : List ℕ → List ℕ → Type 0
+Holds xs ns = take (length ns) xs ≡ ns

@@ -1,6 +1,6 @@
 -- What the code's lines say, in the words of the definitions.
 -- Assumes nothing.
-use Rattle.std.specs.Prelude.{List, ℕ, get_or, Option, Result}
+use Rattle.std.specs.Prelude.{List, ℕ, get_or, take, Option, Some, None, Result, Ok, Err}
 use Rattle.std.specs.Option.{option_map}
 use Rattle.std.specs.Result.{result_map_both}
 use Rattle.ir_member_words.specs.declared.Member.{Member}
@@ -13,6 +13,7 @@ use Rattle.program_lines.specs.declared.Query.{Query}
 use Rattle.program_lines.specs.declared.Query.TheVariants as query
 use Rattle.program_lines.specs.declared.Line.{Line}
 use Rattle.program_lines.specs.declared.Line.TheVariants as line
+use Rattle.program_lines.specs.declared.Read.{Read}
 use Rattle.program_lines.specs.Line as told
 
 -- records whose words are the numbers; words left off are 0
@@ -50,8 +51,25 @@ said (line.Step s) = step_said s
 said (line.Query q) = query_said q
 said (line.Order span given) = told.Order span given.now
 
-abbrev pub said_of : Result Line Reason → Result told.Line Reason
-said_of r = result_map_both said (λ e. e) r
-
 abbrev pub said_in : Result (Option Line) Reason → Result (Option told.Line) Reason
 said_in r = result_map_both (option_map said) (λ e. e) r
+
+-- what was read says the line of its command and of the words that hold its numbers, the first of those that were lent
+abbrev pub read_said : Read → List ℕ → told.Line
+read_said r xs = told.line_by r.command (take r.count xs)
+
+abbrev pub read_said_of : Result Read Reason → List ℕ → Result told.Line Reason
+read_said_of r xs = result_map_both (λ d. read_said d xs) (λ e. e) r
+
+abbrev pub read_said_in : Result (Option Read) Reason → List ℕ → Result (Option told.Line) Reason
+read_said_in r xs = result_map_both (option_map (λ d. read_said d xs)) (λ e. e) r
+
+-- how many numbers were read; none of a line that asks for nothing or cannot be read
+abbrev pub count_of : Result Read Reason → ℕ
+count_of (Ok r) = r.count
+count_of (Err e) = 0
+
+abbrev pub count_in : Result (Option Read) Reason → ℕ
+count_in (Ok (Some r)) = r.count
+count_in (Ok None) = 0
+count_in (Err e) = 0

@@ -6,8 +6,8 @@
 ghost use Rattle.std.specs.Prelude.{◌≡◌, ◌≤◌, length};
 ghost use Rattle.program_words.specs.Words.{text_of, words};
 ghost use Rattle.program_lines.specs.Line.{last_command_of, answer_command_of, later_command_of, command_of, least_of, most_of};
-ghost use Rattle.program_lines.specs.Line.{arguments_of, line_by, line_with, line_of, line_in};
-ghost use Rattle.program_lines.specs.Said.{member_in, said, said_of, said_in};
+ghost use Rattle.program_lines.specs.Line.{arguments_of, list_of, Holds, line_by, line_with, line_of, numbers_read, line_in, line_numbers};
+ghost use Rattle.program_lines.specs.Said.{member_in, said, said_in, read_said, read_said_of, read_said_in, count_of, count_in};
 
 use ir_member_words::Member;
 use ir_records::Words;
@@ -55,6 +55,13 @@ pub enum Line<'a> {
     Query(Query<'a>),
     /// It asks for an answer, and what is found becomes a struct of the arena.
     Order { span: u32, given: &'a [u32] },
+}
+
+/// What was read of a line: its command, and how many numbers after it the lent words begin with.
+#[derive(Clone, Copy, Debug, PartialEq, Eq)]
+pub struct Read {
+    pub command: Command,
+    pub count: usize,
 }
 
 /// The command that a word is, by its bytes.
@@ -147,10 +154,9 @@ fn member_in(numbers: &[u32]) -> Member
     }
 }
 
-// A command with the numbers after it, of which there are as many as it takes.
+// A command with the numbers after it; words left off are 0.
 // Kept: each command has numbers of its own, so a match says which ones; a conversion for each command would be a function of one line.
 fn line_by<'a>(command: Command, numbers: &'a [u32]) -> Line<'a>
-    requires { least_of command ≤ length numbers.now }
     ensures { said result ≡ line_by command numbers.now }
 {
     let a = ir_records::word_at(numbers, 0);
@@ -191,23 +197,36 @@ fn line_by<'a>(command: Command, numbers: &'a [u32]) -> Line<'a>
     }
 }
 
-// A command, with the numbers of the text after it.
-fn read_command<'a>(s: &[u8], command: Command, numbers: &'a mut [u32]) -> Result<Line<'a>, Reason>
-    requires { 1025 ≤ length numbers.old }
-    ensures { said_of result ≡ line_with command (arguments_of command (words s.now)) }
-{
-    let usage = usage_of(command);
-    let given = program_arguments::read_numbers(s, command, &mut numbers[..usage.most])?;
-    if given.len() < usage.least {
-        return Err(Reason::Usage(command));
+impl Read {
+    /// The line, by the words that were lent to `read_line`. The steps of a place and the types given for an order are a part of them.
+    pub fn line<'a>(self, numbers: &'a [u32]) -> Line<'a>
+        ensures { said result ≡ read_said self numbers.now }
+    {
+        line_by(self.command, numbers.get(..self.count).unwrap_or(numbers))
     }
-    Ok(line_by(command, given))
 }
 
-// What the words of a line say; none where there is no word.
-fn read_words<'a>(line: &[u8], numbers: &'a mut [u32]) -> Result<Option<Line<'a>>, Reason>
+// Reads a command's numbers, which stand in the text after it.
+fn read_command(s: &[u8], command: Command, numbers: &mut [u32]) -> Result<Read, Reason>
     requires { 1025 ≤ length numbers.old }
-    ensures { said_in result ≡ line_of (words (text_of line.now)) }
+    ensures value { read_said_of result numbers.new ≡ line_with command (arguments_of command (words s.now)) }
+    ensures count { count_of result ≡ length (list_of (arguments_of command (words s.now))) }
+    ensures holds { Holds numbers.new (list_of (arguments_of command (words s.now))) }
+{
+    let usage = usage_of(command);
+    let count = program_arguments::fill_numbers(s, command, &mut numbers[..usage.most])?;
+    if count < usage.least {
+        return Err(Reason::Usage(command));
+    }
+    Ok(Read { command, count })
+}
+
+// Reads the words of a line; none where there is no word.
+fn read_words(line: &[u8], numbers: &mut [u32]) -> Result<Option<Read>, Reason>
+    requires { 1025 ≤ length numbers.old }
+    ensures value { read_said_in result numbers.new ≡ line_of (words (text_of line.now)) }
+    ensures count { count_in result ≡ length (numbers_read (words (text_of line.now))) }
+    ensures holds { Holds numbers.new (numbers_read (words (text_of line.now))) }
 {
     let s = program_words::text_of(line);
     let Some(word) = program_words::next_word(s, 0) else {
@@ -218,13 +237,26 @@ fn read_words<'a>(line: &[u8], numbers: &'a mut [u32]) -> Result<Option<Line<'a>
     Ok(Some(read))
 }
 
-/// What a line says; none where it asks for nothing. The steps of a place and the types given for an order are a part of the lent words.
-pub fn read_line<'a>(line: &[u8], numbers: &'a mut [u32]) -> Result<Option<Line<'a>>, Reason>
+/// Reads a line; none where it asks for nothing. The lent words then begin with its numbers.
+pub fn read_line(line: &[u8], numbers: &mut [u32]) -> Result<Option<Read>, Reason>
     requires { 1025 ≤ length numbers.old }
-    ensures { said_in result ≡ line_in line.now }
+    ensures value { read_said_in result numbers.new ≡ line_in line.now }
+    ensures count { count_in result ≡ length (line_numbers line.now) }
+    ensures holds { Holds numbers.new (line_numbers line.now) }
 {
     if let Some(stray) = program_words::stray_in(line) {
         return Err(Reason::from(stray));
     }
     read_words(line, numbers)
+}
+
+/// What a line says; none where it asks for nothing. The steps of a place and the types given for an order are a part of the lent words.
+pub fn said_line<'a>(line: &[u8], numbers: &'a mut [u32]) -> Result<Option<Line<'a>>, Reason>
+    requires { 1025 ≤ length numbers.old }
+    ensures { said_in result ≡ line_in line.now }
+{
+    let Some(read) = read_line(line, numbers)? else {
+        return Ok(None);
+    };
+    Ok(Some(read.line(numbers)))
 }

@@ -7,7 +7,7 @@ ghost use Rattle.sheet_types.specs.Types.{inner_step as columns_of};
 ghost use Rattle.sheet_bytes.specs.Holder.{holds, holder_of};
 ghost use Rattle.sheet_bytes.specs.Leaf.{in_members, element_step, in_columns, step_of, in_leaf, StepIs};
 
-use ir_records::{Leaf, TypeInner};
+use ir_records::Kind;
 use sheet_names::Type;
 use std::ops::ControlFlow;
 
@@ -18,14 +18,21 @@ struct Byte<'a> {
     at: u64,
 }
 
-// Whether member j of a struct holds a byte of it.
-fn holds(t: Type, j: u32, byte: u64) -> bool
-    ensures { result ≡ holds (struct_members t.entry.sheet.types.now t.entry.sheet.members.now t.entry.i) t.entry.sheet.rows.now j byte }
+// Whether member j of a struct with these member rows holds a byte of it.
+fn holds(part: &[u32], rows: &[u32], j: u32, byte: u64) -> bool
+    ensures { result ≡ holds part.now rows.now j byte }
 {
-    let member = t.member(j);
-    let offset = u64::from(member.offset);
-    let size = u64::from(member.own_type().size());
+    let offset = u64::from(ir_records::member_offset(part, j));
+    let ty = ir_records::member_type(part, j);
+    let size = u64::from(ir_rows::row_word(rows, ty, ir_rows::SIZE as u32));
     (offset..offset + size).contains(&byte)
+}
+
+// The first of so many members that holds a byte. The member rows are lent to it: a search asks for them once, and not for each member that it tries.
+fn holder_in(part: &[u32], rows: &[u32], count: u32, byte: u64) -> Option<u32>
+    ensures { result ≡ holder_of part.now rows.now count byte }
+{
+    (0..count).find(|j| holds(part, rows, *j, byte))
 }
 
 /// The member of a struct that holds a byte, where one does.
@@ -33,7 +40,8 @@ pub fn holder(t: Type, byte: u64) -> Option<u32>
     ensures { result ≡ holder_of (struct_members t.entry.sheet.types.now t.entry.sheet.members.now t.entry.i) t.entry.sheet.rows.now
         (type_word t.entry.sheet.types.now t.entry.i 2) byte }
 {
-    (0..t.count()).find(|j| holds(t, *j, byte))
+    let part = ir_records::struct_members(t.sheet.types, t.sheet.members, t.i);
+    holder_in(part, t.sheet.rows, t.count(), byte)
 }
 
 impl<'a> Byte<'a> {
@@ -41,12 +49,14 @@ impl<'a> Byte<'a> {
     fn in_struct(self) -> ControlFlow<bool, Byte<'a>>
         ensures { StepIs self.entry.of.sheet (in_members self.entry.of.sheet self.entry.of.i self.entry.at) result }
     {
-        match holder(self.of, self.at) {
+        let sheet = self.of.sheet;
+        let part = ir_records::struct_members(sheet.types, sheet.members, self.of.i);
+        match holder_in(part, sheet.rows, self.of.count(), self.at) {
             Some(j) => {
-                let member = self.of.member(j);
+                let offset = u64::from(ir_records::member_offset(part, j));
                 ControlFlow::Continue(Byte {
-                    of: member.own_type(),
-                    at: sheet_output::gap(u64::from(member.offset), self.at),
+                    of: self.of.other(ir_records::member_type(part, j)),
+                    at: sheet_output::gap(offset, self.at),
                 })
             }
             None => ControlFlow::Break(false),
@@ -77,18 +87,20 @@ impl<'a> Byte<'a> {
     }
 
     // One step towards the byte: to a part of the type, or at the end of the way whether a leaf holds it.
+    // It asks for the kind and then for the words that it needs: a picture takes many steps, and the whole record would be read at each.
     fn step(self) -> ControlFlow<bool, Byte<'a>>
         ensures { StepIs self.entry.of.sheet (step_of self.entry.of.sheet self.entry.of.i self.entry.at) result }
     {
-        match self.of.inner() {
-            TypeInner::Plain(Leaf::Matrix(_, rows, _, width)) => {
-                ControlFlow::Break(self.is_in_column(rows, width))
-            }
-            TypeInner::Array { base, stride, .. } => self.in_array(base, stride),
-            TypeInner::RuntimeArray { base, stride } => self.in_array(base, stride),
-            TypeInner::Struct { .. } => self.in_struct(),
-            _ => ControlFlow::Break(self.at < u64::from(self.of.size())),
+        if self.of.is_struct() {
+            return self.in_struct();
         }
+        if self.of.is_array() {
+            return self.in_array(self.of.word(1), self.of.stride());
+        }
+        if ir_records::is_of_kind(self.of.sheet.types, self.of.i, Kind::Matrix) {
+            return ControlFlow::Break(self.is_in_column(self.of.word(2), self.of.word(4)));
+        }
+        ControlFlow::Break(self.at < u64::from(self.of.size()))
     }
 }
 

@@ -24,10 +24,11 @@ use Rattle.std.proofs.lemmas.List.{take-append-le, append_cancel_right}
 use Rattle.std.specs.Char.{is_ascii_digit}
 use Rattle.std.specs.Str.{bytes_eq}
 use Rattle.ir_records.specs.Result.{pick}
+use Rattle.program_output.specs.Bytes.{decimal}
 use Rattle.sheet_names.specs.Names.{NameIs}
 use Rattle.sheet_output.specs.Written.{lent}
 use Rattle.sheet_identifiers.specs.Identifiers.{is_letter, is_letter_or_digit, is_identifier, is_numbered, is_underscore, stem}
-use Rattle.sheet_identifiers.specs.Identifiers.{is_made, is_kept, is_taken, StaysApart}
+use Rattle.sheet_identifiers.specs.Identifiers.{is_made, is_kept, is_taken, StaysApart, has_identifier, identifier_text, name_text}
 
 -- ---- identifiers
 pub identifier_first : {P : Bor ℕ → Type 0} (name : List ℕ) (first : Option (Bor ℕ)) (letter all : Bool)
@@ -160,3 +161,20 @@ stays_apart name other e = apart_at other name (is_taken other) (is_taken name) 
 pub lent_name : (name : Option (List ℕ)) (answer : Option (Bor (List ℕ))) → NameIs name answer → lent answer ≡ name
 lent_name name None e = sym e
 lent_name name (Some x) e = sym e
+
+-- whether there is an identifier is asked of the name itself
+pub identifier_had : {P : Bor (List ℕ) → Type 0} (name : Option (Bor (List ℕ))) (has : Bool) → MatchOption name (has ≡ false) P
+    → ((x : Bor (List ℕ)) → P x → has ≡ is_identifier (x.now)) → has ≡ has_identifier (lent name)
+identifier_had None has m p = m
+identifier_had (Some x) has m p = p x m
+
+both_counts : (identifier earlier : Bool) → identifier && not (identifier && earlier) ≡ identifier && not earlier
+both_counts true earlier = refl
+both_counts false earlier = refl
+
+-- what stands before a name counts for an identifier alone
+pub earlier_counts : (name : Option (List ℕ)) (earlier : Bool) (otherwise : List ℕ) (n : ℕ)
+    → name_text name (has_identifier name && earlier) otherwise n ≡ name_text name earlier otherwise n
+earlier_counts None earlier otherwise n = refl
+earlier_counts (Some name) earlier otherwise n =
+    ap (λ (told : Bool). pick told (identifier_text name) (otherwise ++ decimal n)) (both_counts (is_identifier name) earlier)

@@ -27,6 +27,11 @@ abbrev pub is_identifier : (name : List ℕ) → Bool
 is_identifier [] = false
 is_identifier (first ∷ name) = is_letter first && list_all is_letter_or_digit (first ∷ name)
 
+-- whether there is a name, and it is an identifier
+abbrev pub has_identifier : (name : Option (List ℕ)) → Bool
+has_identifier None = false
+has_identifier (Some name) = is_identifier name
+
 -- a name without the underscores at its end
 abbrev pub stem : (name : List ℕ) → List ℕ
 stem name = take (length name - suffix_len is_underscore name) name

@@ -7,7 +7,7 @@ ghost use Rattle.std.specs.List.{list_all};
 ghost use Rattle.sheet_names.specs.Names.{type_name, member_name};
 ghost use Rattle.sheet_output.specs.Written.{Writes, lent};
 ghost use Rattle.sheet_identifiers.specs.Identifiers.{is_letter, is_letter_or_digit, is_identifier, stem, is_listed, is_kept, is_numbered, is_made, is_same};
-ghost use Rattle.sheet_identifiers.specs.Identifiers.{identifier_text, StaysApart, name_text, type_text, member_text, TypeStandsAlone, MemberStandsAlone};
+ghost use Rattle.sheet_identifiers.specs.Identifiers.{has_identifier, identifier_text, StaysApart, name_text, type_text, member_text, TypeStandsAlone, MemberStandsAlone};
 
 use sheet_names::{Member, Type};
 use sheet_output::Writer;
@@ -106,6 +106,13 @@ fn put_name<W: Write>(
     }
 }
 
+// Whether there is a name, and it is an identifier. What has none goes by its number, whatever stands before it: no other name is compared with it.
+fn has_identifier(name: Option<&[u8]>) -> bool
+    ensures { result ≡ has_identifier (lent name.entry) }
+{
+    name.is_some_and(|name| is_identifier(name))
+}
+
 fn is_type_named(t: Type, name: Option<&[u8]>) -> bool
     ensures { result ≡ is_same (type_name t.entry.sheet.text.now t.entry.sheet.names.now t.entry.i) (lent name.entry) }
 {
@@ -125,7 +132,7 @@ pub fn put_type<W: Write>(out: &mut Writer<W>, t: Type)
     ensures alone { TypeStandsAlone t.entry.sheet t.entry.i }
 {
     let name = t.name();
-    let earlier = (0..t.i).any(|k| is_type_named(t.other(k), name));
+    let earlier = has_identifier(name) && (0..t.i).any(|k| is_type_named(t.other(k), name));
     put_name(out, name, earlier, b"type_", t.i);
 }
 
@@ -135,6 +142,7 @@ pub fn put_member<W: Write>(out: &mut Writer<W>, member: Member)
     ensures alone { MemberStandsAlone member.entry.of.sheet member.entry.of.i member.entry.j }
 {
     let name = member.name();
-    let earlier = (0..member.j).any(|k| is_member_named(member.of, k, name));
+    let earlier = has_identifier(name)
+        && (0..member.j).any(|k| is_member_named(member.of, k, name));
     put_name(out, name, earlier, b"member_", member.j);
 }

@@ -8,6 +8,7 @@ use Rattle.program_output.specs.Bytes.{Adds}
 use Rattle.program_output.proofs.SendsLaws.{sends_none, sends_both, sends_adds}
 use Rattle.sheet_output.specs.declared.Writer.{Writer}
 use Rattle.sheet_output.specs.declared.Markup.{Markup}
+use Rattle.sheet_output.specs.declared.Markup.TheVariants as markup
 use Rattle.sheet_output.specs.Written.{Writes, mark_bytes, name_bytes}
 
 module _ {W : Type 0} (k : W → Option (List ℕ)) where
@@ -46,3 +47,9 @@ pub name_more : (m : Markup) (name : List ℕ) (b : ℕ) → name_bytes m (name 
 unfolding name_bytes
 name_more m [] b = append-nil (mark_bytes m b)
 name_more m (x ∷ name) b = ap (λ (l : List ℕ). mark_bytes m x ++ l) (name_more m name b) ∙ sym (append_assoc (mark_bytes m x) (name_bytes m name) (mark_bytes m b))
+
+-- marks that are written as they are leave a name as it is
+pub plain_name : (name : List ℕ) → name_bytes markup.Plain name ≡ name
+unfolding name_bytes
+plain_name [] = refl
+plain_name (b ∷ name) = ap (λ (l : List ℕ). b ∷ l) (plain_name name)

@@ -159,10 +159,13 @@ impl<'a, W: Write> Writer<'a, W> {
         }
     }
 
-    /// A name, byte by byte as a page has it.
+    /// A name, byte by byte as a page has it; it is one text where marks are written as they are.
     pub fn put_name(&mut self, name: &[u8])
         ensures { Writes W.contents self.old (name_bytes self.old.markup name.now) self.new }
     {
+        if self.markup == Markup::Plain {
+            return self.put_text(name);
+        }
         for b in name {
             self.put_mark(*b);
         }

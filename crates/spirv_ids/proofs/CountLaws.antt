@@ -14,6 +14,27 @@ use Rattle.spirv_ids.specs.Ids.{gives, giver, giver_found, type_number}
 use Rattle.spirv_ids.specs.Places.{Stands, GivesFrom}
 use Rattle.spirv_ids.proofs.PlaceLaws.{giver_from, giver_missing, giver_here, number_next, number_upto, stands_next}
 
+module _ (ws : List ℕ) (at : ℕ) where
+  -- the first of those that are left
+  pub record First (p q : ℕ) (ps : List ℕ) : Type 0 where
+    pub below : p < at
+    pub some : 0 < word_count ws p
+    pub is : q ≡ p
+    pub others : ps ≡ between ws (p + word_count ws p) at
+
+  nothing : (q : ℕ) (ps : List ℕ) → q ∷ ps ≡ [] → ⊥
+  nothing q ps e = let z : ◌≡◌ {A = ℕ} 0 1 = cc in omega (arith, z)
+
+  pub first_of : (p q : ℕ) (ps : List ℕ) → q ∷ ps ≡ between ws p at → First p q ps
+  first_of p q ps e = by (dec_le at p) (dec_le (word_count ws p) 0)
+    where
+      by : Dec (at ≤ p) → Dec (word_count ws p ≤ 0) → First p q ps
+      by (yes h) k = absurd (nothing q ps (e ∙ between_end ws at p h))
+      by (no h) (yes k) = absurd (nothing q ps (e ∙ between_stuck ws at p (omega (arith, k))))
+      by (no h) (no k) =
+          let f = e ∙ between_next ws at p (omega (arith, h)) (omega (arith, k)) in
+          record { below = omega (arith, h); some = omega (arith, k); is = cc; others = cc }
+
 module _ (ws : List ℕ) (at id : ℕ) where
   -- the instructions that are left before `at`; n types are read before them
   pub record Counting (n : ℕ) (left : List ℕ) : Type 0 where
@@ -30,29 +51,9 @@ module _ (ws : List ℕ) (at id : ℕ) where
   unfolding first
   counting_ends n c = giver_missing ws at id (sym c.search)
 
-  -- the first of those that are left
-  record First (p q : ℕ) (ps : List ℕ) : Type 0 where
-    below : p < at
-    some : 0 < word_count ws p
-    is : q ≡ p
-    others : ps ≡ between ws (p + word_count ws p) at
-
-  nothing : (q : ℕ) (ps : List ℕ) → q ∷ ps ≡ [] → ⊥
-  nothing q ps e = let z : ◌≡◌ {A = ℕ} 0 1 = cc in omega (arith, z)
-
-  first_of : (p q : ℕ) (ps : List ℕ) → q ∷ ps ≡ between ws p at → First p q ps
-  first_of p q ps e = by (dec_le at p) (dec_le (word_count ws p) 0)
-    where
-      by : Dec (at ≤ p) → Dec (word_count ws p ≤ 0) → First p q ps
-      by (yes h) k = absurd (nothing q ps (e ∙ between_end ws at p h))
-      by (no h) (yes k) = absurd (nothing q ps (e ∙ between_stuck ws at p (omega (arith, k))))
-      by (no h) (no k) =
-          let f = e ∙ between_next ws at p (omega (arith, h)) (omega (arith, k)) in
-          record { below = omega (arith, h); some = omega (arith, k); is = cc; others = cc }
-
   module _ (n p : ℕ) (ps : List ℕ) (c : Counting n (p ∷ ps)) where
-    abbrev f : First c.next p ps
-    f = first_of c.next p ps c.rest
+    abbrev f : First ws at c.next p ps
+    f = first_of ws at c.next p ps c.rest
 
     pub counting_few : n + pick (is_read (opcode ws p)) 1 0 ≤ type_number ws at
     counting_few = rw (f.is, c.counted) (number_upto ws c.next c.stands at f.below f.some)

@@ -1,2 +1,3 @@
 pub mod PlaceLaws
 pub mod CountLaws
+pub mod FirstLaws

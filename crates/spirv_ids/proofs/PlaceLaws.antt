@@ -120,30 +120,6 @@ pub gives_first : (ws : List ℕ) → GivesFrom ws header_words
 unfolding type_number starts count
 gives_first ws = record { stands = stands_first ws; search = λ test quiet end. refl; none = refl }
 
--- the first instruction that may give an id, or the first of all
-pub gives_found : (ws : List ℕ) (end l p q : ℕ) → end ≤ p + l → GivesFrom ws p → Some q ≡ find (λ k. may_give (opcode ws k)) (starts ws l p end) → GivesFrom ws q
-unfolding starts find
-gives_found ws end zero p q f g e = absurd (none-some q (sym e))
-gives_found ws end (suc l) p q f g e =
-    by (ltb p end && ltb 0 (word_count ws p)) refl (λ w h. gives_found ws end l (p + word_count ws p) q (omega (arith, f, w)) h)
-  where
-    by : (b : Bool) → (ltb p end && ltb 0 (word_count ws p)) ≡ b
-        → (0 < word_count ws p → GivesFrom ws (p + word_count ws p)
-        → Some q ≡ find (λ k. may_give (opcode ws k)) (starts ws l (p + word_count ws p) end) → GivesFrom ws q)
-        → GivesFrom ws q
-    by false k rest = absurd (none-some q (sym (rw k at e)))
-    by true k rest =
-        let w = ltb-true 0 (word_count ws p) (and_parts (ltb p end) _ k).1 in
-        hit w (may_give (opcode ws p)) refl
-      where
-        hit : 0 < word_count ws p → (t : Bool) → may_give (opcode ws p) ≡ t → GivesFrom ws q
-        hit w true t = subst (GivesFrom ws) (sym (same_Some q p (rw (k, t) at e))) g
-        hit w false t = rest w (gives_next ws p g t w) (rw (k, t) at e)
-
-pub gives_or_first : (ws : List ℕ) (end : ℕ) (r : Option ℕ) → r ≡ find (λ k. may_give (opcode ws k)) (before ws end) → GivesFrom ws (unwrap_or r header_words)
-gives_or_first ws end None e = gives_first ws
-gives_or_first ws end (Some q) e = gives_found ws end (end - header_words) header_words q (omega arith) (gives_first ws) e
-
 pub giver_below : (ws : List ℕ) (at id : ℕ) → 0 < giver ws at id → giver ws at id < at
 unfolding giver
 giver_below ws at id h = (found_below ws at (gives ws id) (at - header_words) header_words h).0

@@ -5,7 +5,7 @@ ghost use Rattle.std.specs.Prelude.{◌≡◌, Some, ◌≤◌, ◌<◌, eqb};
 ghost use Rattle.ir_records.specs.Fields.{most_types};
 ghost use Rattle.spirv_words.specs.Module.{is_type, is_read, word, found};
 ghost use Rattle.spirv_ids.specs.Ids.{integer_before, integer_found, is_constant, gives, giver, giver_found, type_number, sort_at, sort};
-ghost use Rattle.spirv_ids.specs.Places.{may_give, GivesFrom, GivesFrom-prop};
+ghost use Rattle.spirv_ids.specs.Places.{may_give, first_giver, GivesFrom, GivesFrom-prop};
 ghost use Rattle.spirv_ids.specs.Sorts.{sort_said};
 
 use spirv_words::Instructions;
@@ -63,20 +63,28 @@ fn may_give(op: u32) -> bool
     is_type(op) | (op == spirv_words::CONSTANT)
 }
 
-// The first instruction that may give an id; where there is none, the first one of all.
+// The first instruction that may give an id, or where none follows.
 pub fn first_giver(words: &[u32]) -> usize
-    ensures { GivesFrom words.now result }
+    ensures { GivesFrom words.now result × (result ≡ first_giver words.now) }
 {
-    let begin = spirv_words::HEADER_WORDS;
-    spirv_words::first_between(words, begin, words.len(), |p| {
-        may_give(spirv_words::opcode_of(words, p))
-    })
-    .unwrap_or(begin)
+    let mut next = spirv_words::HEADER_WORDS;
+    let instructions = Instructions {
+        words,
+        at: next,
+        end: words.len(),
+    };
+    for p in instructions {
+        if may_give(spirv_words::opcode_of(words, p)) {
+            return p;
+        }
+        next = p + spirv_words::word_count(words, p);
+    }
+    next
 }
 
 impl<'a> Module<'a> {
     pub fn new(words: &'a [u32]) -> Self
-        ensures { result.words ≡ words.entry }
+        ensures { (result.words ≡ words.entry) × (result.from ≡ first_giver words.now) }
     {
         Module {
             words,

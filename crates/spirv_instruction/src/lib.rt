@@ -11,9 +11,17 @@ ghost use Rattle.spirv_instruction.specs.Instruction.{least_type, least_constant
 ghost use Rattle.spirv_instruction.specs.Instruction.{words_ok, row_count, type_read, new_id, instruction, other_read};
 ghost use Rattle.spirv_instruction.specs.Serving.{judged_result, type_result, id_result, TypeTold, Told};
 
-use ir_records::{Fault, Records};
+use ir_records::Fault;
 use spirv_ids::Place;
 use spirv_types::{Known, Typed};
+
+/// How many types and members there is room for.
+// Kept: numbers as wide as a caller's lengths, and no `Records`, whose numbers are those of an arena.
+#[derive(Clone, Copy, Debug, PartialEq, Eq)]
+pub struct Space {
+    pub types: usize,
+    pub members: usize,
+}
 
 // The type that an instruction makes, and how many member rows it has.
 #[derive(Clone, Copy, Debug, PartialEq, Eq)]
@@ -122,9 +130,9 @@ fn row_count(place: Place) -> u32
     0
 }
 
-// A type that is read: 29, 30, then number 1. `space`: how many types and members there is room for.
+// A type that is read: 29, 30, then number 1.
 #[tactic(auto, unfolding(crate::specs::Instruction::type_read))]
-fn type_read(known: Known, space: Records) -> Result<Made, Fault>
+fn type_read(known: Known, space: Space) -> Result<Made, Fault>
     ensures { ((ms : List ℕ) → member_count ms ≡ known.entry.rows
         → type_result known.entry.place.input.words.now known.entry.place.at
         (record { types = known.entry.tables.types.now; members = ms; alignments = known.entry.tables.alignments.now }) result ≡
@@ -137,7 +145,7 @@ fn type_read(known: Known, space: Records) -> Result<Made, Fault>
     let rows = row_count(known.place);
     let last = (known.rows as usize) + (rows as usize);
     let count = ir_records::type_count(known.tables.types);
-    if (count < space.types as usize) & (last <= space.members as usize) {
+    if (count < space.types) & (last <= space.members) {
         return Ok(Made { typed, rows });
     }
     Err(Fault::TableLength)
@@ -172,7 +180,7 @@ fn other_read(place: Place, op: u32) -> Result<(), Fault>
 
 // One instruction, and the type that it makes, if any: 28, 29, 30, then 1.
 #[tactic(auto, unfolding(crate::specs::Instruction::instruction, crate::specs::Instruction::words_ok))]
-pub fn judge(known: Known, space: Records) -> Result<Option<Made>, Fault>
+pub fn judge(known: Known, space: Space) -> Result<Option<Made>, Fault>
     ensures { ((ms : List ℕ) → member_count ms ≡ known.entry.rows
         → judged_result known.entry.place.input.words.now known.entry.place.at
         (record { types = known.entry.tables.types.now; members = ms; alignments = known.entry.tables.alignments.now }) result ≡

@@ -1,15 +1,16 @@
 // The members of a struct, from the words of a SPIR-V module: what each is, where it stands, and how far the last one reaches.
 #![tactic(auto)]
 
-ghost use Rattle.std.specs.Prelude.{◌≡◌, suc, ◌*◌, ◌≤◌};
+ghost use Rattle.std.specs.Prelude.{◌≡◌, suc, ◌*◌, ◌≤◌, get_or};
 ghost use Rattle.ir_records.specs.Result.{ok};
 ghost use Rattle.ir_records.specs.Record.{type_inner};
 ghost use Rattle.ir_records.specs.Serving.{InnerBounds};
 ghost use Rattle.proc_type_methods.specs.TypeMethods.{try_size, size_of};
 ghost use Rattle.spirv_words.specs.Module.{found};
 ghost use Rattle.spirv_ids.specs.Sorts.{sort_said};
-ghost use Rattle.spirv_members.specs.Members.{member_count_at, offset_at, column_step_in, stored_otherwise, size_in};
-ghost use Rattle.spirv_members.specs.Serving.{faulted, type_in, type_named, offset_found, with_offset, StepIs, member_found, member_made, joined, members_made};
+ghost use Rattle.spirv_members.specs.Members.{number_of, member_count_at, member_number, offset_at, offset_of, column_step_in, stored_otherwise};
+ghost use Rattle.spirv_members.specs.Members.{member_sound, members_sound, size_in, last_end};
+ghost use Rattle.spirv_members.specs.Serving.{faulted, type_in, type_named, offset_found, with_offset, StepIs, member_found, member_made, joined, members_made, largest_alignment};
 ghost use Rattle.spirv_members.specs.Serving.{Bounded, Bounded-prop};
 
 use ir_records::{Fault, Kind, TypeInner};
@@ -204,6 +205,75 @@ fn array_size(count: u32, stride: u32) -> u64
     ensures { (result ≡ count * stride) × (result ≤ 18446744065119617025) }
 {
     (count as u64) * (stride as u64)
+}
+
+// The number of a type that is read; 0 for what is none.
+fn number_in(given: Option<Given>) -> u32
+    ensures { result ≡ number_of (sort_said given) }
+{
+    match given {
+        Some(Given::TypeRead(number)) => number,
+        Some(Given::OtherType) => 0,
+        Some(Given::ConstantAt(_)) | None => 0,
+    }
+}
+
+#[tactic(auto, unfolding(crate::specs::Members::member_number))]
+fn member_number(place: Place, j: u32) -> u32
+    ensures { result ≡ member_number place.entry.input.words.now place.entry.at j }
+{
+    number_in(spirv_ids::named(place, 2 + (j as usize)))
+}
+
+#[tactic(auto, using(crate::proofs::MemberLaws::found_sound))]
+fn is_sound(place: Place, j: u32) -> bool
+    ensures { result ≡ member_sound place.entry.input.words.now place.entry.at j }
+{
+    member_of(place, j).is_some()
+}
+
+/// Whether each of n members has a type that is read and one Offset. Told of a struct that `members_of` refuses with 29 too.
+pub fn members_sound(place: Place, n: u32) -> bool
+    ensures { result ≡ members_sound place.entry.input.words.now place.entry.at n }
+{
+    (0..n).all(|j| is_sound(place, j))
+}
+
+fn member_alignment(place: Place, tables: Tables, j: u32) -> u32
+    ensures { result ≡ get_or tables.entry.alignments.now (member_number place.entry.input.words.now place.entry.at j) 0 }
+{
+    ir_records::word_at(tables.alignments, member_number(place, j) as usize)
+}
+
+/// The largest alignment of n members, of a struct that is refused too.
+pub fn largest_alignment(place: Place, tables: Tables, n: u32) -> u32
+    ensures { result ≡ largest_alignment place.entry.input.words.now tables.entry.alignments.now place.entry.at n }
+{
+    (0..n).fold(
+        1,
+        |largest, j| largest.max(member_alignment(place, tables, j)),
+    )
+}
+
+// Where member j has not one Offset, word 4 of the module, as the definition has it.
+#[tactic(auto, using(crate::proofs::MemberLaws::found_or_zero))]
+fn offset_word(words: &[u32], at: usize, j: u32) -> u32
+    ensures { result ≡ offset_of words.now at j }
+{
+    let place = offset_at(words, at, j).unwrap_or(0);
+    spirv_words::word_of(words, place, 4)
+}
+
+/// The end of the last of n members, 0 for none; of a struct that is refused too.
+#[tactic(auto, unfolding(crate::specs::Members::last_end))]
+pub fn last_end(place: Place, tables: Tables, n: u32) -> u64
+    ensures { result ≡ last_end place.entry.input.words.now tables.entry.types.now place.entry.at n }
+{
+    let Some(last) = n.checked_sub(1) else {
+        return 0;
+    };
+    let offset = offset_word(place.input.words, place.at, last);
+    (offset as u64) + size_in(tables, member_number(place, last))
 }
 
 // What type t of the table measures.

@@ -14,7 +14,7 @@ ghost use Rattle.spirv_read.specs.Serving.{Room, Held, StepIs, FilledTypes, Fill
 
 use ir_records::{Fault, MOST_TYPES, Records};
 use spirv_ids::{Module, Place};
-use spirv_instruction::Made;
+use spirv_instruction::{Made, Space};
 use spirv_members::Tables;
 use spirv_types::Known;
 
@@ -101,7 +101,11 @@ fn step_at(
         tables,
         rows: held.members,
     };
-    match spirv_instruction::judge(known, space)? {
+    let room = Space {
+        types: space.types as usize,
+        members: space.members as usize,
+    };
+    match spirv_instruction::judge(known, room)? {
         None => Ok(held),
         Some(made) => {
             put_all(place, types, members, alignments, held, made);

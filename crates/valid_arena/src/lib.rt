@@ -112,7 +112,7 @@ pub fn check(
     ensures value { outcome_of result ≡ arena_answer capabilities types.now members.now rows.old }
     ensures rows_after { rows.new ≡ arena_words rule capabilities types.now members.now rows.old }
 {
-    ir_records::capabilities_known(capabilities)?;
+    ir_records::capabilities_known(capabilities)?; // Laying out asks for no capability word.
     proc_layouter::layout(types, members, rows)?;
     judge(types, members, capabilities, rule, rows)
 }

@@ -90,6 +90,23 @@ const HANDLE: u32 = ARGUMENT | CREATION_RESOLVED;
 const RAY_QUERY: u32 = DATA | SIZED | CONSTRUCTIBLE | CREATION_RESOLVED;
 
 const BINDING_ARRAY: u32 = SIZED | HOST_SHAREABLE | CREATION_RESOLVED;
+// The starting flags of each kind, by its number: naga's table.
+const STARTING_FLAGS: [u32; 14] = [
+    NUMERIC,
+    NUMERIC,
+    COMPOSITE,
+    COMPOSITE,
+    ATOMIC,
+    REFERENCE,
+    REFERENCE,
+    COMPOSITE,
+    COMPOSITE,
+    HANDLE,
+    HANDLE,
+    HANDLE,
+    RAY_QUERY,
+    BINDING_ARRAY,
+];
 
 // What a type may have that has no size.
 const WITHOUT_SIZE: u32 = DATA | COPY | IO_SHAREABLE | HOST_SHAREABLE | CREATION_RESOLVED;
@@ -154,15 +171,7 @@ pub fn is_sized_data(flags: u32) -> bool
 pub fn starting_flags(kind: Kind) -> u32
     ensures { result ≡ starting_flags (kind_number kind) }
 {
-    match kind {
-        Kind::Scalar | Kind::Vector => NUMERIC,
-        Kind::Matrix | Kind::CooperativeMatrix | Kind::Array | Kind::Struct => COMPOSITE,
-        Kind::Atomic => ATOMIC,
-        Kind::Pointer | Kind::ValuePointer => REFERENCE,
-        Kind::Image | Kind::Sampler | Kind::AccelerationStructure => HANDLE,
-        Kind::RayQuery => RAY_QUERY,
-        Kind::BindingArray => BINDING_ARRAY,
-    }
+    STARTING_FLAGS[kind as usize]
 }
 
 // A bool is not shareable.

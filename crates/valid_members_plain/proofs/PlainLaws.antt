@@ -51,7 +51,7 @@ apart end offset i j (Some before) h l =
     below m n k h = omega arith
 
 -- ---- the verdicts
-record Kept (r : Row) (offset : ℕ) : Type 0 where
+pub record Kept (r : Row) (offset : ℕ) : Type 0 where
   pub uniform_ok : is_ok r.uniform ≡ true
   pub storage_ok : is_ok r.storage ≡ true
   pub immediates : r.immediates ≡ 0
@@ -144,13 +144,13 @@ module _ (this : TypeInner) (r : Row) (i count span j t offset : ℕ) (before : 
   bounds-step a within fits =
       rw (is-data, is-sized, is_resolved, le-leb s.end offset a.clear, le-leb (offset + r.size) most (omega arith), le-leb (offset + r.size) span within, a.within) refl
 
-  uniform_step : (rule : UniformRule) (alignment : ℕ) → Apart s.end offset i j before → Kept r offset
+  pub uniform_step : (rule : UniformRule) (alignment : ℕ) → Apart s.end offset i j before → Kept r offset
       → member_uniform (least_for rule) i j t offset before r (ok_verdict alignment) ≡ ok_verdict (max alignment (alignment_in r.uniform))
   unfolding share_verdict member_verdict unsized_verdict
   uniform_step rule alignment a k = rw (is-sized, is_shareable, a.verdict rule, k.uniform_ok, k.uniform) refl
 
   -- a uniform verdict that has failed stays
-  uniform_stays : (rule : UniformRule) (u : Verdict) → is_ok u ≡ false → Apart s.end offset i j before
+  pub uniform_stays : (rule : UniformRule) (u : Verdict) → is_ok u ≡ false → Apart s.end offset i j before
       → member_uniform (least_for rule) i j t offset before r u ≡ u
   unfolding share_verdict member_verdict unsized_verdict
   uniform_stays rule u failed a = rw (is-sized, is_shareable, a.verdict rule, failed) refl

@@ -13,7 +13,7 @@ pub returns-in_err-at-clause-value : goal.returns-in_err-at-clause-value
 returns-in_err-at-clause-value c =
     let w = c.args.walk in
     let a = w.of in
-    let own = c.struct_members-own.ensures in
+    let own = c.requires in
     let p = rw own at c.member_type-t.ensures in
     let q = ap (λ (x : ℕ). w.offset + x) (rw own at c.member_offset.ensures) in
     let past : most < w.offset + c.member_offset.result = omega (arith, c.in_err-at.ensures) in
@@ -24,7 +24,7 @@ pub returns-then-walk-t-clause-value : goal.returns-then-walk-t-clause-value
 returns-then-walk-t-clause-value c =
     let w = c.args.walk in
     let a = w.of in
-    let own = c.struct_members-own.ensures in
+    let own = c.requires in
     let p = rw own at c.member_type-t.ensures in
     let q = ap (λ (x : ℕ). w.offset + x) (rw own at c.member_offset.ensures) in
     member_late (decoded a.types.now a.members.now) a.ty (struct_members a.types.now a.members.now a.ty) w.offset c.loop-j.j p q c.if-walk-t.true w.count c.loop-j-test.true
@@ -33,7 +33,7 @@ pub returns-in_err-whole-clause-value : goal.returns-in_err-whole-clause-value
 returns-in_err-whole-clause-value c =
     let w = c.args.walk in
     let a = w.of in
-    let own = c.struct_members-own.ensures in
+    let own = c.requires in
     let t = c.member_type-t in
     let ts = a.types.now in
     let q = c.in_ok-at.ensures.1 ∙ ap (λ (x : ℕ). w.offset + x) (rw own at c.member_offset.ensures) in
@@ -49,7 +49,7 @@ pub loop-j-preserved : goal.loop-j-preserved
 loop-j-preserved c =
     let w = c.args.walk in
     let a = w.of in
-    let own = c.struct_members-own.ensures in
+    let own = c.requires in
     let t = c.member_type-t in
     let ts = a.types.now in
     let q = c.in_ok-at.ensures.1 ∙ ap (λ (x : ℕ). w.offset + x) (rw own at c.member_offset.ensures) in

@@ -1,11 +1,11 @@
--- `program_arguments::read_numbers` meets its contract. The invariant: the k numbers that are read and those that are left are all. Assumes nothing.
+-- `program_arguments::fill_numbers` meets its contract. The invariant: the k numbers that are read and those that are left are all. Assumes nothing.
 use mathlib.Core.Path.{◌≡◌}
 use Prim.Native.Nat.{◌+◌, ◌-◌, ◌≤◌}
 use lib.ListN.{length, take}
 use Rattle.program_words.specs.Words.{words}
 use Rattle.program_arguments.specs.Arguments.{numbers_of}
 use Rattle.program_arguments.proofs.ArgumentLaws.{prepend}
-use Rattle.program_arguments.proofs.read_numbers.Given as goal
+use Rattle.program_arguments.proofs.fill_numbers.Given as goal
 
 abbrev pub invariant-loop-k : goal.invariant-loop-k
 invariant-loop-k l = record {

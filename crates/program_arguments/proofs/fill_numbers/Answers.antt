@@ -1,4 +1,4 @@
--- `program_arguments::read_numbers` meets its contract: what is read and what is left are all. Assumes nothing.
+-- `program_arguments::fill_numbers` meets its contract: what is read and what is left are all. Assumes nothing.
 use borrow.Author.Rules.{rules}
 use mathlib.Core.Path.{◌≡◌, sym, ◌∙◌}
 use native.Mathlib.Omega.{arith}
@@ -8,17 +8,17 @@ use lib.Seq.{take_all}
 use Rattle.std.specs.Prelude.{Err}
 use Rattle.program_words.specs.Words.{words}
 use Rattle.program_arguments.proofs.ArgumentLaws.{numbers_more, numbers_wrong, numbers_end, numbers_many, some_word, no_word}
-use Rattle.program_arguments.proofs.read_numbers.Goals as goal
+use Rattle.program_arguments.proofs.fill_numbers.Goals as goal
 
-pub returns-in_default : goal.returns-in_default
-returns-in_default c =
+pub returns-in_default-clause-numbers_after : goal.returns-in_default-clause-numbers_after
+returns-in_default-clause-numbers_after c =
     let a = c.args in
     let l = c.loop-k in
     let none = rw (c.in_ok-number.was, c.in_default.is) at c.next_number.ensures in
     sym (numbers_end a.command (length a.numbers.now) l.k l.numbers (words l.rest.now) none) ∙ l.invariant.same
 
-pub returns-in_err-number : goal.returns-in_err-number
-returns-in_err-number c =
+pub returns-in_err-number-clause-numbers_after : goal.returns-in_err-number-clause-numbers_after
+returns-in_err-number-clause-numbers_after c =
     let a = c.args in
     let l = c.loop-k in
     let r = c.in_err-number.field-0.0 in
@@ -40,17 +40,17 @@ loop-k-preserved c =
       same = rw all (sym (numbers_more a.command (length a.numbers.now) l.k l.numbers (words l.rest.now) (words (drop n.at l.rest.now)) n.value (omega arith) (omega arith) next.1) ∙ l.invariant.same);
     }
 
-pub returns-then-is_some : goal.returns-then-is_some
-returns-then-is_some c =
+pub returns-then-is_some-clause-numbers_after : goal.returns-then-is_some-clause-numbers_after
+returns-then-is_some-clause-numbers_after c =
     let a = c.args in
     let l = c.loop-k in
     let more = some_word l.rest.now c.next_word.result c.next_word.ensures (sym c.is_some.ensures ∙ c.if-is_some.true) in
     sym (numbers_many a.command (length a.numbers.now) l.k l.numbers (words l.rest.now) more.0 more.1 (omega arith) more.2) ∙ l.invariant.same
 
-pub returns : goal.returns
-returns c =
+pub returns-clause-numbers_after : goal.returns-clause-numbers_after
+returns-clause-numbers_after c =
     let a = c.args in
     let l = c.loop-k in
     let none = no_word l.rest.now c.next_word.result c.next_word.ensures (sym c.is_some.ensures ∙ c.if-is_some.false) in
-    let all = take_all l.k l.numbers (omega arith) in
+    let all : l.k ≡ length l.numbers = omega arith in
     rw all at (sym (numbers_end a.command (length a.numbers.now) l.k l.numbers (words l.rest.now) none) ∙ l.invariant.same)
