@@ -159,15 +159,62 @@ impl<'a, W: Write> Writer<'a, W> {
         }
     }
 
-    /// A name, byte by byte as a page has it; it is one text where marks are written as they are.
+    /// A name, byte by byte as a page has it; it is one text where marks are written as they are and it is no longer than the buffer.
     pub fn put_name(&mut self, name: &[u8])
         ensures { Writes W.contents self.old (name_bytes self.old.markup name.now) self.new }
     {
-        if self.markup == Markup::Plain {
+        // Kept: the test of the length: put_text takes no text that is longer than the buffer, and a name may be of any length.
+        let fits = name.len() <= self.out.bytes.len();
+        if (self.markup == Markup::Plain) & fits {
             return self.put_text(name);
         }
         for b in name {
             self.put_mark(*b);
         }
+    }
+}
+
+#[cfg(test)]
+mod tests {
+    use super::*;
+
+    // It takes all bytes, and counts them.
+    #[derive(Drop)]
+    struct Counted {
+        bytes: usize,
+    }
+
+    impl Write for Counted {
+        fn write(&mut self, bytes: &[u8]) -> std::io::Result<usize> {
+            self.bytes = self.bytes.saturating_add(bytes.len());
+            Ok(bytes.len())
+        }
+
+        fn flush(&mut self) -> std::io::Result<()> {
+            Ok(())
+        }
+    }
+
+    // How many bytes of a name of N bytes are written to a sink that takes all, if all that waits could be written.
+    fn written<const N: usize>(markup: Markup) -> Option<usize>
+        requires { N ≤ 1114113 }
+    {
+        let name = [b'a'; N];
+        let mut out = Output::new();
+        let mut to = Counted { bytes: 0 };
+        let mut writer = Writer::new(&mut out, &mut to, markup);
+        writer.put_name(&name);
+        writer.finish().then_some(to.bytes)
+    }
+
+    // No clause can say that a write did not fail, so none says that a name of any length is written.
+    #[test]
+    fn name_longer_than_the_buffer() -> Result<(), Markup> {
+        for markup in [Markup::Plain, Markup::Page] {
+            if written::<1114113>(markup) != Some(1114113) {
+                return Err(markup);
+            }
+        }
+        Ok(())
     }
 }

@@ -24,8 +24,8 @@ loop-b-preserved g c =
     let same = ap (λ (x : Markup). mark_bytes x b) (sym l.invariant.marks) in
     rw (add-one, take-suc name l.b-index 0 (omega arith), name_more m (take l.b-index name) b, same) (writes_both g.W.Write.contents l.invariant c.put_mark.ensures)
 
-pub returns-then-eq : goal.returns-then-eq
-returns-then-eq g c =
+pub returns-then-eq-fits : goal.returns-then-eq-fits
+returns-then-eq-fits g c =
     let name = c.args.name.now in
     let plain : c.args.self.now.markup ≡ markup.Plain = search rules in
     let same = ap (λ (m : Markup). name_bytes m name) plain ∙ plain_name name in
